@@ -1,8 +1,6 @@
 -- The canonical text of a call is a command, which asks just this call; and no other command stands before it.
-use Rattle.camp_talk.proofs.Words.{◌≡◌, ℕ, suc, ◌+◌, ◌≤◌, Bool, true, false, cond, ◌==◌, nat_lt, List, [], ◌∷◌, ◌++◌, length, length-append, map, drop, codes, Ok, refl, sym, ap, subst, ◌∙◌, arith, append_assoc, append-nil, map-append, length-map, ⊎_elim, cases_Bool, flat_map, onto_first, lines-feed, lines-other, Call, lines_of, words_of, begins_with, begins_edit, script_of_lines, IsCommand, IsLeft, TakesAll, as_read, bytes_eq, call_line, lines_in, script_in, taken, wants, asked_by, asked_of, first_of}
+use Rattle.camp_talk.proofs.Words.{◌≡◌, ℕ, ◌+◌, ◌≤◌, Bool, true, false, cond, ◌==◌, List, [], ◌∷◌, ◌++◌, length, length-append, map, drop, codes, Ok, refl, sym, ap, subst, ◌∙◌, arith, append_assoc, append-nil, map-append, length-map, ⊎_elim, cases_Bool, flat_map, onto_first, lines-feed, lines-other, Call, lines_of, words_of, begins_with, begins_edit, script_of_lines, IsCommand, IsLeft, TakesAll, as_read, bytes_eq, call_part, lines_in, script_in, taken, wants, asked_by, asked_of, first_of}
 use Rattle.std.specs.List.{AllByRecursion, join_with_byte}
-use Rattle.std.proofs.lemmas.Bool.{cond-true}
-use Rattle.std.proofs.lemmas.Bool.Decides.{nat_tests}
 use Rattle.std.proofs.lemmas.List.Concat.{flat_map-cons}
 use Rattle.camp_call.specs.declared.calls.Call.TheVariants as call
 use Rattle.camp_prim.specs.declared.primitives.Primitive.{Primitive}
@@ -16,6 +14,7 @@ use Rattle.camp_script.specs.declared.cuts.Wanted.TheVariants as want
 use Rattle.camp_script.proofs.CanonicalLines.{words_of-joined}
 use Rattle.camp_script.proofs.CommandCuts.{first_takes_by_words, nothing_wanted, wanted_words}
 use Rattle.camp_script.proofs.CalledLines.{body_lines, change_lines, ends_called, first_words_of, head_are, lines_behind, lines_called, record_rest, record_words, regrouped_lines, text_reads, words_called}
+use Rattle.camp_talk.proofs.LineReads.{as_read_short}
 use Rattle.camp_talk.specs.Asking.{asked_with}
 use Rattle.camp_talk.specs.Laws.{IsReadWhole}
 use Rattle.camp_talk.specs.declared.questions.Asked.TheVariants as asked
@@ -85,56 +84,24 @@ record_wanted branch name (Hunk edit ∷ []) others h =
 record_wanted branch name (change ∷ next ∷ changes) others h = group_wanted (change ∷ next ∷ changes) others h
 
 behind_wanted : (c : Call) (others : List (List ℕ)) → IsScriptCall c → wanted_lines (wanted_words (first_words_of c)) (lines_behind c ++ others) ≡ lines_behind c
-behind_wanted (call.Branch new from) others h = nothing_wanted others
 behind_wanted (call.Record branch name changes) others h = record_wanted branch name changes others h.3
-behind_wanted (call.Pull from to names) others h = nothing_wanted others
-behind_wanted (call.Obliterate branch names) others h = nothing_wanted others
-behind_wanted (call.Tree branch) others h = nothing_wanted others
-behind_wanted (call.Conflicts branch) others h = nothing_wanted others
-behind_wanted (call.Names branch) others h = nothing_wanted others
+behind_wanted other others h = nothing_wanted others
 
 -- ---- what a call asks, by its words
 
-record_foresees : (branch name : List ℕ) (changes : List Primitive) → begins_with (codes "whatif") (record_words branch name changes) ≡ false
-record_foresees branch name [] = refl
-record_foresees branch name (change ∷ []) = refl
-record_foresees branch name (change ∷ next ∷ changes) = refl
-
 foresees : (c : Call) → begins_with (codes "whatif") (first_words_of c) ≡ false
-foresees (call.Branch new from) = refl
-foresees (call.Record branch name changes) = record_foresees branch name changes
-foresees (call.Pull from to names) = refl
-foresees (call.Obliterate branch names) = refl
-foresees (call.Tree branch) = refl
-foresees (call.Conflicts branch) = refl
-foresees (call.Names branch) = refl
-
-record_asks : (branch name : List ℕ) (changes : List Primitive) (c : Call) → asked_with (record_words branch name changes) (Ok ((c ∷ []) ∷ [])) ≡ Ok (asked.Call c)
-record_asks branch name [] c = refl
-record_asks branch name (change ∷ []) c = refl
-record_asks branch name (change ∷ next ∷ changes) c = refl
+foresees (call.Record branch name (change ∷ [])) = refl
+foresees other = refl
 
 asks : (c : Call) → asked_with (first_words_of c) (Ok ((c ∷ []) ∷ [])) ≡ Ok (asked.Call c)
-asks (call.Branch new from) = refl
-asks (call.Record branch name changes) = record_asks branch name changes (call.Record branch name changes)
-asks (call.Pull from to names) = refl
-asks (call.Obliterate branch names) = refl
-asks (call.Tree branch) = refl
-asks (call.Conflicts branch) = refl
-asks (call.Names branch) = refl
+asks (call.Record branch name (change ∷ [])) = refl
+asks other = refl
 
 -- ---- lines that are read whole
 
-few : (n : ℕ) → suc n ≤ 1_048_576 → nat_lt n 1_048_576 ≡ true
-few n short = grind (arith, nat_tests)
-
-whole_line : (line : List ℕ) → length line ≤ 1_048_576 → as_read line ≡ line
-whole_line [] short = refl
-whole_line (byte ∷ line) short = ap (λ ls. byte ∷ ls) (cond-true (nat_lt (length line) 1_048_576) line _ (few (length line) short))
-
 whole_lines : (lines : List (List ℕ)) → AllByRecursion (λ line. length line ≤ 1_048_576) lines → map as_read lines ≡ lines
 whole_lines [] short = refl
-whole_lines (line ∷ lines) short = λ i. whole_line line short.0 i ∷ whole_lines lines short.1 i
+whole_lines (line ∷ lines) short = λ i. as_read_short line short.0 i ∷ whole_lines lines short.1 i
 
 -- ---- the text of a call is a command
 
@@ -145,7 +112,7 @@ module _ (c : Call) (can : IsScriptCall c) (short : IsReadWhole c) where
   lines_are : lines_in (call_text c) ≡ first ∷ lines_behind c
   lines_are = whole_lines (lines_of (call_text c)) short ∙ lines_called c can
 
-  call_is : call_line first ≡ first
+  call_is : call_part first ≡ first
   call_is =
       ap (λ b. cond b (behind_word first) first) (ap (begins_with (codes "whatif")) (words_called c can) ∙ foresees c)
 

@@ -21,9 +21,7 @@ behind_first number kind line waits = by_tests (number == 1) (may_record kind li
 
 parts : (waits unknown is : Bool) → (waits && (unknown && not is)) ≡ true → (waits ≡ true) × (unknown ≡ true) × (is ≡ false)
 parts true true false e = (refl, refl, refl)
-parts true true true e = absurd (true≢false (sym e))
-parts true false is e = absurd (true≢false (sym e))
-parts false unknown is e = absurd (true≢false (sym e))
+parts waits unknown is e = absurd (true≢false (sym e))
 
 whole : (waits unknown is : Bool) → waits ≡ true → unknown ≡ true → is ≡ false → (waits && (unknown && not is)) ≡ true
 whole true true false a b c = refl

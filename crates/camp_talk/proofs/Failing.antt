@@ -3,7 +3,7 @@ use Rattle.camp_talk.proofs.Words.{◌≡◌, inl, inr, ℕ, true, false, List, 
 use Rattle.std.specs.Prelude.{◌↔◌}
 use Rattle.camp_base.specs.Trees.{Lines}
 use Rattle.camp_call.specs.declared.replies.Refusal.{Refusal}
-use Rattle.camp_call.specs.declared.replies.Refusal.TheVariants.{NoBranch, BranchExists, PatchExists, NoPatch, NothingToDo, TooLarge, DoesNotApply, Depends, Diverged, NoMerge, SameBranch}
+use Rattle.camp_call.specs.declared.replies.Refusal.TheVariants.{NoBranch}
 use Rattle.camp_call.specs.declared.replies.Reply.{Reply}
 use Rattle.camp_call.specs.declared.replies.Reply.TheVariants as reply
 use Rattle.camp_questions.specs.Answers.{AnswerOf}
@@ -25,16 +25,7 @@ Refuses text =
 
 refused_fails : (refusal : Refusal) → tells_failure (reply_text (reply.Refused refusal)) ≡ true
 refused_fails (NoBranch branch) = refl
-refused_fails (BranchExists branch) = refl
-refused_fails (PatchExists name) = refl
-refused_fails (NoPatch name) = refl
-refused_fails NothingToDo = refl
-refused_fails TooLarge = refl
-refused_fails DoesNotApply = refl
-refused_fails (Depends patch on) = refl
-refused_fails (Diverged name) = refl
-refused_fails (NoMerge left right) = refl
-refused_fails (SameBranch branch) = refl
+refused_fails other = refl
 
 refused : (refusal : Refusal) → Refuses (reply_text (reply.Refused refusal))
 refused refusal = (λ e. (refusal, refl), λ w. refused_fails refusal)
@@ -47,11 +38,8 @@ plain text none = (
 )
 
 reply_fails : (answer : Reply) → Refuses (reply_text answer)
-reply_fails (reply.Done at) = plain (reply_text (reply.Done at)) refl
 reply_fails (reply.Refused refusal) = refused refusal
-reply_fails (reply.Tree tree) = plain (reply_text (reply.Tree tree)) refl
-reply_fails (reply.Conflicts pairs) = plain (reply_text (reply.Conflicts pairs)) refl
-reply_fails (reply.Names names) = plain (reply_text (reply.Names names)) refl
+reply_fails other = plain (reply_text other) refl
 
 module _ {A : Type 0} (text_of : A → List ℕ) (none : (answer : A) → tells_failure (text_of answer) ≡ false) where
   answer_fails : (answer : AnswerOf A) → Refuses (told text_of answer)
@@ -74,22 +62,15 @@ file_plain None = refl
 file_plain (Some lines) = refl
 
 question_fails : (history : Entries) (state : Contents) (q : Question) (text : List ℕ) → TellsAt history state q text → Refuses text
-question_fails history state (question.Needs branch names) text is = told_fails _ (λ answer. refl) _ text is
-question_fails history state (question.Held branch names) text is = told_fails _ (λ answer. refl) _ text is
-question_fails history state (question.Missing from to) text is = told_fails _ (λ answer. refl) _ text is
-question_fails history state (question.Show branch name) text is = told_fails _ (λ answer. refl) _ text is
 question_fails history state (question.Annotate branch path) text is = told_fails _ annotated_plain _ text is
-question_fails history state (question.Along from to names) text is = told_fails _ (λ answer. refl) _ text is
-question_fails history state (question.Open branch) text is = told_fails _ (λ answer. refl) _ text is
-question_fails history state (question.Side branch name) text is = told_fails _ (λ answer. refl) _ text is
 question_fails history state (question.Marks branch path) text is = told_fails _ marks_plain _ text is
 question_fails history state (question.File branch path) text is = told_fails _ file_plain _ text is
 question_fails history state question.Branches text is = subst Refuses (sym is) (plain _ refl)
-question_fails history state (question.Graph branch names) text is = told_fails _ (λ answer. refl) _ text is
 question_fails history state (question.WhatIf call) text is = subst Refuses (sym is.2) (plain _ refl)
 question_fails history state question.History text is = subst Refuses (sym is) (plain _ refl)
 question_fails history state question.Keep text is = subst Refuses (sym is) (plain _ refl)
 question_fails history state (question.Help topic) text is = subst Refuses (sym is) (plain _ refl)
+question_fails history state other text is = told_fails _ (λ answer. refl) _ text is
 
 -- what is answered to what is asked
 asked_fails : (before : Standing) (a : Result Asked LineFault) (text : List ℕ) (now : Entries) → Tells before a text now → (tells_failure text ≡ true) ↔ Failed a text

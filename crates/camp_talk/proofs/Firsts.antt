@@ -1,5 +1,5 @@
 -- A command that was read is one: by its first line, and what that takes with it.
-use Rattle.camp_talk.proofs.Words.{◌≡◌, ℕ, Bool, true, false, List, [], ◌∷◌, ◌++◌, length, map, Option, refl, sym, ap, subst, ◌∙◌, arith, lines_of, script_of_lines, CommandLines, Consumes, Consumes-trans, Ends, HasRead, IsCommand, IsLeft, ReadsCommand, ReadsHeld, ReadsLine, ReadsLines, ReadsNext, ReadsWithin, StopsAtLine, ended, with_last, TakesAll, append-nil, length-map, lines_in, ◌≤◌, as_read, call_line, first_of, script_in, taken, wants}
+use Rattle.camp_talk.proofs.Words.{◌≡◌, ℕ, Bool, true, false, List, [], ◌∷◌, ◌++◌, length, map, Option, refl, sym, ap, subst, ◌∙◌, arith, lines_of, script_of_lines, CommandLines, Consumes, Consumes-trans, Ends, HasRead, IsCommand, IsLeft, ReadsCommand, ReadsHeld, ReadsLine, ReadsLines, ReadsNext, ReadsWithin, StopsAtLine, ended, with_last, TakesAll, append-nil, length-map, lines_in, ◌≤◌, as_read, call_part, first_of, script_in, taken, wants}
 use Rattle.camp_script.proofs.CommandCuts.{none_wanted, one_wanted, takes_wanted}
 use Rattle.camp_talk.proofs.Cuts.{EndsWithLine, ends_with_line, with_last-append}
 use Rattle.camp_talk.proofs.Parts.{behind, ends_behind, lines_are_read, lines_behind, lines_held, none_left}
@@ -45,7 +45,7 @@ module _ (a b : Option (List ℕ)) (bytes : List ℕ) where
 
   takes_last : (last : List ℕ) → TakesAll (with_last [] last)
   takes_last [] = tt
-  takes_last (byte ∷ last) = takes_wanted (call_line (byte ∷ last)) []
+  takes_last (byte ∷ last) = takes_wanted (call_part (byte ∷ last)) []
 
   lines_are : (lines : List (List ℕ)) (last : List ℕ) → ReadsLines a b [] bytes lines last → lines_of bytes ≡ with_last lines last
   lines_are lines last reads = ap lines_of reads.grows ∙ lines_held a b [] bytes lines last reads
@@ -61,7 +61,7 @@ pub record IsHanded (a b : Option (List ℕ)) (whole : Bool) (bytes : List ℕ) 
 -- lines of a command are handed on: whole ones, or all that the input has
 abbrev pub HandsOn : Option (List ℕ) → Option (List ℕ) → Bool → List ℕ → CommandLines → Type 0
 HandsOn a b true bytes command =
-    (first : List ℕ) × (rest : List (List ℕ)) × ReadsLines a b [] bytes (first ∷ rest) [] × HasRead command (call_line first) rest
+    (first : List ℕ) × (rest : List (List ℕ)) × ReadsLines a b [] bytes (first ∷ rest) [] × HasRead command (call_part first) rest
 HandsOn a b false bytes command = IsHanded a b false bytes command
 
 -- the first line that was read
@@ -69,29 +69,29 @@ pub line_read : (a b : Option (List ℕ)) (bytes : List ℕ) {old : List ℕ} {t
 line_read a b bytes {old} {told} {whole} line none is =
     subst (λ (w : Bool). ReadsLine a b w [] bytes) is (subst (λ (old : List ℕ). ReadsLine a b told old bytes) none line)
 
-pub call_read : (x : CommandLines) {call first read : List ℕ} (bytes : List ℕ) → HasRead x call [] → call ≡ call_line first → first ≡ first_of (lines_of read) → read ≡ bytes
-    → HasRead x (call_line (first_of (lines_of bytes))) []
+pub call_read : (x : CommandLines) {call first read : List ℕ} (bytes : List ℕ) → HasRead x call [] → call ≡ call_part first → first ≡ first_of (lines_of read) → read ≡ bytes
+    → HasRead x (call_part (first_of (lines_of bytes))) []
 call_read x bytes has call first read =
-    subst (λ (l : List ℕ). HasRead x l []) (call ∙ ap call_line (first ∙ ap (λ (bytes : List ℕ). first_of (lines_of bytes)) read)) has
+    subst (λ (l : List ℕ). HasRead x l []) (call ∙ ap call_part (first ∙ ap (λ (bytes : List ℕ). first_of (lines_of bytes)) read)) has
 
 -- the first line was handed on
-module _ (a b : Option (List ℕ)) (mid : List ℕ) (x : CommandLines) (has : HasRead x (call_line (first_of (lines_of mid))) []) where
+module _ (a b : Option (List ℕ)) (mid : List ℕ) (x : CommandLines) (has : HasRead x (call_part (first_of (lines_of mid))) []) where
   -- the input ends in or behind it
   first_left : ReadsLine a b false [] mid → IsHanded a b false mid x
   first_left (last, reads, ends) = record {
     held = is_left a b mid [] last reads (takes_last a b mid last) ends;
-    first = call_line (first_of (lines_of mid));
+    first = call_part (first_of (lines_of mid));
     rest = [];
     has = has;
-    same = subst (λ (ls : List (List ℕ)). script_of_lines (call_line (first_of ls) ∷ []) ≡ script_in ls) (sym (lines_are a b mid [] last reads)) (script_is last);
+    same = subst (λ (ls : List (List ℕ)). script_of_lines (call_part (first_of ls) ∷ []) ≡ script_in ls) (sym (lines_are a b mid [] last reads)) (script_is last);
   }
     where
-      script_is : (last : List ℕ) → script_of_lines (call_line (first_of (with_last [] last)) ∷ []) ≡ script_in (with_last [] last)
+      script_is : (last : List ℕ) → script_of_lines (call_part (first_of (with_last [] last)) ∷ []) ≡ script_in (with_last [] last)
       script_is [] = refl
       script_is (byte ∷ last) = refl
 
-  has_line : (line : List ℕ) → ReadsLines a b [] mid (line ∷ []) [] → HasRead x (call_line line) []
-  has_line line reads = subst (λ (ls : List (List ℕ)). HasRead x (call_line (first_of ls)) []) (lines_are a b mid (line ∷ []) [] reads) has
+  has_line : (line : List ℕ) → ReadsLines a b [] mid (line ∷ []) [] → HasRead x (call_part line) []
+  has_line line reads = subst (λ (ls : List (List ℕ)). HasRead x (call_part (first_of ls)) []) (lines_are a b mid (line ∷ []) [] reads) has
 
   pub first_on : (whole : Bool) → ReadsLine a b whole [] mid → HandsOn a b whole mid x
   first_on true (line, reads) = (line, [], reads, has_line line reads)
@@ -102,18 +102,18 @@ module _ (a b c : Option (List ℕ)) (mid bytes : List ℕ) (x y : CommandLines)
   pub next_on : (whole : Bool) → ReadsNext b c whole mid bytes x y → HandsOn a c whole bytes y
   next_on true (line, then, goes) =
       let (first, rest, reads, has) = on in
-      (first, rest ++ line ∷ [], behind a b c [] mid bytes (first ∷ rest) (line ∷ []) [] reads then, goes (call_line first) rest has)
+      (first, rest ++ line ∷ [], behind a b c [] mid bytes (first ∷ rest) (line ∷ []) [] reads then, goes (call_part first) rest has)
   next_on false (last, then, goes, ends) =
       let (first, rest, reads, has) = on in
       let all = rest ++ with_last [] last in
-      let now : HasRead y (call_line first) all = goes (call_line first) rest has in
+      let now : HasRead y (call_part first) all = goes (call_part first) rest has in
       let read : ReadsLines a c [] bytes ((first ∷ rest) ++ []) last = behind a b c [] mid bytes (first ∷ rest) [] last reads then in
       let same : with_last ((first ∷ rest) ++ []) last ≡ first ∷ all = with_last-append (first ∷ rest) [] last in
       let taken_is : taken first all ≡ all = ap (taken first) (sym (append-nil all)) ∙ now.takes [] ∙ append-nil all in
       record {
         held = is_left a c bytes ((first ∷ rest) ++ []) last read (subst TakesAll (sym same) taken_is)
             (ends_behind a b c (ended reads.whole ++ reads.left) reads.consumes ends);
-        first = call_line first;
+        first = call_part first;
         rest = all;
         has = now;
         same = sym (ap script_in (lines_are a c bytes ((first ∷ rest) ++ []) last read ∙ same));
@@ -138,7 +138,7 @@ all_on a b bytes x false on all = on
 all_on a b bytes x true (first, rest, reads, has) all = record {
   held = is_command a b bytes first rest reads (λ others.
       has.takes others ∙ ap (λ (ls : List (List ℕ)). rest ++ ls) (none_wanted x.wanted (all refl) others) ∙ append-nil rest);
-  first = call_line first;
+  first = call_part first;
   rest = rest;
   has = has;
   same = sym (ap script_in (lines_are a b bytes (first ∷ rest) [] reads));
@@ -149,7 +149,7 @@ all_on a b bytes x true (first, rest, reads, has) all = record {
 -- a line at most is taken whole
 takes_few : (lines : List (List ℕ)) → length lines ≤ 1 → TakesAll lines
 takes_few [] few = tt
-takes_few (line ∷ []) few = takes_wanted (call_line line) []
+takes_few (line ∷ []) few = takes_wanted (call_part line) []
 takes_few (line ∷ next ∷ lines) few = absurd (omega (arith, few))
 
 pub stops_within : (a b : Option (List ℕ)) → StopsAtLine a b → ReadsWithin a b
@@ -164,7 +164,7 @@ pub first_within : (a b : Option (List ℕ)) (bytes : List ℕ) (whole : Bool) �
 first_within a b bytes true (line, reads) = record {
   some = ended reads.whole ++ reads.left;
   reads = reads.consumes;
-  is = subst TakesAll (sym (lines_are_read a b [] bytes (line ∷ []) [] reads)) (takes_wanted (call_line line) []);
+  is = subst TakesAll (sym (lines_are_read a b [] bytes (line ∷ []) [] reads)) (takes_wanted (call_part line) []);
 }
 first_within a b bytes false (last, reads, ends) = record {
   some = ended reads.whole ++ reads.left;

@@ -129,8 +129,7 @@ module _ (line : List ℕ) (is : IsLine line) where
   other_read a b NoNumber none reads = record { some = line ++ 10 ∷ []; reads = reads; none = no_number none }
   other_read a b TooLarge (count, counts, large) reads =
       record { some = line ++ 10 ∷ []; reads = reads; none = too_large count counts large }
-  other_read a b Cut none reads = absurd none
-  other_read a b (Talk why) none reads = absurd none
+  other_read a b other none reads = absurd none
 
 -- ---- the line before a request, as it was read
 
@@ -295,14 +294,10 @@ module _ (a b old new : Option (List ℕ)) (before after : Entries) where
 
   pub answering_stops : (why : TalkFault) → IsNotWriting why → AnswersNot a b old new before after
       → Serves a b old new before (Err (Talk why)) after
-  answering_stops Memory is stops = inr stops
-  answering_stops (Read error) is stops = inr stops
   answering_stops (Write error) is stops = absurd is
-  answering_stops Internal is stops = inr stops
+  answering_stops other is stops = inr stops
 
   pub writing_stops : (why : TalkFault) → IsWriting why → WritesNot a b old new before after
       → Serves a b old new before (Err (Talk why)) after
-  writing_stops Memory is stops = absurd is
-  writing_stops (Read error) is stops = absurd is
   writing_stops (Write error) is stops = stops
-  writing_stops Internal is stops = absurd is
+  writing_stops other is stops = absurd is

@@ -1,5 +1,5 @@
 -- What answers commands and requests takes no call back.
-use Rattle.std.proofs.Common.{◌≡◌, ◌⊎◌, inl, inr, ℕ, Bool, true, false, List, [], ◌∷◌, Option, Result, Ok, Err, sym, subst}
+use Rattle.std.proofs.Common.{◌≡◌, ◌⊎◌, inl, inr, ℕ, Bool, true, List, [], ◌∷◌, Option, Result, Ok, Err, sym, subst}
 use Rattle.camp_object.specs.Histories.{IsBeginning}
 use Rattle.camp_object.proofs.Beginnings.{begins_through, begins_self}
 use Rattle.camp_script.specs.declared.faults.LineFault.{LineFault}
@@ -20,11 +20,8 @@ front_same : (before now : Entries) → now ≡ before → IsBeginning before no
 front_same before now same = subst (λ (l : Entries). IsBeginning before l) (sym same) (begins_self before)
 
 tells_grow : (before : Standing) (what : Result Asked LineFault) (text : List ℕ) (now : Entries) → Tells before what text now → IsBeginning before.history now
-tells_grow before (Err fault) text now tells = front_same before.history now tells.1
-tells_grow before (Ok asked.Nothing) text now tells = front_same before.history now tells.1
 tells_grow before (Ok (asked.Call call)) text now replies = replies.asks.grows
-tells_grow before (Ok (asked.Question question)) text now tells = front_same before.history now tells.1
-tells_grow before (Ok asked.Why) text now tells = front_same before.history now tells.1
+tells_grow before other text now tells = front_same before.history now tells.1
 
 grows_so : (before : Standing) (command text : List ℕ) (now : Entries) → Tells before (asked_by command) text now ⊎ TellsWant before command text now → IsBeginning before.history now
 grows_so before command text now (inl tells) = tells_grow before (asked_by command) text now tells
@@ -61,18 +58,9 @@ some_grow before request answer now some = ends some.leaves
 pub serves_grow : (a b old new : Option (List ℕ)) (before : Entries) (came : Result Bool FrameFault) (after : Entries)
     → Serves a b old new before came after → IsBeginning before after
 serves_grow a b old new before (Ok true) after serves = request_grows before serves.service.request serves.service.answer after serves.answers
-serves_grow a b old new before (Ok false) after serves = front_same before after serves.same
-serves_grow a b old new before (Err frame.NoNumber) after serves = front_same before after serves.same
-serves_grow a b old new before (Err frame.TooLarge) after serves = front_same before after serves.same
-serves_grow a b old new before (Err frame.Cut) after serves = front_same before after serves.same
 serves_grow a b old new before (Err (frame.Talk (talk.Write error))) after serves =
     request_grows before serves.service.request serves.service.answer after serves.answers
-serves_grow a b old new before (Err (frame.Talk talk.Memory)) after (inl same) = front_same before after same.1
-serves_grow a b old new before (Err (frame.Talk talk.Memory)) after (inr some) =
+serves_grow a b old new before (Err (frame.Talk why)) after (inl same) = front_same before after same.1
+serves_grow a b old new before (Err (frame.Talk why)) after (inr some) =
     some_grow before some.service.request some.service.answer after some.answers
-serves_grow a b old new before (Err (frame.Talk (talk.Read error))) after (inl same) = front_same before after same.1
-serves_grow a b old new before (Err (frame.Talk (talk.Read error))) after (inr some) =
-    some_grow before some.service.request some.service.answer after some.answers
-serves_grow a b old new before (Err (frame.Talk talk.Internal)) after (inl same) = front_same before after same.1
-serves_grow a b old new before (Err (frame.Talk talk.Internal)) after (inr some) =
-    some_grow before some.service.request some.service.answer after some.answers
+serves_grow a b old new before other after serves = front_same before after serves.same

@@ -1,30 +1,15 @@
 -- Commands that are loaded, one behind another.
-use Rattle.camp_talk.proofs.Words.{◌≡◌, ℕ, ◌+◌, Bool, true, false, List, [], ◌∷◌, ◌++◌, Option, Result, Ok, Err, Vec, refl, sym, ap, subst, ◌∙◌, append-nil, true≢false, flat_map, Consumes, Consumes-nil, Consumes-trans, flat_map-append, All-append, All-cons, All-nil, Call, reply_text, LineFault, Answers, Standing, Tells, asked_by, Entries, Exchange, Asked, DoesOne, Hears, LoadsOne, Done, Fails, ReadsCommand, TellsSuccess, Wants, tells_failure}
-use Rattle.camp_call.specs.declared.replies.Reply.{Reply}
-use Rattle.camp_call.specs.declared.replies.Reply.TheVariants as reply
-use Rattle.camp_object.specs.Asking.{Ask, alone_at}
-use Rattle.camp_repo.specs.Objects.{repository}
+use Rattle.camp_talk.proofs.Words.{◌≡◌, ℕ, ◌+◌, Bool, true, false, List, [], ◌∷◌, ◌++◌, Option, Result, Ok, Err, Vec, refl, sym, ap, subst, ◌∙◌, append-nil, flat_map, Consumes, Consumes-nil, Consumes-trans, flat_map-append, All-append, All-cons, All-nil, Call, LineFault, Answers, Standing, Tells, asked_by, Entries, Exchange, Asked, DoesOne, Hears, LoadsOne, Done, Fails, ReadsCommand, TellsSuccess, Wants, tells_failure}
 use Rattle.camp_talk.specs.declared.questions.Asked.TheVariants as asked
+use Rattle.camp_talk.proofs.NotDone.{by_reply}
 use Rattle.camp_talk.proofs.Turns.{answered, one_more}
 
 -- ---- a failure changes nothing
 
 module _ (before : Standing) (text : List ℕ) (now : Entries) (fails : tells_failure text ≡ true) where
-  by_reply : (call : Call) (answer : Reply) → text ≡ reply_text answer
-      → Ask repository (alone_at 0) before.history call (Ok answer) now → now ≡ before.history
-  by_reply call (reply.Done at) tells asks =
-      let succeeds : tells_failure text ≡ false = ap tells_failure tells in absurd (true≢false (sym fails ∙ succeeds))
-  by_reply call (reply.Refused refusal) tells asks = asks.says.0.exact refl
-  by_reply call (reply.Tree tree) tells asks = asks.says.0.exact refl
-  by_reply call (reply.Conflicts pairs) tells asks = asks.says.0.exact refl
-  by_reply call (reply.Names names) tells asks = asks.says.0.exact refl
-
   by_asked : (asked : Result Asked LineFault) → Tells before asked text now → now ≡ before.history
-  by_asked (Err fault) tells = tells.1
-  by_asked (Ok asked.Nothing) tells = tells.1
-  by_asked (Ok (asked.Call call)) tells = by_reply call tells.reply tells.tells tells.asks
-  by_asked (Ok (asked.Question question)) tells = tells.1
-  by_asked (Ok asked.Why) tells = tells.1
+  by_asked (Ok (asked.Call call)) tells = by_reply before.history now call tells_failure (λ at. refl) text fails tells.reply tells.tells tells.asks
+  by_asked other tells = tells.1
 
 pub failure_keeps : (before : Standing) (asked : Result Asked LineFault) (text : List ℕ) (now : Entries)
     → Tells before asked text now → tells_failure text ≡ true → now ≡ before.history

@@ -38,10 +38,7 @@ module _ (seen now : Entries) (c : Call) (accepted : IsAccepted repository seen 
     asks.says.ends ∙ ap (λ (history : Entries). history ++ (0, c) ∷ []) (asks.says.exact refl),
     ap tells_failure tells,
   )
-  accepts (reply.Refused refusal) text tells asks = not_answered (reply.Refused refusal) (asks.says.0.exact refl) asks.says.1
-  accepts (reply.Tree tree) text tells asks = not_answered (reply.Tree tree) (asks.says.0.exact refl) asks.says.1
-  accepts (reply.Conflicts pairs) text tells asks = not_answered (reply.Conflicts pairs) (asks.says.0.exact refl) asks.says.1
-  accepts (reply.Names names) text tells asks = not_answered (reply.Names names) (asks.says.0.exact refl) asks.says.1
+  accepts other text tells asks = not_answered other (asks.says.0.exact refl) asks.says.1
 
 -- the text of a call is answered
 module _ (c : Call) (can : IsScriptCall c) (short : IsReadWhole c) (before : Standing) (text : List ℕ) (now : Entries) (accepted : IsAccepted repository before.history c) where

@@ -46,14 +46,9 @@ told_target state from to name names same none false is = (
 )
 
 branch_named : (state : Contents) (call : Call) (name : List ℕ) → LacksBranch state call name → TellsName state call (refusal.NoBranch name)
-branch_named state (call.Branch new from) name (same, none) = told_about state (call.Branch new from) name same none
-branch_named state (call.Record branch patch changes) name (same, none) = told_about state (call.Record branch patch changes) name same none
 branch_named state (call.Pull from to names) name (inl same, none) = told_about state (call.Pull from to names) name same none
 branch_named state (call.Pull from to names) name (inr same, none) = told_target state from to name names same none (bytes_eq from to) refl
-branch_named state (call.Obliterate branch names) name (same, none) = told_about state (call.Obliterate branch names) name same none
-branch_named state (call.Tree branch) name (same, none) = told_about state (call.Tree branch) name same none
-branch_named state (call.Conflicts branch) name (same, none) = told_about state (call.Conflicts branch) name same none
-branch_named state (call.Names branch) name (same, none) = told_about state (call.Names branch) name same none
+branch_named state other name (same, none) = told_about state other name same none
 
 -- a pull without a list lacks nothing
 listed_lacks : (catches : List Catch) (names : Option (List (List ℕ))) (name : List ℕ) → first_lacked catches (listed catches names) ≡ Some name
@@ -66,21 +61,9 @@ patch_named state (call.Pull from to names) name (catches, has, lacks) =
     ap (lack_in state (asked.Call (call.Pull from to names)) from) has ∙ ap (lack_text state from) (listed_lacks catches names name lacks)
 patch_named state (call.Obliterate branch names) name (catches, has, lacks) =
     ap (lack_in state (asked.Call (call.Obliterate branch names)) branch) has ∙ ap (lack_text state branch) lacks
-patch_named state (call.Branch new from) name is = absurd is
-patch_named state (call.Record branch patch changes) name is = absurd is
-patch_named state (call.Tree branch) name is = absurd is
-patch_named state (call.Conflicts branch) name is = absurd is
-patch_named state (call.Names branch) name is = absurd is
+patch_named state other name is = absurd is
 
 pub is_named : (state : Contents) (call : Call) (refused : Refusal) → IsGround state call refused → TellsName state call refused
 is_named state call (refusal.NoBranch name) ground = branch_named state call name ground
 is_named state call (refusal.NoPatch name) ground = patch_named state call name ground
-is_named state call (refusal.BranchExists branch) ground = tt
-is_named state call (refusal.PatchExists name) ground = tt
-is_named state call refusal.NothingToDo ground = tt
-is_named state call refusal.TooLarge ground = tt
-is_named state call refusal.DoesNotApply ground = tt
-is_named state call (refusal.Depends patch on) ground = tt
-is_named state call (refusal.Diverged name) ground = tt
-is_named state call (refusal.NoMerge left right) ground = tt
-is_named state call (refusal.SameBranch branch) ground = tt
+is_named state call other ground = tt

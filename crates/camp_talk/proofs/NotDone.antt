@@ -1,5 +1,5 @@
 -- Commands that are not done.
-use Rattle.camp_talk.proofs.Words.{◌≡◌, ◌≢◌, ◌-◌, zero, suc, true, false, List, ◌∷◌, drop, map, ℕ, Result, Ok, Err, Vec, IfOk, arith, refl, ap, sym, subst, true≢false, ◌∙◌, first_of, without_end, Asked, Call, Entries, Gives, LineFault, ScriptFault, Standing, Tells, reply_text}
+use Rattle.camp_talk.proofs.Words.{◌≡◌, ◌≢◌, ◌-◌, zero, suc, Bool, true, false, List, ◌∷◌, drop, map, ℕ, Result, Ok, Err, Vec, IfOk, arith, refl, ap, sym, subst, true≢false, ◌∙◌, first_of, without_end, Asked, Call, Entries, Gives, LineFault, ScriptFault, Standing, Tells, reply_text}
 use Rattle.camp_call.specs.declared.replies.Reply.{Reply}
 use Rattle.camp_call.specs.declared.replies.Reply.TheVariants as reply
 use Rattle.camp_object.specs.Asking.{Ask, alone_at}
@@ -9,19 +9,16 @@ use Rattle.camp_talk.specs.Whys.{is_failure}
 use Rattle.camp_talk.specs.declared.questions.Asked.TheVariants.{Nothing}
 
 module _ (old now : Entries) (call : Call) where
-  by_reply : (text : List ℕ) → is_failure text ≡ true → (answer : Reply) → text ≡ reply_text answer
-      → Ask repository (alone_at 0) old call (Ok answer) now → now ≡ old
-  by_reply text fails (reply.Done at) tells asks =
-      let succeeds : is_failure text ≡ false = ap is_failure tells in absurd (true≢false (sym fails ∙ succeeds))
-  by_reply text fails (reply.Refused refusal) tells asks = asks.says.0.exact refl
-  by_reply text fails (reply.Tree tree) tells asks = asks.says.0.exact refl
-  by_reply text fails (reply.Conflicts pairs) tells asks = asks.says.0.exact refl
-  by_reply text fails (reply.Names names) tells asks = asks.says.0.exact refl
+  -- where a text tells that a call was not done, by a test that the text of an accepted one does not pass
+  pub by_reply : (fails : List ℕ → Bool) → ((at : ℕ) → fails (reply_text (reply.Done at)) ≡ false) → (text : List ℕ) → fails text ≡ true
+      → (answer : Reply) → text ≡ reply_text answer → Ask repository (alone_at 0) old call (Ok answer) now → now ≡ old
+  by_reply fails done text is (reply.Done at) tells asks = absurd (true≢false (sym is ∙ ap fails tells ∙ done at))
+  by_reply fails done text is other tells asks = asks.says.0.exact refl
 
   -- a call that is answered by a refusal changes nothing
   pub replies_keep : {Z E : Type 0} (result : Result (Vec ℕ Z) E) → IfOk result (λ text. Replies old call text.items now)
       → IfOk result (λ text. is_failure text.items ≡ true → now ≡ old)
-  replies_keep (Ok text) replies = λ fails. by_reply text.items fails replies.reply replies.tells replies.asks
+  replies_keep (Ok text) replies = λ fails. by_reply is_failure (λ at. refl) text.items fails replies.reply replies.tells replies.asks
   replies_keep (Err error) replies = tt
 
 -- an answer that is a fault or a refusal is one to something

@@ -3,10 +3,8 @@ use Rattle.camp_talk.proofs.Words.{◌≡◌, false, ℕ, List, [], ◌∷◌, t
 use Rattle.camp_talk.specs.declared.questions.Question.{Question}
 
 six_are_enough : (word : List ℕ) (words : List (List ℕ)) → short_question word (take 6 words) ≡ short_question word words
-six_are_enough word [] = refl
-six_are_enough word (a ∷ []) = refl
-six_are_enough word (a ∷ b ∷ []) = refl
 six_are_enough word (a ∷ b ∷ c ∷ words) = refl
+six_are_enough word fewer = refl
 
 pub short : (word : List ℕ) (result : Result (Option Question) ScriptFault) (words all : List (List ℕ)) → words ≡ take 6 all
     → bytes_eq word (codes "needs") ≡ false → bytes_eq word (codes "held") ≡ false → bytes_eq word (codes "along") ≡ false → bytes_eq word (codes "graph") ≡ false

@@ -4,7 +4,7 @@ use Rattle.camp_talk.proofs.Words.{◌≡◌, ◌⊎◌, inl, inr, ℕ, Bool, tr
 use Rattle.camp_talk.proofs.Firsts.{command_read}
 use Rattle.camp_talk.specs.Requests.{AnswersRequest, AnswersSome}
 use Rattle.camp_talk.specs.declared.faults.TalkFault.{TalkFault}
-use Rattle.camp_talk.specs.declared.faults.TalkFault.TheVariants.{Internal, Memory, Read, Write}
+use Rattle.camp_talk.specs.declared.faults.TalkFault.TheVariants.{Write}
 
 -- a command that was read is whole, or else nothing is left behind it
 asked_one : (left rest : List ℕ) (whole : Bool) (command : List ℕ) → ReadsCommand (Some left) (Some rest) whole command
@@ -97,7 +97,5 @@ module _ (history : Entries) (request left rest old held new : List ℕ) (middle
 
       at : (why : TalkFault) → Turns (Some left) (Some rest) (Some held) (Some new) middle (Err why) last
           → (text : List ℕ) × (new ≡ old ++ text) × AnswersSome history request text last.history
-      at Memory turns = broken Memory turns
-      at (Read error) turns = broken (Read error) turns
       at (Write error) turns = stopped turns
-      at Internal turns = broken Internal turns
+      at other turns = broken other turns

@@ -1,5 +1,5 @@
 -- A line that is skipped asks nothing, and takes no other with it.
-use Rattle.camp_talk.proofs.Words.{◌≡◌, ℕ, ◌==◌, true, false, true≢false, cond, List, [], ◌∷◌, codes, Ok, refl, sym, ap, ◌∙◌, eqb-true, bytes_eq, begins_with, is_skipped, words_of, script_of_lines, asked_of, first_of, call_line, map, TakesAll, taken}
+use Rattle.camp_talk.proofs.Words.{◌≡◌, ℕ, ◌==◌, true, false, true≢false, cond, List, [], ◌∷◌, codes, Ok, refl, sym, ap, ◌∙◌, eqb-true, bytes_eq, begins_with, is_skipped, words_of, script_of_lines, asked_of, first_of, call_part, map, TakesAll, taken}
 use Rattle.std.specs.Prelude.{slice_index}
 use Rattle.camp_script.proofs.Agreement.{reads_as_defined}
 use Rattle.camp_script.specs.Behind.{behind_word}
@@ -37,7 +37,7 @@ nothing_asked (word ∷ words) is =
 
 module _ (line : List ℕ) (skipped : is_skipped (words_of line) ≡ true) where
   -- as a script it has no call
-  no_call : script_of_lines (call_line line ∷ []) ≡ Ok ([] ∷ [])
+  no_call : script_of_lines (call_part line ∷ []) ≡ Ok ([] ∷ [])
   no_call =
       ap (λ b. script_of_lines (cond b (behind_word line) line ∷ [])) (no_foresight (words_of line) skipped)
       ∙ sym (reads_as_defined (line ∷ []))

@@ -7,7 +7,7 @@ use Rattle.camp_talk.specs.Inside.Hearing.{LearnsWith}
 use Rattle.camp_talk.specs.Whys.{is_failure}
 use Rattle.camp_talk.specs.declared.faults.TalkFault.{TalkFault}
 use Rattle.camp_talk.specs.declared.questions.Asked.TheVariants.{Nothing}
-use Rattle.camp_talk.specs.declared.faults.TalkFault.TheVariants.{Internal, Memory, Read, Write}
+use Rattle.camp_talk.specs.declared.faults.TalkFault.TheVariants.{Memory, Read, Write}
 
 -- what is kept by the lines of a command is what is kept of it
 learns_so : (before : Standing) (command text : List ℕ) (cause : Account) (fails : Bool)
@@ -59,8 +59,7 @@ module _ (a b : Option (List ℕ)) (before : Standing) where
   pub reads_none : (why : TalkFault) → IsReading why → ReadsWithin a b → ReadsNone a b before why
   reads_none Memory is within = within
   reads_none (Read error) is within = within
-  reads_none (Write error) is within = absurd is
-  reads_none Internal is within = absurd is
+  reads_none other is within = absurd is
 
   -- the lines of what was read have no numbers
   pub reads_too_much : (some : List ℕ) → Consumes a b some → IsLeft some → 2 ^ 64 ≤ before.lines + length (lines_of some) + 1
@@ -70,17 +69,13 @@ module _ (a b : Option (List ℕ)) (before : Standing) where
 module _ (remaining rest old new : Option (List ℕ)) (before after : Standing) where
   pub broken : (why : TalkFault) → ReadsNone remaining rest before why → Keeps old new → after ≡ before
       → Turns remaining rest old new before (Err why) after
-  broken Memory none keeps same = record { none = none; keeps = keeps; same = same }
-  broken (Read error) none keeps same = record { none = none; keeps = keeps; same = same }
   broken (Write error) none keeps same = absurd none
-  broken Internal none keeps same = record { none = none; keeps = keeps; same = same }
+  broken other none keeps same = record { none = none; keeps = keeps; same = same }
 
   pub stopped : (why : TalkFault) → IsWriting why → Stops remaining rest old new before after
       → Turns remaining rest old new before (Err why) after
-  stopped Memory is stops = absurd is
-  stopped (Read error) is stops = absurd is
   stopped (Write error) is stops = stops
-  stopped Internal is stops = absurd is
+  stopped other is stops = absurd is
 
 -- one more command is answered
 pub one_more : (first middle last : Standing) (said : List Exchange) (more : Exchange) → Follow first said middle

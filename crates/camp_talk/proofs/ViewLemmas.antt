@@ -3,7 +3,7 @@ use Rattle.camp_talk.proofs.Words.{◌≡◌, ℕ, true, false, List, [], ◌∷
 use Rattle.camp_talk.specs.Inside.Viewing.{HoldsView, SeesTurn}
 use Rattle.camp_talk.specs.Views.{AnswersView, Sees, SeesAll}
 use Rattle.camp_talk.specs.declared.faults.TalkFault.{TalkFault}
-use Rattle.camp_talk.specs.declared.faults.TalkFault.TheVariants.{Internal, Memory, Read, Write}
+use Rattle.camp_talk.specs.declared.faults.TalkFault.TheVariants.{Internal}
 use Rattle.camp_call.specs.Calls.{is_writing}
 use Rattle.camp_call.specs.declared.calls.Call.{Call}
 use Rattle.camp_object.specs.declared.objects.Decided.TheVariants.{Next}
@@ -30,10 +30,8 @@ one_behind part said more =
 
 -- where reading failed, no writer did
 pub not_writing : (why : TalkFault) → IsReading why → IsNotWriting why
-not_writing Memory is = is
-not_writing (Read error) is = is
-not_writing (Write error) is = is
 not_writing Internal is = absurd is
+not_writing other is = is
 
 -- what was put behind an answer is taken back
 pub taken_back : (old more new : List ℕ) → new ≡ old ++ more → take (length old) new ≡ old

@@ -21,14 +21,10 @@ use Rattle.camp_talk.specs.declared.questions.Reason.TheVariants as reason
 use Rattle.camp_script.proofs.CanonicalCalls.{names_are_words}
 use Rattle.camp_script.proofs.CanonicalLines.{AreWords, first_words, is_word, words_of-joined}
 use Rattle.camp_script.specs.Canonical.{AreNames}
-use Rattle.camp_why.proofs.Causing.{refusals_explained}
-use Rattle.camp_why.proofs.Grounding.{have_grounds}
+use Rattle.camp_why.proofs.Causing.{by_cause}
+use Rattle.camp_why.proofs.Grounding.{have_grounds, refusals_explained}
 use Rattle.camp_why.specs.Causes.{IsSo, explained, is_of_changes, refusal_by}
-use Rattle.camp_why.specs.Stops.{refusal_at}
 use Rattle.camp_why.specs.declared.causes.Cause.{Cause}
-use Rattle.camp_why.specs.declared.causes.Cause.TheVariants.{FullBranch, FullRepository, FullWithPull, LongSide, Stops}
-use Rattle.camp_why.specs.declared.stops.Hindrance.{Hindrance}
-use Rattle.camp_why.specs.declared.stops.Hindrance.TheVariants as hindrance
 
 -- ---- the numbers of the refusals
 
@@ -69,18 +65,6 @@ reason_of_answer (refusal.SameBranch branch) = reason_told 14 (codes "14") (from
 
 -- ---- causes
 
-by_hindrance : (why : Hindrance) → is_of_changes (refusal_at why) ≡ true
-by_hindrance (hindrance.Misfit misfit) = refl
-by_hindrance (hindrance.TooLong count) = refl
-
--- a cause is one of changes or of a limit
-by_cause : (cause : Cause) → is_of_changes (refusal_by cause) ≡ true
-by_cause (FullRepository count) = refl
-by_cause (FullBranch has more) = refl
-by_cause (FullWithPull has more) = refl
-by_cause (LongSide change path old new) = refl
-by_cause (Stops stop) = by_hindrance stop.why
-
 module _ (before : Account) (state : Contents) (command : List ℕ) (call : Call) (asks : asked_by command ≡ Ok (asked.Call call)) (cause : Cause) (is_so : IsSo state call cause) where
   named : (refused : Refusal) → is_of_changes refused ≡ true → explained state call refused ≡ Some cause → refusal_by cause ≡ refused
       → NamesCause state call refused (first_of (lines_in command)) (cause_of before state command (reply_text (Refused refused))).told
@@ -100,15 +84,7 @@ module _ (before : Account) (state : Contents) (command : List ℕ) (call : Call
         ∙ ap (refusal_lines state (asked.Call call) (first_of (lines_in command)) (reply_text (Refused refusal.DoesNotApply))) (reason_of_answer refusal.DoesNotApply tt)
         ∙ ap (λ found. reply_text (Refused refusal.DoesNotApply) ++ shown_line (first_of (lines_in command)) ++ saying reason.DoesNotApply ++ (sides_text (Some (call_about call)) (target (asked.Call call)) ++ found_text found) ++ cure_at state (asked.Call call) found reason.DoesNotApply) told;
   }
-  named (refusal.NoBranch branch) is told of = absurd (true≢false (sym is))
-  named (refusal.BranchExists branch) is told of = absurd (true≢false (sym is))
-  named (refusal.PatchExists name) is told of = absurd (true≢false (sym is))
-  named (refusal.NoPatch name) is told of = absurd (true≢false (sym is))
-  named refusal.NothingToDo is told of = absurd (true≢false (sym is))
-  named (refusal.Depends patch on) is told of = absurd (true≢false (sym is))
-  named (refusal.Diverged name) is told of = absurd (true≢false (sym is))
-  named (refusal.NoMerge left right) is told of = absurd (true≢false (sym is))
-  named (refusal.SameBranch branch) is told of = absurd (true≢false (sym is))
+  named other is told of = absurd (true≢false (sym is))
 
 pub causes_told : CausesAreTold
 causes_told before state command call refused lawful is range asks comes wants =

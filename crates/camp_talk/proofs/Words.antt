@@ -21,7 +21,7 @@ pub use Rattle.camp_script.specs.declared.faults.LineFault.{LineFault}
 pub use Rattle.camp_script.specs.declared.faults.ScriptFault.{ScriptFault}
 pub use Rattle.camp_talk.specs.Answers.{Answers, Learns, Standing, Tells, TellsWant, is_silent}
 pub use Rattle.camp_talk.specs.Asking.{asked_by, asked_of, first_of, question_of, short_question}
-pub use Rattle.camp_talk.specs.Cutting.{IsCommand, IsLeft, TakesAll, as_read, call_line, call_lines, lines_in, script_in, taken}
+pub use Rattle.camp_talk.specs.Cutting.{IsCommand, IsLeft, TakesAll, as_read, call_lines, lines_in, script_in, taken}
 pub use Rattle.camp_talk.specs.Entries.{Entries}
 pub use Rattle.camp_talk.specs.Inside.Hearing.{DoesOne, Hears, IsSaid, LearnsOf, LoadsOne}
 pub use Rattle.camp_talk.specs.Inside.Parts.{Ends, EndsAt, GoesOn, IsLine, IsLonger, IsReading, ReadsHeld, ReadsLine, ReadsLines, ReadsNext, StopsAtLine, Takes, ended, feed_of, last_seen, seen_of, with_last}
@@ -35,3 +35,4 @@ pub use Rattle.camp_questions.specs.Dependencies.{AreHeldBy, AreNeeded}
 pub use Rattle.std.proofs.lemmas.Bool.{and_parts, cases_Bool, cond-false}
 pub use Rattle.std.proofs.lemmas.List.Sums.{passes_at_first, prefix_len-le-length}
 pub use Rattle.std.proofs.lemmas.List.{drop-drop, length-map, map-append, take_more, take_rest}
+pub use Rattle.camp_why.specs.Hints.{call_part}

@@ -10,10 +10,10 @@ use Rattle.camp_script.specs.Words.{◌>>=◌, name_at, names_at, no_words, one_
 use Rattle.camp_script.specs.declared.faults.FaultKind.TheVariants.{BadNumber, UnknownCommand, WrongNumberOfWords}
 use Rattle.camp_script.specs.declared.faults.LineFault.{LineFault}
 use Rattle.camp_talk.specs.Help.{commands, example}
+use Rattle.camp_talk.specs.Refusals.{number_of, reasons}
 use Rattle.camp_talk.specs.declared.questions.Asked.{Asked}
 use Rattle.camp_talk.specs.declared.questions.Asked.TheVariants as asked
 use Rattle.camp_talk.specs.declared.questions.Reason.{Reason}
-use Rattle.camp_talk.specs.declared.questions.Reason.TheVariants as reason
 use Rattle.camp_talk.specs.declared.questions.Question.{Question}
 use Rattle.camp_talk.specs.declared.questions.Question.TheVariants as question
 use Rattle.camp_talk.specs.declared.questions.Topic.{Topic}
@@ -71,29 +71,13 @@ topic_of (Some command) = Ok command
 abbrev pub topic_at : List ℕ → Result Topic LineFault
 topic_at word = topic_of (first_begun word commands)
 
--- the reason of a number of a refusal, from 8 on
-abbrev pub later_reason : List ℕ → Option Reason
-later_reason number =
-    if bytes_eq number (codes "8") then Some reason.NothingToDo
-    else (if bytes_eq number (codes "9") then Some reason.TooLarge
-    else (if bytes_eq number (codes "10") then Some reason.DoesNotApply
-    else (if bytes_eq number (codes "11") then Some reason.Depends
-    else (if bytes_eq number (codes "12") then Some reason.Diverged
-    else (if bytes_eq number (codes "13") then Some reason.NoMerge
-    else (if bytes_eq number (codes "14") then Some reason.SameBranch
-    else None))))))
+-- the first of some reasons that has a number
+abbrev pub first_numbered : List ℕ → List Reason → Option Reason
+first_numbered number reasons = find (λ reason. bytes_eq (number_of reason) number) reasons
 
 -- the reason of a number of a refusal
 abbrev pub reason_at : List ℕ → Option Reason
-reason_at number =
-    if bytes_eq number (codes "1") then Some reason.BadName
-    else (if bytes_eq number (codes "2") then Some reason.BadPath
-    else (if bytes_eq number (codes "3") then Some reason.BadLine
-    else (if bytes_eq number (codes "4") then Some reason.NoBranch
-    else (if bytes_eq number (codes "5") then Some reason.BranchExists
-    else (if bytes_eq number (codes "6") then Some reason.PatchExists
-    else (if bytes_eq number (codes "7") then Some reason.NoPatch
-    else later_reason number))))))
+reason_at number = first_numbered number reasons
 
 -- the refusal of a reason; a number that has none is a bad one
 abbrev pub reason_topic : Option Reason → Result Topic LineFault

@@ -3,12 +3,11 @@ use Rattle.std.specs.Prelude.{◌≡◌, ℕ, nat_lt, List, [], ◌∷◌, ◌++
 use Rattle.camp_base.specs.Limits.{longest_line}
 use Rattle.camp_base.specs.Signs.{newline}
 use Rattle.camp_call.specs.declared.calls.Call.{Call}
-use Rattle.camp_script.specs.Behind.{behind_word}
 use Rattle.camp_script.specs.CommandLines as command
-use Rattle.camp_script.specs.Lines.{lines_of, words_of}
-use Rattle.camp_script.specs.Pieces.{begins_with}
+use Rattle.camp_script.specs.Lines.{lines_of}
 use Rattle.camp_script.specs.Reading.{script_of_lines}
 use Rattle.camp_script.specs.declared.faults.LineFault.{LineFault}
+use Rattle.camp_why.specs.Hints.{call_part}
 
 -- bytes of a line that is read whole
 abbrev pub longest_read : ℕ
@@ -26,14 +25,10 @@ as_read (first ∷ rest) =
 abbrev pub lines_in : List ℕ → List (List ℕ)
 lines_in bytes = map as_read (lines_of bytes)
 
--- the call of a first line: what stands behind `whatif`, or else the whole line
-abbrev pub call_line : List ℕ → List ℕ
-call_line line = if begins_with (codes "whatif") (words_of line) then behind_word line else line
-
 -- lines from that of a call on
 abbrev pub call_lines : List (List ℕ) → List (List ℕ)
 call_lines [] = []
-call_lines (first ∷ rest) = call_line first ∷ rest
+call_lines (first ∷ rest) = call_part first ∷ rest
 
 -- the script that the call of a command is, by its lines
 abbrev pub script_in : List (List ℕ) → Result (List (List Call)) LineFault
@@ -41,7 +36,7 @@ script_in lines = script_of_lines (call_lines lines)
 
 -- what a first line takes with it of the lines behind it, as its call does
 abbrev pub taken : List ℕ → List (List ℕ) → List (List ℕ)
-taken first lines = command.taken (call_line first) lines
+taken first lines = command.taken (call_part first) lines
 
 -- bytes are a command: they end with a line, and whatever follows, the first line takes just those behind it
 pub record IsCommand (bytes : List ℕ) : Type 0 where

@@ -135,7 +135,5 @@ frame_words (Talk fault) = fault_words fault
 
 -- the exit status that tells it
 abbrev pub frame_status : FrameFault → ℕ
-frame_status NoNumber = 1
-frame_status TooLarge = 1
-frame_status Cut = 1
 frame_status (Talk fault) = fault_status fault
+frame_status other = 1

@@ -26,6 +26,23 @@ reason_of (refusal.Diverged name) = reason.Diverged
 reason_of (refusal.NoMerge left right) = reason.NoMerge
 reason_of (refusal.SameBranch branch) = reason.SameBranch
 
+-- its number
+abbrev pub number_of : Reason → List ℕ
+number_of reason.BadName = codes "1"
+number_of reason.BadPath = codes "2"
+number_of reason.BadLine = codes "3"
+number_of reason.NoBranch = codes "4"
+number_of reason.BranchExists = codes "5"
+number_of reason.PatchExists = codes "6"
+number_of reason.NoPatch = codes "7"
+number_of reason.NothingToDo = codes "8"
+number_of reason.TooLarge = codes "9"
+number_of reason.DoesNotApply = codes "10"
+number_of reason.Depends = codes "11"
+number_of reason.Diverged = codes "12"
+number_of reason.NoMerge = codes "13"
+number_of reason.SameBranch = codes "14"
+
 -- how a refusal is written, and what it says; the first three are told as faults
 abbrev pub saying : Reason → List ℕ
 saying reason.BadName = page (codes "1: a word is no name; it is told as the fault bad name" ∷ [])

@@ -5,26 +5,13 @@ ghost use Rattle.camp_script.specs.Gives.{Gives};
 ghost use Rattle.camp_script.specs.Lines.{is_skipped, lines_of, words_of};
 ghost use Rattle.camp_script.specs.declared.faults.LineFault.{LineFault as SaidFault};
 ghost use Rattle.camp_talk.specs.Asking.{asked_in, asked_with, call_in, first_of, foreseen_in, is_why, why_of};
-ghost use Rattle.camp_talk.specs.Cutting.{call_line};
 
 use crate::question_words::read_question;
 use crate::questions::{Asked, Question};
 use bstr::ByteSlice;
 use camp_call::Call;
-use camp_script::{
-    FaultKind, Script, ScriptFault, Words, at_line, begins_with, behind_word, without_end,
-};
+use camp_script::{FaultKind, Script, ScriptFault, Words, at_line, without_end};
 use std::alloc::Global;
-
-/// The call of a first line.
-pub(crate) fn call_line(line: &[u8]) -> &[u8]
-    ensures { result.now ≡ call_line line.now }
-{
-    if begins_with(line, b"whatif") {
-        return behind_word(line);
-    }
-    line
-}
 
 /// Whether a line asks nothing: it has no word, or the first begins with `#`.
 pub(crate) fn is_skipped(line: &[u8]) -> bool

@@ -1,11 +1,10 @@
 //! The lines of a command that was cut off by a fault in its first line.
 ghost use Rattle.std.specs.Prelude.{◌≡◌};
 ghost use Rattle.camp_script.specs.Lines.{words_of};
-ghost use Rattle.camp_why.specs.Hints.{begins_signed};
 ghost use Rattle.camp_talk.specs.Accounts.{awaited_after, begins_command, is_edit, is_form, is_group, is_record, is_short, left_behind, left_by, may_be, said_in};
 
 use camp_script::{Words, begins_edit, begins_with, behind_word};
-use camp_why::call_part;
+use camp_why::{begins_signed, call_part};
 
 /// Which lines of a command may still come that was cut off from them.
 #[derive(Clone, Copy, Debug)]
@@ -74,12 +73,6 @@ pub(crate) fn is_record(line: &[u8]) -> bool
         Some(word) => is_form(word, b"record", b"Record", b"RECORD"),
         None => false,
     }
-}
-
-fn begins_signed(line: &[u8]) -> bool
-    ensures { result ≡ begins_signed line.now }
-{
-    line.starts_with(b"+") || line.starts_with(b"-")
 }
 
 // Which lines follow a record, by what stands behind its branch.

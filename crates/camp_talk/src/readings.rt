@@ -10,11 +10,12 @@ ghost use Rattle.camp_talk.specs.Talks.{ReadsWithin};
 ghost use Rattle.camp_talk.specs.declared.questions.Asked.{Asked as SaidAsked};
 
 use crate::TalkFault;
-use crate::asking::{call_line, first_line, is_skipped, read_asked};
+use crate::asking::{first_line, is_skipped, read_asked};
 use crate::lines::{last_line, read_line};
 use crate::questions::Asked;
 use bstr::ByteSlice;
 use camp_script::{CommandLines, Script, ScriptFault};
+use camp_why::call_part;
 use std::alloc::Global;
 use std::io::BufRead;
 
@@ -72,7 +73,7 @@ fn read_lines<R: BufRead>(alloc: Global, reader: &mut R) -> Result<Lines, TalkFa
 {
     let mut bytes = Vec::new(alloc);
     let mut is_whole = read_line(reader, &mut bytes)?;
-    let Ok(mut command) = CommandLines::new(alloc, call_line(first_line(&bytes))) else {
+    let Ok(mut command) = CommandLines::new(alloc, call_part(first_line(&bytes))) else {
         return Err(TalkFault::Memory);
     };
     while is_whole && command.wants_more() {

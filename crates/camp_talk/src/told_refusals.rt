@@ -1,7 +1,7 @@
 //! What is told of refusals.
 ghost use Rattle.std.specs.Prelude.{◌≡◌, IfOk};
 ghost use Rattle.std.specs.List.{flat_map};
-ghost use Rattle.camp_talk.specs.Refusals.{cure, reasons, refusal_text, saying};
+ghost use Rattle.camp_talk.specs.Refusals.{cure, number_of, reasons, refusal_text, saying};
 
 use crate::questions::Reason;
 use std::alloc::{AllocError, Global};
@@ -28,8 +28,8 @@ pub(crate) fn refusal_text(alloc: Global, reason: Reason) -> Result<Vec<u8>, All
     Ok(text)
 }
 
-// Why something is refused, in the order of the numbers.
-fn reasons() -> [Reason; 14]
+/// Why something is refused, in the order of the numbers.
+pub(crate) fn reasons() -> [Reason; 14]
     ensures { result ≡ reasons }
 {
     [
@@ -48,6 +48,28 @@ fn reasons() -> [Reason; 14]
         Reason::NoMerge,
         Reason::SameBranch,
     ]
+}
+
+/// The number of a refusal.
+pub(crate) fn number_of(reason: Reason) -> &'static str
+    ensures { result.now ≡ number_of reason }
+{
+    match reason {
+        Reason::BadName => "1",
+        Reason::BadPath => "2",
+        Reason::BadLine => "3",
+        Reason::NoBranch => "4",
+        Reason::BranchExists => "5",
+        Reason::PatchExists => "6",
+        Reason::NoPatch => "7",
+        Reason::NothingToDo => "8",
+        Reason::TooLarge => "9",
+        Reason::DoesNotApply => "10",
+        Reason::Depends => "11",
+        Reason::Diverged => "12",
+        Reason::NoMerge => "13",
+        Reason::SameBranch => "14",
+    }
 }
 
 /// How a refusal is written, and what it says.

@@ -1,15 +1,17 @@
 //! What help is asked for.
 ghost use Rattle.std.specs.Option.{option_copied};
-ghost use Rattle.std.specs.Prelude.{◌≡◌, map};
+ghost use Rattle.std.specs.Prelude.{◌≡◌, bytes_eq, map};
 ghost use Rattle.camp_script.specs.Gives.{Gives};
 ghost use Rattle.camp_script.specs.Lines.{lines_of, words_of};
 ghost use Rattle.camp_script.specs.Pieces.{begins_with};
-ghost use Rattle.camp_talk.specs.Asking.{first_begun, first_of, help_line, later_reason, reason_at, reason_topic, refusal_topic, topic_at, word_topic};
+ghost use Rattle.camp_talk.specs.Asking.{first_begun, first_numbered, first_of, help_line, reason_at, reason_topic, refusal_topic, topic_at, word_topic};
 ghost use Rattle.camp_talk.specs.Help.{example};
+ghost use Rattle.camp_talk.specs.Refusals.{number_of};
 
 use crate::asking::first_line;
 use crate::questions::{Reason, Topic};
 use crate::told_help::{commands, example};
+use crate::told_refusals::{number_of, reasons};
 use camp_script::{FaultKind, ScriptFault, at_line, begins_with};
 
 /// What help is asked for, by the words behind `help`.
@@ -57,55 +59,25 @@ fn reason_topic(found: Option<Reason>) -> Result<Topic, ScriptFault>
 pub(crate) fn reason_at(number: &[u8]) -> Option<Reason>
     ensures { result ≡ reason_at number.now }
 {
-    if number == b"1".as_slice() {
-        return Some(Reason::BadName);
+    let reasons = reasons();
+    match first_numbered(number, &reasons) {
+        Some(reason) => Some(*reason),
+        None => None,
     }
-    if number == b"2".as_slice() {
-        return Some(Reason::BadPath);
-    }
-    if number == b"3".as_slice() {
-        return Some(Reason::BadLine);
-    }
-    if number == b"4".as_slice() {
-        return Some(Reason::NoBranch);
-    }
-    if number == b"5".as_slice() {
-        return Some(Reason::BranchExists);
-    }
-    if number == b"6".as_slice() {
-        return Some(Reason::PatchExists);
-    }
-    if number == b"7".as_slice() {
-        return Some(Reason::NoPatch);
-    }
-    later_reason(number)
 }
 
-fn later_reason(number: &[u8]) -> Option<Reason>
-    ensures { result ≡ later_reason number.now }
+// The first of some reasons that has a number.
+fn first_numbered<'a>(number: &[u8], reasons: &'a [Reason]) -> Option<&'a Reason>
+    ensures { option_copied result ≡ first_numbered number.now reasons.now }
 {
-    if number == b"8".as_slice() {
-        return Some(Reason::NothingToDo);
-    }
-    if number == b"9".as_slice() {
-        return Some(Reason::TooLarge);
-    }
-    if number == b"10".as_slice() {
-        return Some(Reason::DoesNotApply);
-    }
-    if number == b"11".as_slice() {
-        return Some(Reason::Depends);
-    }
-    if number == b"12".as_slice() {
-        return Some(Reason::Diverged);
-    }
-    if number == b"13".as_slice() {
-        return Some(Reason::NoMerge);
-    }
-    if number == b"14".as_slice() {
-        return Some(Reason::SameBranch);
-    }
-    None
+    reasons.iter().find(|reason| has_number(number, **reason))
+}
+
+// Whether a reason has a number.
+fn has_number(number: &[u8], reason: Reason) -> bool
+    ensures { result ≡ bytes_eq (number_of reason) number.now }
+{
+    number_of(reason).as_bytes() == number
 }
 
 // The command that a word begins.

@@ -2,10 +2,10 @@
 use Rattle.std.specs.List.{AllByRecursion}
 use Rattle.std.proofs.Common.{inl, inr}
 use Rattle.std.specs.Prelude.{is_some}
-use Rattle.camp_why.proofs.Words.{◌++◌, ◌≡◌, ◌∙◌, ◌∷◌, ℕ, Bool, true, false, List, [], None, Some, Option, Result, Ok, Err, ap, bytes_eq, bytes_eq-Decides, false≢true, length, nat_le, option_map_or, refl, subst, sym, Files, InRange, Primitive}
-use Rattle.camp_why.proofs.Causing.{refusals_explained}
+use Rattle.camp_why.proofs.Words.{◌++◌, ◌≡◌, ◌∙◌, ◌∷◌, ℕ, Bool, true, false, List, [], None, Some, Option, Result, Ok, Err, ap, bytes_eq, bytes_eq-Decides, false≢true, length, ltb-true, nat_le, ◌+◌, option_map_or, refl, subst, sym, Files, InRange, Primitive}
+use Rattle.camp_why.proofs.Causing.{is_large, stops}
 use Rattle.camp_why.proofs.Stopping.{stops_with}
-use Rattle.camp_branch.specs.Branches.{first_lacked, recorded}
+use Rattle.camp_branch.specs.Branches.{LeadsTo, first_lacked, recorded}
 use Rattle.camp_branch.specs.Pulling.{Outcome}
 use Rattle.camp_branch.specs.declared.faults.Blocked.{Blocked}
 use Rattle.camp_branch.specs.declared.faults.Blocked.TheVariants as blocked
@@ -19,13 +19,16 @@ use Rattle.camp_call.specs.declared.replies.Refusal.TheVariants.{BranchExists, D
 use Rattle.camp_object.specs.declared.objects.Decided.TheVariants.{Answer}
 use Rattle.camp_repo.proofs.Effects.{lawful_branch}
 use Rattle.camp_repo.proofs.TreeSteps.{tree_found}
+use Rattle.camp_repo.specs.Laws.{Has}
 use Rattle.camp_repo.specs.Lawful.{IsLawfulState}
 use Rattle.camp_repo.specs.Outcomes.{obliterated, pulled}
-use Rattle.camp_repo.specs.States.{Contents, catches_of, stands, tree_of}
-use Rattle.camp_repo.specs.Steps.{Decision, accepted, becomes, changed, is_empty, is_full_with, is_too_large, listed, most_branches, record_leads, refusal_of, refused, refused_if, shown, step, wanted}
-use Rattle.camp_why.specs.Causes.{is_of_changes}
+use Rattle.camp_repo.specs.States.{Contents, catches_of, stands}
+use Rattle.camp_repo.specs.Steps.{Decision, accepted, becomes, changed, is_empty, is_full_with, is_too_large, listed, most_branches, most_catches, record_leads, refusal_of, refused, refused_if, shown, step, wanted}
+use Rattle.std.proofs.lemmas.Bool.{leb-true}
+use Rattle.camp_why.specs.Causes.{brought, full_with_pull, is_of_changes, is_of_limit}
+use Rattle.camp_why.specs.declared.causes.Cause.TheVariants.{FullRepository, FullWithPull}
 use Rattle.camp_why.specs.Grounds.{IsBlockedBy, IsGround, RefusalsHaveGrounds}
-use Rattle.camp_why.specs.Laws.{IsExplained}
+use Rattle.camp_why.specs.Laws.{IsExplained, RefusalsAreExplained, wants_cause}
 use Rattle.camp_why.specs.Stops.{refusal_at}
 use Rattle.camp_why.specs.declared.stops.Hindrance.{Hindrance}
 use Rattle.camp_why.specs.declared.stops.Hindrance.TheVariants as hindrance
@@ -73,11 +76,6 @@ module _ {X : Type 0} (refusal : Refusal) where
   by_outcome state branch (Ok catches) e is = not_refused (becomes state branch (Ok catches)) refl e
   by_outcome state branch (Err why) e is = is why refl (same_refusal (refusal_of why) refusal e)
 
-  by_tree : (found : Option Files) (goes_on : Files → Decision) → option_map_or goes_on found (refused DoesNotApply) ≡ refused refusal
-      → (DoesNotApply ≡ refusal → X) → ((tree : Files) → goes_on tree ≡ refused refusal → X) → X
-  by_tree None goes_on e none some = none (same_refusal DoesNotApply refusal e)
-  by_tree (Some tree) goes_on e none some = some tree e
-
 -- ---- what the tests say
 
 found_some : (found : Option (List Catch)) → is_some found ≡ true → (catches : List Catch) × (found ≡ Some catches)
@@ -88,24 +86,10 @@ none_in : (names : List (List ℕ)) → is_empty names ≡ true → names ≡ []
 none_in [] e = refl
 none_in (name ∷ names) e = absurd (false≢true e)
 
-of_hindrance : (why : Hindrance) → is_of_changes (refusal_at why) ≡ true
-of_hindrance (hindrance.Misfit misfit) = refl
-of_hindrance (hindrance.TooLong count) = refl
-
--- a refusal by a limit or by changes has its cause for a ground
-explained_ground : (state : Contents) (asked : Call) (refusal : Refusal) → is_of_changes refusal ≡ true → IsExplained state asked refusal
-    → IsGround state asked refusal
-explained_ground state asked TooLarge of explains = explains
-explained_ground state asked DoesNotApply of explains = explains
-explained_ground state asked (NoBranch name) of explains = absurd (false≢true of)
-explained_ground state asked (BranchExists name) of explains = absurd (false≢true of)
-explained_ground state asked (PatchExists name) of explains = absurd (false≢true of)
-explained_ground state asked (NoPatch name) of explains = absurd (false≢true of)
-explained_ground state asked NothingToDo of explains = absurd (false≢true of)
-explained_ground state asked (Depends patch on) of explains = absurd (false≢true of)
-explained_ground state asked (Diverged name) of explains = absurd (false≢true of)
-explained_ground state asked (NoMerge left right) of explains = absurd (false≢true of)
-explained_ground state asked (SameBranch name) of explains = absurd (false≢true of)
+-- a stop has its cause for a ground
+stop_ground : (state : Contents) (asked : Call) (why : Hindrance) → IsExplained state asked (refusal_at why) → IsGround state asked (refusal_at why)
+stop_ground state asked (hindrance.Misfit misfit) explains = explains
+stop_ground state asked (hindrance.TooLong count) explains = explains
 
 -- what blocks a pull or an obliteration is the ground of its refusal
 blocked_ground : (state : Contents) (asked : Call) (why : Blocked) → IsBlockedBy state asked why
@@ -129,29 +113,13 @@ module _ (state : Contents) (lawful : IsLawfulState state) (refusal : Refusal) w
       (λ catches has e1. by_test refusal (is_some (catches_of state.branches new)) (BranchExists new) _ e1
       (λ there same. ground asked (BranchExists new) same (refl, found_some (catches_of state.branches new) there))
       (λ free e2. by_test refusal (nat_le most_branches (length state.branches)) TooLarge _ e2
-      (λ full same. ground asked TooLarge same
-      (refusals_explained state asked TooLarge lawful tt tt (e ∙ ap refused (sym same)) refl))
+      (λ full same. ground asked TooLarge same (record {
+        cause = FullRepository (length state.branches);
+        told = refl;
+        of = refl;
+        is_so = record { new = new; from = from; copies = refl; counts = refl; full = leb-true most_branches (length state.branches) full };
+      }))
       (λ room e3. not_refused refusal (accepted state (state.branches ++ (new, catches) ∷ [])) refl e3)))
-
-  -- a record is refused for its branch, for its name or for its changes
-  of_changes : (branch name : List ℕ) (changes : List Primitive) (catches : List Catch) → AllByRecursion InRange changes
-      → refused_if (is_too_large catches changes) TooLarge
-      (option_map_or (λ tree. record_leads state branch (catches ++ recorded name 1 changes) (changed changes tree)) (tree_of catches) (refused DoesNotApply))
-      ≡ refused refusal
-      → is_of_changes refusal ≡ true
-  of_changes branch name changes catches range e =
-      by_test refusal (is_too_large catches changes) TooLarge _ e
-      (λ large same. sym (ap is_of_changes same))
-      (λ small e1. by_tree refusal (tree_of catches) _ e1
-      (λ same. sym (ap is_of_changes same))
-      (λ tree e2. by_led tree (changed changes tree) refl e2))
-    where
-      by_led : (tree : Files) (led : Result Files Refusal) → changed changes tree ≡ led
-          → record_leads state branch (catches ++ recorded name 1 changes) led ≡ refused refusal → is_of_changes refusal ≡ true
-      by_led tree (Ok next) is e = not_refused refusal (record_leads state branch (catches ++ recorded name 1 changes) (Ok next)) refl e
-      by_led tree (Err why) is e =
-          let with_stop = stops_with 1 changes tree why range is in
-          sym (ap is_of_changes (same_refusal why refusal e)) ∙ sym (ap is_of_changes with_stop.of) ∙ of_hindrance with_stop.stop.why
 
   of_record : (branch name : List ℕ) (changes : List Primitive) → IsCall (call.Record branch name changes) → AllByRecursion InRange changes
       → step state (call.Record branch name changes) ≡ refused refusal → IsGround state (call.Record branch name changes) refusal
@@ -161,9 +129,22 @@ module _ (state : Contents) (lawful : IsLawfulState state) (refusal : Refusal) w
       (λ none same. ground asked (NoBranch branch) same (refl, none))
       (λ catches has e1. by_test refusal (stands state.branches name) (PatchExists name) _ e1
       (λ there same. ground asked (PatchExists name) same (refl, there))
-      (λ free e2.
-      let of = of_changes branch name changes catches range e2 in
-      explained_ground state asked refusal of (refusals_explained state asked refusal lawful size range e of)))
+      (λ free e2. by_test refusal (is_too_large catches changes) TooLarge _ e2
+      (λ large same. ground asked TooLarge same (is_large state branch name changes catches has large size))
+      (λ small e3.
+      let by = lawful_branch state lawful branch catches has in
+      by_led catches has small by.tree by.leads (changed changes by.tree) refl
+      (ap (λ found. option_map_or (λ tree. record_leads state branch (catches ++ recorded name 1 changes) (changed changes tree)) found (refused DoesNotApply))
+      (sym (tree_found catches by.tree by.leads)) ∙ e3))))
+    where
+      by_led : (catches : List Catch) → Has state branch catches → is_too_large catches changes ≡ false → (tree : Files) → LeadsTo catches tree
+          → (led : Result Files Refusal) → changed changes tree ≡ led
+          → record_leads state branch (catches ++ recorded name 1 changes) led ≡ refused refusal → IsGround state (call.Record branch name changes) refusal
+      by_led catches has small tree leads (Ok next) is e = not_refused refusal (record_leads state branch (catches ++ recorded name 1 changes) (Ok next)) refl e
+      by_led catches has small tree leads (Err why) is e =
+          let with_stop = stops_with 1 changes tree why range is in
+          ground (call.Record branch name changes) (refusal_at with_stop.stop.why) (with_stop.of ∙ same_refusal why refusal e)
+          (stop_ground state (call.Record branch name changes) with_stop.stop.why (stops state branch name changes catches has small tree leads why with_stop))
 
   of_pull : (from to : List ℕ) (names : Option (List (List ℕ))) → step state (call.Pull from to names) ≡ refused refusal
       → IsGround state (call.Pull from to names) refusal
@@ -180,8 +161,24 @@ module _ (state : Contents) (lawful : IsLawfulState state) (refusal : Refusal) w
       (λ all e4. by_test refusal (is_empty (wanted ours (listed theirs names))) NothingToDo _ e4
       (λ none same. ground asked NothingToDo same (theirs, ours, from_has, to_has, none_in (wanted ours (listed theirs names)) none))
       (λ some e5. by_test refusal (is_full_with ours theirs (wanted ours (listed theirs names))) TooLarge _ e5
-      (λ full same. ground asked TooLarge same
-      (refusals_explained state asked TooLarge lawful tt tt (e ∙ ap refused (sym same)) refl))
+      (λ full same. ground asked TooLarge same (record {
+        cause = FullWithPull (length ours) (length (brought theirs ours names));
+        told = (λ j. full_with_pull (from_has j) (to_has j) names);
+        of = refl;
+        is_so = record {
+          from = from;
+          to = to;
+          names = names;
+          pulls = refl;
+          theirs = theirs;
+          ours = ours;
+          from_has = from_has;
+          to_has = to_has;
+          counts = refl;
+          brings = refl;
+          full = ltb-true most_catches (length ours + length (brought theirs ours names)) full;
+        };
+      }))
       (λ room e6. by_outcome refusal state to (pulled theirs ours (wanted ours (listed theirs names))) e6
       (λ why is same. ground asked (refusal_of why) same
       (blocked_ground state asked why (theirs, ours, from_has, to_has, is)))))))))
@@ -227,3 +224,18 @@ have_grounds state (call.Obliterate branch names) refusal lawful is range e = of
 have_grounds state (call.Tree branch) refusal lawful is range e = of_tree state lawful refusal branch e
 have_grounds state (call.Conflicts branch) refusal lawful is range e = of_conflicts state lawful refusal branch e
 have_grounds state (call.Names branch) refusal lawful is range e = of_names state lawful refusal branch e
+
+-- ---- where a refusal does not say all, its ground is a cause
+
+unwanted : (asked : Call) (refusal : Refusal) → is_of_changes refusal ≡ false → is_of_limit refusal ≡ false → wants_cause asked refusal ≡ false
+unwanted (call.Record branch name made) refusal changes limit = changes
+unwanted other refusal changes limit = limit
+
+ground_explains : (state : Contents) (asked : Call) (refusal : Refusal) → IsGround state asked refusal → wants_cause asked refusal ≡ true → IsExplained state asked refusal
+ground_explains state asked TooLarge is wants = is
+ground_explains state asked DoesNotApply is wants = is
+ground_explains state asked other is wants = absurd (false≢true (sym (unwanted asked other refl refl) ∙ wants))
+
+pub refusals_explained : RefusalsAreExplained
+refusals_explained state asked refusal lawful is range e wants =
+    ground_explains state asked refusal (have_grounds state asked refusal lawful is range e) wants

@@ -53,13 +53,16 @@ record FindsOther (at : ℕ) (old lines : Lines) (why : Misfit) : Type 0 where
 differ : (stands expected : List ℕ) → bytes_eq stands expected ≡ false → stands ≢ expected
 differ stands expected unlike same = false≢true (sym unlike ∙ (bytes_eq-Decides stands expected).1 same)
 
+-- what is found where old lines are set beside those that stand there: the first that is another one; else all are alike, and
+-- stand there where there are as many
+abbrev Compares : ℕ → Lines → Lines → Option Misfit → Type 0
+Compares at old lines (Some why) = FindsOther at old lines why
+Compares at old lines None = AlikeUpTo (length old) old lines × (length old ≤ length lines → take (length old) lines ≡ old)
+
 -- by whether the first line is another one
-other_by : (at : ℕ) (expected stands : List ℕ) (old lines : Lines) (why : Misfit)
-    → (other_line (suc at) old lines ≡ Some why → FindsOther (suc at) old lines why) → (b : Bool) → bytes_eq stands expected ≡ b
-    → cond b (other_line (suc at) old lines) (Some (OtherLine at stands expected)) ≡ Some why
-    → FindsOther at (expected ∷ old) (stands ∷ lines) why
-other_by at expected stands old lines why behind true is e =
-    let rest = behind e in
+first_by : (at : ℕ) (expected stands : List ℕ) (old lines : Lines) (b : Bool) → bytes_eq stands expected ≡ b → (found : Option Misfit) → Compares (suc at) old lines found
+    → Compares at (expected ∷ old) (stands ∷ lines) (cond b found (Some (OtherLine at stands expected)))
+first_by at expected stands old lines true is (Some why) rest =
     let place : suc at + rest.before ≡ at + suc rest.before = omega arith in
     record {
       before = suc rest.before;
@@ -71,61 +74,60 @@ other_by at expected stands old lines why behind true is e =
       other = rest.other;
       alike = alike_more rest.before expected stands old lines ((bytes_eq-Decides stands expected).0 is) rest.alike;
     }
-other_by at expected stands old lines why behind false is e =
+first_by at expected stands old lines true is None rest =
+    let same = (bytes_eq-Decides stands expected).0 is in (
+      alike_more (length old) expected stands old lines same rest.0,
+      (λ within. let behind = rest.1 (omega (arith, within)) in (λ j. same j ∷ behind j)),
+    )
+first_by at expected stands old lines false is found rest =
     let place : at ≡ at + 0 = omega arith in
     record {
       before = 0;
       stands = stands;
       expected = expected;
-      is = sym (same_Some _ _ e) ∙ ap (λ n. OtherLine n stands expected) place;
+      is = ap (λ n. OtherLine n stands expected) place;
       is_expected = refl;
       is_there = refl;
       other = differ stands expected is;
       alike = λ at stands expected within. absurd (omega (arith, within));
     }
 
-finds_other : (at : ℕ) (old lines : Lines) (why : Misfit) → other_line at old lines ≡ Some why → FindsOther at old lines why
-finds_other at [] lines why e = absurd (none-some why e)
-finds_other at (expected ∷ old) [] why e = absurd (none-some why e)
-finds_other at (expected ∷ old) (stands ∷ lines) why e =
-    other_by at expected stands old lines why (finds_other (suc at) old lines why) (bytes_eq stands expected) refl e
+compares : (at : ℕ) (old lines : Lines) → Compares at old lines (other_line at old lines)
+compares at [] [] = ((λ k stands expected within. absurd (omega (arith, within))), (λ within. refl))
+compares at [] (line ∷ lines) = ((λ k stands expected within. absurd (omega (arith, within))), (λ within. refl))
+compares at (expected ∷ old) [] = (
+  (λ k stands other within is_expected is_there. absurd (none-some _ (sym (slice_get_past {X = List ℕ} [] k (omega arith)) ∙ is_there))),
+  (λ within. absurd (omega (arith, within))),
+)
+compares at (expected ∷ old) (stands ∷ lines) =
+    first_by at expected stands old lines (bytes_eq stands expected) refl (other_line (suc at) old lines) (compares (suc at) old lines)
 
-alike_by : (at : ℕ) (expected stands : List ℕ) (old lines : Lines) → (other_line (suc at) old lines ≡ None → AlikeUpTo (length old) old lines)
-    → (b : Bool) → bytes_eq stands expected ≡ b
-    → cond b (other_line (suc at) old lines) (Some (OtherLine at stands expected)) ≡ None
-    → AlikeUpTo (length (expected ∷ old)) (expected ∷ old) (stands ∷ lines)
-alike_by at expected stands old lines behind true is e =
-    alike_more (length old) expected stands old lines ((bytes_eq-Decides stands expected).0 is) (behind e)
-alike_by at expected stands old lines behind false is e = absurd (none-some _ (sym e))
+-- ---- the reason that is told is one, and where none is told, the change applies
 
--- where no line is another one, the old lines are those that stand there
-all_alike : (at : ℕ) (old lines : Lines) → other_line at old lines ≡ None → AlikeUpTo (length old) old lines
-all_alike at [] lines e = λ k stands expected within. absurd (omega (arith, within))
-all_alike at (expected ∷ old) [] e = λ k stands other within is_expected is_there. absurd (none-some _ (sym (slice_get_past {X = List ℕ} [] k (omega arith)) ∙ is_there))
-all_alike at (expected ∷ old) (stands ∷ lines) e =
-    alike_by at expected stands old lines (all_alike (suc at) old lines) (bytes_eq stands expected) refl e
+-- where the old lines stand, others can be put in their place
+can_splice : (hunk : Edit) (lines : Lines) → 1 ≤ hunk.line → hunk.line - 1 + length hunk.old ≤ length lines
+    → take (length hunk.old) (drop (hunk.line - 1) lines) ≡ hunk.old
+    → (changed : Lines) × SplicesLines hunk.line hunk.old hunk.new lines changed
+can_splice hunk lines positive within same =
+    let start = hunk.line - 1 in
+    let size : length (take start lines) ≡ start = length-take-le start lines (omega (arith, within)) in
+    let behind : drop start lines ≡ hunk.old ++ drop (start + length hunk.old) lines =
+    sym (take-append-drop (length hunk.old) (drop start lines)) ∙ (λ j. same j ++ drop-drop (length hunk.old) start lines j) in (
+      take start lines ++ hunk.new ++ drop (start + length hunk.old) lines,
+      record {
+        before = take start lines;
+        after = drop (start + length hunk.old) lines;
+        at = omega (arith, size, positive);
+        was = sym (take-append-drop start lines) ∙ ap (λ (ls : Lines). take start lines ++ ls) behind
+            ∙ sym (append_assoc (take start lines) hunk.old (drop (start + length hunk.old) lines));
+        becomes = refl;
+      },
+    )
 
-stand_by : (at : ℕ) (expected stands : List ℕ) (old lines : Lines) → (other_line (suc at) old lines ≡ None → take (length old) lines ≡ old)
-    → (b : Bool) → bytes_eq stands expected ≡ b
-    → cond b (other_line (suc at) old lines) (Some (OtherLine at stands expected)) ≡ None
-    → take (length (expected ∷ old)) (stands ∷ lines) ≡ expected ∷ old
-stand_by at expected stands old lines behind true is e =
-    (λ j. (bytes_eq-Decides stands expected).0 is j ∷ behind e j)
-stand_by at expected stands old lines behind false is e = absurd (none-some _ (sym e))
-
--- where no line is another one, the old lines stand there
-all_stand : (at : ℕ) (old lines : Lines) → length old ≤ length lines → other_line at old lines ≡ None → take (length old) lines ≡ old
-all_stand at [] [] within e = refl
-all_stand at [] (line ∷ lines) within e = refl
-all_stand at (expected ∷ old) [] within e = absurd (omega (arith, within))
-all_stand at (expected ∷ old) (stands ∷ lines) within e =
-    stand_by at expected stands old lines (all_stand (suc at) old lines (omega (arith, within))) (bytes_eq stands expected) refl e
-
--- ---- the reason that is told is one
-
-module _ (change : Primitive) (tree : Files) (why : Misfit) where
-  told_as : (other : Misfit) → Some other ≡ Some why → IsMisfit change tree other → IsMisfit change tree why
-  told_as other e is = subst (IsMisfit change tree) (same_Some _ _ e) is
+-- a reason is one; where there is none, a change in range applies
+abbrev Verdict : Primitive → Files → Option Misfit → Type 0
+Verdict change tree (Some why) = IsMisfit change tree why
+Verdict change tree None = InRange change → (next : Files) × Applies change tree next
 
 module _ (hunk : Edit) (tree : Files) (lines : Lines) (found : get tree hunk.path ≡ Some lines) where
   edits : Edits (Hunk hunk) tree hunk lines
@@ -137,9 +139,8 @@ module _ (hunk : Edit) (tree : Files) (lines : Lines) (found : get tree hunk.pat
       alike at stands expected within is_expected (get_drop lines (hunk.line - 1) at ∙ is_there)
 
   -- another line stands there
-  other_told : (why : Misfit) → other_line hunk.line hunk.old (drop (hunk.line - 1) lines) ≡ Some why → IsMisfit (Hunk hunk) tree why
-  other_told why e =
-      let finds = finds_other hunk.line hunk.old (drop (hunk.line - 1) lines) why e in
+  other_told : (why : Misfit) → FindsOther hunk.line hunk.old (drop (hunk.line - 1) lines) why → IsMisfit (Hunk hunk) tree why
+  other_told why finds =
       let is_so : IsMisfit (Hunk hunk) tree (OtherLine (hunk.line + finds.before) finds.stands finds.expected) =
       record {
         hunk = hunk;
@@ -154,55 +155,57 @@ module _ (hunk : Edit) (tree : Files) (lines : Lines) (found : get tree hunk.pat
       } in
       subst (IsMisfit (Hunk hunk) tree) (sym finds.is) is_so
 
-  -- the file ends before
-  end_told : (why : Misfit) → other_line hunk.line hunk.old (drop (hunk.line - 1) lines) ≡ None
-      → (b : Bool) → nat_lt (length lines) (hunk.line - 1 + length hunk.old) ≡ b
-      → cond b (Some (EndsBefore (length lines) (hunk.line - 1 + length hunk.old) (lacking_at hunk (length lines)) (lacking hunk (length lines)))) None ≡ Some why
-      → IsMisfit (Hunk hunk) tree why
-  end_told why none true is e =
-      told_as (Hunk hunk) tree why (EndsBefore (length lines) (hunk.line - 1 + length hunk.old) (lacking_at hunk (length lines)) (lacking hunk (length lines))) e (record {
-        hunk = hunk;
-        lines = lines;
-        edits = edits;
-        counts = refl;
-        reaches = refl;
-        behind = ltb-true (length lines) (hunk.line - 1 + length hunk.old) is;
-        alike = in_file (length hunk.old) (all_alike hunk.line hunk.old (drop (hunk.line - 1) lines) none);
-        is_lacked = refl;
-        is_at = refl;
-      })
-  end_told why none false is e = absurd (none-some why e)
+  -- the file ends before, or the old lines stand there
+  by_end : Compares hunk.line hunk.old (drop (hunk.line - 1) lines) None → (b : Bool) → nat_lt (length lines) (hunk.line - 1 + length hunk.old) ≡ b
+      → Verdict (Hunk hunk) tree (cond b (Some (EndsBefore (length lines) (hunk.line - 1 + length hunk.old) (lacking_at hunk (length lines)) (lacking hunk (length lines)))) None)
+  by_end none true is = record {
+    hunk = hunk;
+    lines = lines;
+    edits = edits;
+    counts = refl;
+    reaches = refl;
+    behind = ltb-true (length lines) (hunk.line - 1 + length hunk.old) is;
+    alike = in_file (length hunk.old) none.0;
+    is_lacked = refl;
+    is_at = refl;
+  }
+  by_end none false is =
+      λ range.
+      let enough = ltb-false (length lines) (hunk.line - 1 + length hunk.old) is in
+      let stand = none.1 (omega (arith, enough, length-drop (hunk.line - 1) lines)) in
+      let (changed, splices) = can_splice hunk lines range.counted enough stand in
+      (insert tree hunk.path changed, record { lines = lines; changed = changed; found = found; splices = splices; becomes = refl })
 
-  told_of_lines : (why : Misfit) (other : Option Misfit) → other_line hunk.line hunk.old (drop (hunk.line - 1) lines) ≡ other
-      → misfit_or other (ends_before hunk (length lines)) ≡ Some why → IsMisfit (Hunk hunk) tree why
-  told_of_lines why (Some other) is e = other_told why (is ∙ e)
-  told_of_lines why None is e = end_told why is (nat_lt (length lines) (hunk.line - 1 + length hunk.old)) refl e
+  by_lines : (other : Option Misfit) → Compares hunk.line hunk.old (drop (hunk.line - 1) lines) other
+      → Verdict (Hunk hunk) tree (misfit_or other (ends_before hunk (length lines)))
+  by_lines (Some why) finds = other_told why finds
+  by_lines None none = by_end none (nat_lt (length lines) (hunk.line - 1 + length hunk.old)) refl
+
+verdict : (change : Primitive) (tree : Files) → Verdict change tree (why_not change tree)
+verdict (Add path) tree = by (get tree path) refl
+  where
+    by : (found : Option Lines) → get tree path ≡ found → Verdict (Add path) tree (add_misfit found)
+    by None is = λ range. (_, record { absent = is; becomes = refl })
+    by (Some lines) is = record { path = path; adds = refl; lines = lines; found = is }
+verdict (Remove path) tree = by (get tree path) refl
+  where
+    by : (found : Option Lines) → get tree path ≡ found → Verdict (Remove path) tree (remove_misfit found)
+    by None is = record { wants = refl; absent = is }
+    by (Some []) is = λ range. (_, record { empty = is; becomes = refl })
+    by (Some (line ∷ lines)) is =
+        record { path = path; removes = refl; lines = line ∷ lines; found = is; counts = refl; some = λ none. omega (arith, none) }
+verdict (Hunk hunk) tree = by (get tree hunk.path) refl
+  where
+    by : (found : Option Lines) → get tree hunk.path ≡ found → Verdict (Hunk hunk) tree (edit_misfit hunk found)
+    by None is = record { wants = refl; absent = is }
+    by (Some lines) is =
+        by_lines hunk tree lines is (other_line hunk.line hunk.old (drop (hunk.line - 1) lines)) (compares hunk.line hunk.old (drop (hunk.line - 1) lines))
 
 pub is_told : (change : Primitive) (tree : Files) (why : Misfit) → why_not change tree ≡ Some why → IsMisfit change tree why
-is_told (Add path) tree why e = by (get tree path) refl e
-  where
-    by : (found : Option Lines) → get tree path ≡ found → add_misfit found ≡ Some why → IsMisfit (Add path) tree why
-    by None is e = absurd (none-some why e)
-    by (Some lines) is e =
-        told_as (Add path) tree why FileIsThere e (record { path = path; adds = refl; lines = lines; found = is })
-is_told (Remove path) tree why e = by (get tree path) refl e
-  where
-    by : (found : Option Lines) → get tree path ≡ found → remove_misfit found ≡ Some why → IsMisfit (Remove path) tree why
-    by None is e = told_as (Remove path) tree why NoFile e (record { wants = refl; absent = is })
-    by (Some []) is e = absurd (none-some why e)
-    by (Some (line ∷ lines)) is e = told_as (Remove path) tree why (HasLines (length (line ∷ lines))) e (record {
-      path = path;
-      removes = refl;
-      lines = line ∷ lines;
-      found = is;
-      counts = refl;
-      some = λ none. omega (arith, none);
-    })
-is_told (Hunk hunk) tree why e = by (get tree hunk.path) refl e
-  where
-    by : (found : Option Lines) → get tree hunk.path ≡ found → edit_misfit hunk found ≡ Some why → IsMisfit (Hunk hunk) tree why
-    by None is e = told_as (Hunk hunk) tree why NoFile e (record { wants = refl; absent = is })
-    by (Some lines) is e = told_of_lines hunk tree lines is why (other_line hunk.line hunk.old (drop (hunk.line - 1) lines)) refl e
+is_told change tree why e = subst (Verdict change tree) e (verdict change tree)
+
+pub none_applies : (change : Primitive) (tree : Files) → InRange change → why_not change tree ≡ None → (next : Files) × Applies change tree next
+none_applies change tree range e = subst (Verdict change tree) e (verdict change tree) range
 
 -- ---- where it is one, the change does not apply
 
@@ -256,63 +259,6 @@ not_applied change tree next (EndsBefore has wants at lacks) m applies =
 not_applied change tree next (OtherLine at stands expected) m applies =
     let splices = subst (λ c. Applies c tree next) m.edits.edits applies in
     not_other m.hunk m.lines splices.lines splices.changed (same_Some _ _ (sym m.edits.found ∙ splices.found)) splices.splices m.before stands expected m.is_expected m.is_there m.other
-
--- ---- where none is told, it applies
-
--- where the old lines stand, others can be put in their place
-can_splice : (hunk : Edit) (lines : Lines) → 1 ≤ hunk.line → hunk.line - 1 + length hunk.old ≤ length lines
-    → take (length hunk.old) (drop (hunk.line - 1) lines) ≡ hunk.old
-    → (changed : Lines) × SplicesLines hunk.line hunk.old hunk.new lines changed
-can_splice hunk lines positive within same =
-    let start = hunk.line - 1 in
-    let size : length (take start lines) ≡ start = length-take-le start lines (omega (arith, within)) in
-    let behind : drop start lines ≡ hunk.old ++ drop (start + length hunk.old) lines =
-    sym (take-append-drop (length hunk.old) (drop start lines)) ∙ (λ j. same j ++ drop-drop (length hunk.old) start lines j) in (
-      take start lines ++ hunk.new ++ drop (start + length hunk.old) lines,
-      record {
-        before = take start lines;
-        after = drop (start + length hunk.old) lines;
-        at = omega (arith, size, positive);
-        was = sym (take-append-drop start lines) ∙ ap (λ (ls : Lines). take start lines ++ ls) behind
-            ∙ sym (append_assoc (take start lines) hunk.old (drop (start + length hunk.old) lines));
-        becomes = refl;
-      },
-    )
-
-module _ (hunk : Edit) (tree : Files) (lines : Lines) (positive : 1 ≤ hunk.line) (found : get tree hunk.path ≡ Some lines) where
-  reaches : other_line hunk.line hunk.old (drop (hunk.line - 1) lines) ≡ None
-      → (b : Bool) → nat_lt (length lines) (hunk.line - 1 + length hunk.old) ≡ b
-      → cond b (Some (EndsBefore (length lines) (hunk.line - 1 + length hunk.old) (lacking_at hunk (length lines)) (lacking hunk (length lines)))) None ≡ None
-      → (next : Files) × Applies (Hunk hunk) tree next
-  reaches none true is e = absurd (none-some _ (sym e))
-  reaches none false is e =
-      let enough = ltb-false (length lines) (hunk.line - 1 + length hunk.old) is in
-      let stand = all_stand hunk.line hunk.old (drop (hunk.line - 1) lines) (omega (arith, enough, length-drop (hunk.line - 1) lines)) none in
-      let (changed, splices) = can_splice hunk lines positive enough stand in
-      (insert tree hunk.path changed, record { lines = lines; changed = changed; found = found; splices = splices; becomes = refl })
-
-  edit_applies : (other : Option Misfit) → other_line hunk.line hunk.old (drop (hunk.line - 1) lines) ≡ other
-      → misfit_or other (ends_before hunk (length lines)) ≡ None → (next : Files) × Applies (Hunk hunk) tree next
-  edit_applies (Some why) is e = absurd (none-some _ (sym e))
-  edit_applies None is e = reaches is (nat_lt (length lines) (hunk.line - 1 + length hunk.old)) refl e
-
-pub none_applies : (change : Primitive) (tree : Files) → InRange change → why_not change tree ≡ None → (next : Files) × Applies change tree next
-none_applies (Add path) tree range e = by (get tree path) refl e
-  where
-    by : (found : Option Lines) → get tree path ≡ found → add_misfit found ≡ None → (next : Files) × Applies (Add path) tree next
-    by None is e = (_, record { absent = is; becomes = refl })
-    by (Some lines) is e = absurd (none-some _ (sym e))
-none_applies (Remove path) tree range e = by (get tree path) refl e
-  where
-    by : (found : Option Lines) → get tree path ≡ found → remove_misfit found ≡ None → (next : Files) × Applies (Remove path) tree next
-    by None is e = absurd (none-some _ (sym e))
-    by (Some []) is e = (_, record { empty = is; becomes = refl })
-    by (Some (line ∷ lines)) is e = absurd (none-some _ (sym e))
-none_applies (Hunk hunk) tree range e = by (get tree hunk.path) refl e
-  where
-    by : (found : Option Lines) → get tree hunk.path ≡ found → edit_misfit hunk found ≡ None → (next : Files) × Applies (Hunk hunk) tree next
-    by None is e = absurd (none-some _ (sym e))
-    by (Some lines) is e = edit_applies hunk tree lines range.counted is (other_line hunk.line hunk.old (drop (hunk.line - 1) lines)) refl e
 
 -- ---- line by line
 

@@ -97,10 +97,7 @@ is_so kind.BadNumber line =
     (both (begins_with (codes "help") (words_of line)) (begins_zero (number_word line))) (λ none. tt))))
 is_so kind.BadEdit line = in_body kind.BadEdit line refl refl refl
 is_so kind.BadLine line = pick (IsSeen kind.BadLine line) (is_cut line) seen.TooLong seen.Nothing (λ e. e) (λ none. tt)
-is_so kind.EditNotEnded line = tt
-is_so kind.TooManyClients line = tt
-is_so kind.TooManyCommands line = tt
-is_so kind.GroupNotEnded line = tt
+is_so other line = tt
 
 -- ---- where nothing is told
 
@@ -147,9 +144,8 @@ no_form line unsigned none =
 
 -- of a line without a sign something is told
 tells_some : (returns capitals : Bool) → is_nothing (cond returns seen.CarriageReturn (cond capitals seen.Capitals seen.NoSign)) ≡ false
-tells_some true capitals = refl
 tells_some false true = refl
-tells_some false false = refl
+tells_some returns capitals = refl
 
 plus : (test : Bool) (other : Hint) → is_nothing other ≡ false → cond test seen.Nothing other ≡ seen.Nothing → test ≡ true
 plus true other some none = refl
@@ -184,10 +180,7 @@ shows_nothing kind.BadNumber line none =
     (end.0, returns.0, zero.0, (passed (has_zero_in_front line) seen.ZeroInFront seen.Nothing refl zero.1).0)
 shows_nothing kind.BadLine line none = (passed (is_cut line) seen.TooLong seen.Nothing refl none).0
 shows_nothing kind.BadEdit line none = new_line line none
-shows_nothing kind.EditNotEnded line none = tt
-shows_nothing kind.TooManyClients line none = tt
-shows_nothing kind.TooManyCommands line none = tt
-shows_nothing kind.GroupNotEnded line none = tt
+shows_nothing other line none = tt
 
 pub are_seen : HintsAreSeen
 are_seen = record { told = is_so; none = shows_nothing }

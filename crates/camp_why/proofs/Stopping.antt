@@ -1,7 +1,7 @@
 -- Changes that are made one after the other, up to one that can't be.
 use Rattle.std.proofs.Common.{Err, Ok, Result}
 use Rattle.std.specs.List.{AllByRecursion}
-use Rattle.camp_why.proofs.Words.{◌+◌, ◌≡◌, ◌∙◌, ◌∷◌, ℕ, suc, Bool, true, false, cond, List, [], length, drop, drop_all, take, slice_get, None, Some, Option, ap, arith, ltb-true, nat_lt, none-some, option_map_or, refl, same_Some, subst, sym, get, Files, Lines, AppliesEach, Applies, Applies-from_applied, InRange, Primitive, applied, applied-from_Applies, path_of, why_not, Misfit}
+use Rattle.camp_why.proofs.Words.{◌+◌, ◌≡◌, ◌∙◌, ◌∷◌, ℕ, suc, Bool, true, false, cond, List, [], length, drop, drop_all, take, slice_get, None, Some, Option, ap, arith, ltb-true, nat_lt, none-some, option_map_or, refl, subst, sym, get, Files, Lines, AppliesEach, Applies, Applies-from_applied, InRange, Primitive, applied, applied-from_Applies, path_of, why_not, Misfit}
 use Rattle.camp_why.proofs.Misfitting.{at_front, is_told, none_applies, not_applied}
 use Rattle.camp_call.specs.declared.replies.Refusal.{Refusal}
 use Rattle.camp_call.specs.declared.replies.Refusal.TheVariants.{DoesNotApply, TooLarge}
@@ -40,38 +40,37 @@ stop_none changes at met all = ap (λ (cs : List Primitive). first_stop (suc at)
 
 -- ---- the reason that is told is one
 
-module _ (change : Primitive) (tree : Files) (why : Hindrance) where
-  long_told : (next : Files) → applied change tree ≡ Some next → (found : Option Lines) → get next (path_of change) ≡ found
-      → long_file found ≡ Some why → IsHindrance change tree why
-  long_told next made None is e = absurd (none-some why e)
-  long_told next made (Some lines) is e = by (nat_lt longest_file (length lines)) refl e
-    where
-      by : (b : Bool) → nat_lt longest_file (length lines) ≡ b → cond b (Some (hindrance_of.TooLong (length lines))) None ≡ Some why
-          → IsHindrance change tree why
-      by true long e =
-          let is_so : IsHindrance change tree (hindrance_of.TooLong (length lines)) =
-          record {
-            next = next;
-            applies = Applies-from_applied change tree next made;
-            lines = lines;
-            found = is;
-            counts = refl;
-            long = ltb-true longest_file (length lines) long;
-          } in
-          subst (IsHindrance change tree) (same_Some _ _ e) is_so
-      by false long e = absurd (none-some why e)
+module _ (change : Primitive) (tree : Files) where
+  abbrev Hinders : Option Hindrance → Type 0
+  Hinders None = Unit {0}
+  Hinders (Some why) = IsHindrance change tree why
 
-  made_told : (made : Option Files) → applied change tree ≡ made → made_long (path_of change) made ≡ Some why → IsHindrance change tree why
-  made_told None is e = absurd (none-some why e)
-  made_told (Some next) is e = long_told next is (get next (path_of change)) refl e
+  by_length : (next : Files) → applied change tree ≡ Some next → (lines : Lines) → get next (path_of change) ≡ Some lines
+      → (b : Bool) → nat_lt longest_file (length lines) ≡ b → Hinders (cond b (Some (hindrance_of.TooLong (length lines))) None)
+  by_length next made lines is true long = record {
+    next = next;
+    applies = Applies-from_applied change tree next made;
+    lines = lines;
+    found = is;
+    counts = refl;
+    long = ltb-true longest_file (length lines) long;
+  }
+  by_length next made lines is false long = tt
 
-  pub hindrance_told : hindrance change tree ≡ Some why → IsHindrance change tree why
-  hindrance_told e = by (why_not change tree) refl e
-    where
-      by : (reason : Option Misfit) → why_not change tree ≡ reason
-          → hindrance_or reason (made_long (path_of change) (applied change tree)) ≡ Some why → IsHindrance change tree why
-      by None is e = made_told (applied change tree) refl e
-      by (Some reason) is e = subst (IsHindrance change tree) (same_Some _ _ e) (is_told change tree reason is)
+  in_file : (next : Files) → applied change tree ≡ Some next → (found : Option Lines) → get next (path_of change) ≡ found → Hinders (long_file found)
+  in_file next made None is = tt
+  in_file next made (Some lines) is = by_length next made lines is (nat_lt longest_file (length lines)) refl
+
+  in_tree : (made : Option Files) → applied change tree ≡ made → Hinders (made_long (path_of change) made)
+  in_tree None is = tt
+  in_tree (Some next) is = in_file next is (get next (path_of change)) refl
+
+  by_reason : (reason : Option Misfit) → why_not change tree ≡ reason → Hinders (hindrance_or reason (made_long (path_of change) (applied change tree)))
+  by_reason None is = in_tree (applied change tree) refl
+  by_reason (Some reason) is = is_told change tree reason is
+
+  pub hindrance_told : (why : Hindrance) → hindrance change tree ≡ Some why → IsHindrance change tree why
+  hindrance_told why e = subst Hinders e (by_reason (why_not change tree) refl)
 
 -- changes stop behind so many others
 record StopsBehind (at : ℕ) (changes : List Primitive) (tree : Files) (stop : Stop) : Type 0 where
@@ -84,47 +83,44 @@ record StopsBehind (at : ℕ) (changes : List Primitive) (tree : Files) (stop : 
   of_file : stop.path ≡ path_of change
   hinders : IsHindrance change met stop.why
 
--- by what stands against the first, and where it leads
-stop_by : (at : ℕ) (change : Primitive) (changes : List Primitive) (tree : Files) (stop : Stop)
-    → ((next : Files) → first_stop (suc (suc at)) changes next ≡ Some stop → StopsBehind (suc at) changes next stop)
-    → (h : Option Hindrance) → hindrance change tree ≡ h → (made : Option Files) → applied change tree ≡ made
-    → stop_or (suc at) change h made (first_stop (suc (suc at)) changes) ≡ Some stop → StopsBehind at (change ∷ changes) tree stop
-stop_by at change changes tree stop behind (Some why) is made led e =
-    let same : record { change = suc at; path = path_of change; why = why } ≡ stop = same_Some _ _ e in
-    let number : suc at ≡ suc (at + 0) = omega arith in
-    record {
-      before = 0;
-      numbered = ap (λ (s : Stop). s.change) (sym same) ∙ number;
-      met = tree;
-      leads = refl;
-      change = change;
-      is = refl;
-      of_file = ap (λ (s : Stop). s.path) (sym same);
-      hinders = subst (λ (s : Stop). IsHindrance change tree s.why) same (hindrance_told change tree why is);
-    }
-stop_by at change changes tree stop behind None is None led e = absurd (none-some stop e)
-stop_by at change changes tree stop behind None is (Some next) led e =
-    let rest = behind next e in
-    let number : suc (suc at + rest.before) ≡ suc (at + suc rest.before) = omega arith in
-    record {
-      before = suc rest.before;
-      numbered = rest.numbered ∙ number;
-      met = rest.met;
-      leads = (next, Applies-from_applied change tree next led, rest.leads);
-      change = rest.change;
-      is = rest.is;
-      of_file = rest.of_file;
-      hinders = rest.hinders;
-    }
+abbrev StopsIn : ℕ → List Primitive → Files → Option Stop → Type 0
+StopsIn at changes tree None = Unit {0}
+StopsIn at changes tree (Some stop) = StopsBehind at changes tree stop
 
-stop_told : (at : ℕ) (changes : List Primitive) (tree : Files) (stop : Stop) → first_stop (suc at) changes tree ≡ Some stop → StopsBehind at changes tree stop
-stop_told at [] tree stop e = absurd (none-some stop e)
-stop_told at (change ∷ changes) tree stop e =
-    stop_by at change changes tree stop (λ next. stop_told (suc at) changes next stop) (hindrance change tree) refl (applied change tree) refl e
+module _ (at : ℕ) (change : Primitive) (changes : List Primitive) (tree : Files) where
+  stop_later : (next : Files) → applied change tree ≡ Some next → (found : Option Stop) → StopsIn (suc at) changes next found → StopsIn at (change ∷ changes) tree found
+  stop_later next led None rest = tt
+  stop_later next led (Some stop) rest =
+      let number : suc (suc at + rest.before) ≡ suc (at + suc rest.before) = omega arith in
+      record {
+        before = suc rest.before;
+        numbered = rest.numbered ∙ number;
+        met = rest.met;
+        leads = (next, Applies-from_applied change tree next led, rest.leads);
+        change = rest.change;
+        is = rest.is;
+        of_file = rest.of_file;
+        hinders = rest.hinders;
+      }
+
+  -- by what stands against the first, and where it leads
+  stop_by : ((next : Files) → StopsIn (suc at) changes next (first_stop (suc (suc at)) changes next))
+      → (h : Option Hindrance) → hindrance change tree ≡ h → (made : Option Files) → applied change tree ≡ made
+      → StopsIn at (change ∷ changes) tree (stop_or (suc at) change h made (first_stop (suc (suc at)) changes))
+  stop_by behind (Some why) is made led =
+      let number : suc at ≡ suc (at + 0) = omega arith in
+      record { before = 0; numbered = number; met = tree; leads = refl; change = change; is = refl; of_file = refl; hinders = hindrance_told change tree why is }
+  stop_by behind None is None led = tt
+  stop_by behind None is (Some next) led = stop_later next led (first_stop (suc (suc at)) changes next) (behind next)
+
+stop_told : (at : ℕ) (changes : List Primitive) (tree : Files) → StopsIn at changes tree (first_stop (suc at) changes tree)
+stop_told at [] tree = tt
+stop_told at (change ∷ changes) tree =
+    stop_by at change changes tree (stop_told (suc at) changes) (hindrance change tree) refl (applied change tree) refl
 
 pub is_stop : (changes : List Primitive) (tree : Files) (stop : Stop) → first_stop 1 changes tree ≡ Some stop → IsStop changes tree stop
 is_stop changes tree stop e =
-    let behind = stop_told 0 changes tree stop e in
+    let behind : StopsBehind 0 changes tree stop = subst (StopsIn 0 changes tree) e (stop_told 0 changes tree) in
     let number : suc (0 + behind.before) ≡ suc behind.before = omega arith in
     record {
       before = behind.before;

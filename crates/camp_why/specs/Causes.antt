@@ -96,11 +96,8 @@ explained state other refusal = None
 
 -- the refusal of a cause
 abbrev pub refusal_by : Cause → Refusal
-refusal_by (FullRepository count) = TooLarge
-refusal_by (FullBranch has more) = TooLarge
-refusal_by (FullWithPull has more) = TooLarge
-refusal_by (LongSide change path old new) = TooLarge
 refusal_by (Stops stop) = refusal_at stop.why
+refusal_by other = TooLarge
 
 -- a repository has so many branches, and no more may be made
 pub record FillsRepository (state : Contents) (asked : Call) (count : ℕ) : Type 0 where

@@ -343,8 +343,9 @@ fn begins_quoted(word: &[u8]) -> bool
     word.starts_with(b"\"") || word.starts_with(b"'")
 }
 
-fn begins_signed(word: &[u8]) -> bool
-    ensures { result ≡ begins_signed word.now }
+/// Whether a word or a line begins with the sign of a line of a body.
+pub fn begins_signed(word: &[u8]) -> bool
+    ensures exact { result ≡ begins_signed word.now }
 {
     word.starts_with(b"+") || word.starts_with(b"-")
 }

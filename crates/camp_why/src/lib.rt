@@ -8,7 +8,7 @@ mod misfits;
 mod stops;
 
 pub use causes::{Cause, explain};
-pub use hints::{Hint, call_part, look_at, misnamed};
+pub use hints::{Hint, begins_signed, call_part, look_at, misnamed};
 pub use laws::{
     hints_are_seen, misfits_are_reasons, refusals_are_explained, refusals_have_grounds,
 };

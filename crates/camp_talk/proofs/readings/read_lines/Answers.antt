@@ -22,7 +22,7 @@ loop-is_whole-init g c =
     let a = g.R.Read.remaining c.args.reader.now in
     let b = g.R.Read.remaining c.read_line.new.reader in
     let bytes = c.read_line.new.text.items in
-    let has = call_read c.in-Ok.command bytes c.in-Ok.ensures.first c.call_line.ensures c.first_line.ensures.value c.deref.ensures.value in
+    let has = call_read c.in-Ok.command bytes c.in-Ok.ensures.first c.call_part.ensures.exact c.first_line.ensures.value c.deref.ensures.value in
     first_on a b bytes c.in-Ok.command has c.in_ok-is_whole.is_whole (line_read a b bytes c.in_ok-is_whole.ensures.line c.new-bytes.ensures.items refl)
 
 pub returns-in_err-is_whole-2-clause-within : goal.returns-in_err-is_whole-2-clause-within

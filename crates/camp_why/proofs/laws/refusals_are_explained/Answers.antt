@@ -1,4 +1,4 @@
-use Rattle.camp_why.proofs.Causing.{refusals_explained}
+use Rattle.camp_why.proofs.Grounding.{refusals_explained}
 use Rattle.camp_why.proofs.laws.refusals_are_explained.Goals as goal
 
 pub returns : goal.returns
