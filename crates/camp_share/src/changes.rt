@@ -54,6 +54,18 @@ impl<T: Share + Drop> Change<T> {
         Ok(Change { parts, middle })
     }
 
+    // The same, with the last parts closed where they are many.
+    fn settled(self) -> Result<Change<T>, AllocError>
+        ensures { IfOk result (λ change. change ≡ self) }
+    {
+        let mut parts = self.parts;
+        parts.settle()?;
+        Ok(Change {
+            parts,
+            middle: self.middle,
+        })
+    }
+
     // Adds an element.
     pub(crate) fn push(&mut self, item: T) -> Result<(), AllocError>
         ensures { OnOk result (self.new ≡ self.old ++ item ∷ []) }
@@ -210,7 +222,8 @@ pub(crate) fn inserted_at<T: Share + Drop>(
 {
     let (index, place) = behind_with_room(parts, index, place);
     if index == parts.len() {
-        let mut change = Change::before(parts, index, place)?;
+        let front = Change::before(parts, index, place)?;
+        let mut change = front.settled()?;
         change.push(item)?;
         return change.with_rest(parts, index, place);
     }

@@ -14,6 +14,9 @@ pub(crate) type Part<T> = Shared<Vec<T>>;
 /// The most elements of a part.
 pub(crate) const MAX_PART_LENGTH: usize = 24;
 
+// So many elements behind the closed parts are worth a part that the next lists share.
+const MANY: usize = 6;
+
 // A list that grows at its end: parts that are closed, and a last one that still takes elements.
 #[derive(Drop)]
 pub(crate) struct Growing<T> {
@@ -171,7 +174,23 @@ impl<T: Share + Drop> Growing<T> {
             self.push_behind(part, left)?;
             left = 0;
         }
-        self.push_items(&list.last[left..])
+        self.push_items(&list.last[left..])?;
+        if left == 0 && !list.last.is_empty() {
+            self.settle()?;
+        }
+        Ok(())
+    }
+
+    // Closes the last elements where they are many.
+    pub(crate) fn settle(&mut self) -> Result<(), AllocError>
+        ensures { OnOk result (self.new ≡ self.old) }
+    {
+        if self.last.len() < MANY {
+            return Ok(());
+        }
+        take_back(&mut self.closed, &mut self.last)?;
+        close(&mut self.closed, &mut self.last)?;
+        Ok(())
     }
 
     // Adds the elements of a part from one on.
@@ -262,6 +281,30 @@ pub(crate) fn append_copies<T: Share + Drop>(
     for item in more {
         items.push_reserved(item.share()?);
     }
+    Ok(())
+}
+
+// Puts the elements of the last closed part before those behind it, where one part has room for all.
+fn take_back<T: Share + Drop>(
+    closed: &mut Vec<Part<T>>,
+    last: &mut Vec<T>,
+) -> Result<(), AllocError>
+    requires part { IsPart last.old }
+    requires parts { All IsPart closed.old.items }
+    ensures joined { OnOk result (joined closed.new.items ++ last.new.items ≡ joined closed.old.items ++ last.old.items) }
+    ensures part { IsPart last.new }
+    ensures parts { All IsPart closed.new.items }
+{
+    let Some(part) = closed.pop() else {
+        return Ok(());
+    };
+    if part.len() > MAX_PART_LENGTH - last.len() {
+        closed.push(part)?;
+        return Ok(());
+    }
+    let mut all = copies(*last.allocator(), &part, part.len() + last.len())?;
+    all.append(last)?;
+    *last = all;
     Ok(())
 }
 

@@ -10,7 +10,7 @@ returns-then-index-len-clause-items g c =
     let rest = drop (offset c.args.parts.now c.behind_with_room-index.result.0 c.behind_with_room-index.result.1) (joined c.args.parts.now) in
     IfOk-weaker c.with_rest.result _ _
     (λ new is. inserted_between _ _ _ _ _ c.behind_with_room-index.ensures.same
-    (is ∙ ap (λ ys. ys ++ rest) (c.in_ok-push.ensures ∙ ap (λ ys. ys ++ c.args.item ∷ []) c.in_ok-change.ensures)))
+    (is ∙ ap (λ ys. ys ++ rest) (c.in_ok-push.ensures ∙ ap (λ ys. ys ++ c.args.item ∷ []) (c.in_ok-change.ensures ∙ c.in_ok-front.ensures))))
     c.with_rest.ensures.items
 
 pub returns-clause-items : goal.returns-clause-items
