@@ -16,9 +16,11 @@ enum Kind {
     Before,
     Exchange,
     After,
+    End,
 }
 
-/// What a gate is told: of a call by its number, of an exchange by how many its call has lost.
+/// What a gate is told: of a call by its number, of an exchange by how many its call has lost, of the end of a
+/// section by 0.
 #[derive(Clone, Copy, PartialEq, Eq)]
 struct Moment {
     kind: Kind,
@@ -127,6 +129,10 @@ impl Gate for Delays {
     fn after(&self, seat: u32, call: u32) {
         self.tell(Kind::After, seat, call);
     }
+
+    fn end(&self, seat: u32) {
+        self.tell(Kind::End, seat, 0);
+    }
 }
 
 const NO_DELAY: PlayFault = PlayFault::Wrong("wait MOMENT SEAT NUMBER until MOMENT SEAT NUMBER");
@@ -151,6 +157,7 @@ fn kind_of(word: &[u8]) -> Result<Kind, PlayFault> {
         b"before" => Ok(Kind::Before),
         b"exchange" => Ok(Kind::Exchange),
         b"after" => Ok(Kind::After),
+        b"end" => Ok(Kind::End),
         _ => Err(NO_DELAY),
     }
 }
