@@ -1,4 +1,4 @@
-"""What .ci/refusals, .ci/sharing, .ci/turns, .ci/locked and play share: a program that is built without proofs, the
+"""What .ci/refusals, .ci/sharing, .ci/turns, .ci/locked, .ci/library and play share: a program that is built without proofs, the
 tables of crates/worked, and the scripts of .ci/cases."""
 
 import glob
@@ -38,6 +38,7 @@ def build(crate, program, words=(), given="stdin", told=None):
         try:
             while not found and ran.poll() is None:
                 time.sleep(0.05)
+                end_hints(ran.pid)
                 found = any(taken(it, program) for it in glob.glob(f"{folder}/*/*/program"))
                 if told:
                     told(time.time() - started)
@@ -49,6 +50,39 @@ def build(crate, program, words=(), given="stdin", told=None):
             log.seek(0)
             sys.stderr.write(log.read().decode(errors="replace")[-4000:])
             sys.exit(f"{os.path.basename(crate)}: the program was not built")
+
+
+def tried(crate):
+    """Runs the program of a crate once without proofs. Its status, what it writes, and what is said of it."""
+    with tempfile.TemporaryFile() as wrote, tempfile.TemporaryFile() as said:
+        ran = subprocess.Popen(["rt", "try"], cwd=crate, stdin=subprocess.DEVNULL, stdout=wrote, stderr=said)
+        while ran.poll() is None:
+            time.sleep(0.05)
+            end_hints(ran.pid)
+        texts = []
+        for it in (wrote, said):
+            it.seek(0)
+            texts.append(it.read().decode(errors="replace"))
+    return ran.returncode, *texts
+
+
+def end_hints(process):
+    """Ends the check that `rt try` runs beside its build for hints on names: it takes as long as the build does."""
+    for child in children_of(process):
+        try:
+            with open(f"/proc/{child}/cmdline", "rb") as it:
+                if it.read().split(b"\0")[:2][-1:] == [b"check"]:
+                    os.kill(child, signal.SIGKILL)
+        except OSError:
+            pass
+
+
+def children_of(process):
+    try:
+        with open(f"/proc/{process}/task/{process}/children", encoding="utf-8") as it:
+            return [int(child) for child in it.read().split()]
+    except OSError:
+        return []
 
 
 def taken(path, program):

@@ -14,7 +14,7 @@ use crate::plays::faults::PlayFault;
 use crate::plays::runs::{joined, run, run_of};
 use crate::plays::seatings::Seating;
 use crate::wants::Wants;
-use crate::words::split_word;
+use crate::words::{split_word, str_of};
 use camp_head::HeadFault;
 use camp_repo::{Book, Call, Fault, Refusal, Reply, State};
 use camp_script::{answer_text, history_text};
@@ -41,8 +41,8 @@ pub(crate) fn is_play(line: &[u8]) -> bool {
 
 fn is_word(word: &[u8]) -> bool {
     matches!(
-        word,
-        b"book" | b"head" | b"history" | b"meet" | b"seen" | b"adopted" | b"hand-on" | b"no-merge"
+        str_of(word),
+        "book" | "head" | "history" | "meet" | "seen" | "adopted" | "hand-on" | "no-merge"
     )
 }
 
@@ -79,16 +79,27 @@ impl Stage {
         let Some((first, rest)) = entry.split_first() else {
             return Ok(Vec::new(alloc));
         };
-        if let Some(how) = run_of(first) {
-            return wants.again(|| run(rt, alloc, how, rest));
-        }
-        if let Some(words) = first.strip_prefix(b"ends ") {
-            return wants.again(|| play_ends(rt, alloc, words, rest));
-        }
         if is_command(first) {
             return self.ask(rt, alloc, entry, wants);
         }
-        wants.again(|| self.do_line(alloc, first))
+        wants.again(|| self.do_entry(rt, alloc, first, rest))
+    }
+
+    /// Does what an entry says that is no command.
+    fn do_entry<R: Threads + Wait + Sync>(
+        &mut self,
+        rt: &R,
+        alloc: Global,
+        first: &[u8],
+        rest: &[&[u8]],
+    ) -> Result<Vec<u8>, PlayFault> {
+        if let Some(how) = run_of(first) {
+            return run(rt, alloc, how, rest);
+        }
+        match first.strip_prefix(b"ends ") {
+            Some(words) => play_ends(rt, alloc, words, rest),
+            None => self.do_line(alloc, first),
+        }
     }
 
     /// Asks a command, each of its times. What the last of them is answered.
@@ -134,18 +145,18 @@ impl Stage {
         }
     }
 
-    /// Does what a line says that is no command.
+    /// Does what a line says that begins neither a command nor a run.
     fn do_line(&mut self, alloc: Global, line: &[u8]) -> Result<Vec<u8>, PlayFault> {
         let (word, rest) = split_word(line);
-        match word {
-            b"book" => self.begin(alloc),
-            b"head" => self.open(alloc, rest),
-            b"history" => self.history(alloc, rest),
-            b"meet" => self.meet(alloc, rest),
-            b"seen" => self.seating()?.seen_text(alloc, number(rest)?),
-            b"adopted" => self.seating()?.adopted_text(alloc, number(rest)?),
-            b"hand-on" => self.hand_on(alloc, rest),
-            b"no-merge" => no_merge(alloc, rest),
+        match str_of(word) {
+            "book" => self.begin(alloc),
+            "head" => self.open(alloc, rest),
+            "history" => self.history(alloc, rest),
+            "meet" => self.meet(alloc, rest),
+            "seen" => self.seen(alloc, rest),
+            "adopted" => self.adopted(alloc, rest),
+            "hand-on" => self.hand_on(alloc, rest),
+            "no-merge" => no_merge(alloc, rest),
             _ => Err(NO_LINE),
         }
     }
@@ -180,6 +191,14 @@ impl Stage {
         let (first, second) = split_word(seats);
         seating.meet(number(first)?, number(second)?)?;
         Ok(Vec::from_slice(alloc, b"met\n")?)
+    }
+
+    fn seen(&self, alloc: Global, seat: &[u8]) -> Result<Vec<u8>, PlayFault> {
+        self.seating()?.seen_text(alloc, number(seat)?)
+    }
+
+    fn adopted(&self, alloc: Global, seat: &[u8]) -> Result<Vec<u8>, PlayFault> {
+        self.seating()?.adopted_text(alloc, number(seat)?)
     }
 
     fn hand_on(&self, alloc: Global, seat: &[u8]) -> Result<Vec<u8>, PlayFault> {

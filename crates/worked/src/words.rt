@@ -10,6 +10,11 @@ pub(crate) fn split_word(line: &[u8]) -> (&[u8], &[u8]) {
     }
 }
 
+/// A word as text; one that is none stands for no word.
+pub(crate) fn str_of(word: &[u8]) -> &str {
+    str::from_utf8(word).unwrap_or("")
+}
+
 /// The number that a word tells.
 pub(crate) fn number_of(word: &[u8]) -> Option<u32> {
     str::from_utf8(word).ok()?.parse::<u32>().ok()

@@ -3,6 +3,7 @@ use crate::plays::commands::{NO_COMMAND, read_numbers};
 use crate::plays::faults::PlayFault;
 use crate::plays::gates::Delays;
 use crate::plays::runs::{Way, joined, run_way, way_of};
+use crate::words::str_of;
 use bstr::ByteSlice;
 use camp_talk::{Book, Conversation, FramedConversation, talk};
 use std::alloc::{AllocError, Global};
@@ -138,9 +139,9 @@ enum Means {
 }
 
 fn means_of(words: &[u8]) -> Option<Means> {
-    match words {
-        b"talk" => Some(Means::Talk),
-        b"frames" => Some(Means::Frames),
+    match str_of(words) {
+        "talk" => Some(Means::Talk),
+        "frames" => Some(Means::Frames),
         _ => Some(Means::Run(way_of(words)?)),
     }
 }

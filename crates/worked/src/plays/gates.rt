@@ -1,7 +1,7 @@
 //! Books and heads: gates at which the seats of a run wait for each other.
 use crate::plays::commands::number;
 use crate::plays::faults::PlayFault;
-use crate::words::split_word;
+use crate::words::{split_word, str_of};
 use bstr::ByteSlice;
 use camp_run::Gate;
 use std::alloc::Global;
@@ -153,11 +153,11 @@ fn moment_of(words: &[u8]) -> Result<Moment, PlayFault> {
 }
 
 fn kind_of(word: &[u8]) -> Result<Kind, PlayFault> {
-    match word {
-        b"before" => Ok(Kind::Before),
-        b"exchange" => Ok(Kind::Exchange),
-        b"after" => Ok(Kind::After),
-        b"end" => Ok(Kind::End),
+    match str_of(word) {
+        "before" => Ok(Kind::Before),
+        "exchange" => Ok(Kind::Exchange),
+        "after" => Ok(Kind::After),
+        "end" => Ok(Kind::End),
         _ => Err(NO_DELAY),
     }
 }

@@ -1,7 +1,7 @@
 //! Books and heads: scripts that are run in one thread, over a lock or over a head.
 use crate::plays::faults::PlayFault;
 use crate::plays::gates::Delays;
-use crate::words::number_of;
+use crate::words::{number_of, str_of};
 use bstr::ByteSlice;
 use camp_run::{RunFault, run_book, run_head, run_locked};
 use std::alloc::{AllocError, Global};
@@ -42,10 +42,10 @@ pub(crate) fn run_of(line: &[u8]) -> Option<Manner> {
 }
 
 pub(crate) fn way_of(words: &[u8]) -> Option<Way> {
-    match words {
-        b"book" => Some(Way::Book),
-        b"locked" => Some(Way::Locked),
-        b"head" => Some(Way::Head(100)),
+    match str_of(words) {
+        "book" => Some(Way::Book),
+        "locked" => Some(Way::Locked),
+        "head" => Some(Way::Head(100)),
         _ => Some(Way::Head(number_of(words.strip_prefix(b"head ")?)?)),
     }
 }

@@ -16,10 +16,10 @@ use std::io::ErrorKind;
 /// The result of a call on names, paths, lines or faults.
 pub(crate) fn answer(line: CallLine<'_>) -> Option<Outcome> {
     let outcome = match line.name {
-        b"name" => line.ask(name),
-        b"path" => line.ask(path),
-        b"line" => line.ask(line_of),
-        b"faults" => line.ask(faults),
+        "name" => line.ask(name),
+        "path" => line.ask(path),
+        "line" => line.ask(line_of),
+        "faults" => line.ask(faults),
         _ => return None,
     };
     Some(outcome)

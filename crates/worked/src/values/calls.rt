@@ -10,7 +10,7 @@ use camp_notation::NotationError;
 #[derive(Clone, Copy)]
 pub(crate) struct CallLine<'a> {
     pub(crate) table: &'a Table,
-    pub(crate) name: &'a [u8],
+    pub(crate) name: &'a str,
     pub(crate) text: &'a [u8],
 }
 

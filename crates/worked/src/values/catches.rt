@@ -15,13 +15,13 @@ use std::alloc::AllocError;
 /// The result of a call on catches or on lists of them.
 pub(crate) fn answer(line: CallLine<'_>) -> Option<Outcome> {
     let outcome = match line.name {
-        b"read_catch" => line.one(Catch::try_clone),
-        b"commute" => line.ask(commuted),
-        b"merge" => line.ask(merged),
-        b"read_catches" => line.ask(read),
-        b"arrange" => line.ask(arranged),
-        b"align" => line.ask(aligned),
-        b"merge_lists" => line.ask(lists_merged),
+        "read_catch" => line.one(Catch::try_clone),
+        "commute" => line.ask(commuted),
+        "merge" => line.ask(merged),
+        "read_catches" => line.ask(read),
+        "arrange" => line.ask(arranged),
+        "align" => line.ask(aligned),
+        "merge_lists" => line.ask(lists_merged),
         _ => return None,
     };
     Some(outcome)

@@ -12,17 +12,17 @@ use std::alloc::AllocError;
 /// without a caret.
 pub(crate) fn answer(line: CallLine<'_>) -> Option<Outcome> {
     let outcome = match line.name {
-        b"read_contexted" => line.one(Contexted::try_clone),
-        b"add_one" => line.two(Contexted::add_one),
-        b"add" => line.two(Contexted::add),
-        b"pass_by" => line.two(Contexted::past),
-        b"conflict" => line.two(|x: &Contexted, y: &Contexted| conflict(x, y)),
-        b"merge_behind_common" => line.ask(merged),
-        b"read_set" => line.one(CtxSet::try_clone),
-        b"sole" => line.one(sole),
-        b"insert" => line.two(CtxSet::insert),
-        b"without" => line.two(without),
-        b"add_to_set" => line.two(CtxSet::add),
+        "read_contexted" => line.one(Contexted::try_clone),
+        "add_one" => line.two(Contexted::add_one),
+        "add" => line.two(Contexted::add),
+        "pass_by" => line.two(Contexted::past),
+        "conflict" => line.two(|x: &Contexted, y: &Contexted| conflict(x, y)),
+        "merge_behind_common" => line.ask(merged),
+        "read_set" => line.one(CtxSet::try_clone),
+        "sole" => line.one(sole),
+        "insert" => line.two(CtxSet::insert),
+        "without" => line.two(without),
+        "add_to_set" => line.two(CtxSet::add),
         _ => return None,
     };
     Some(outcome)

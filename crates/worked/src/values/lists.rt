@@ -10,14 +10,14 @@ use camp_seq::{Seq, apply_all, clean_merge, front, invert_all, norm, past, past_
 /// The result of a call on lists of primitives.
 pub(crate) fn answer(line: CallLine<'_>) -> Option<Outcome> {
     let outcome = match line.name {
-        b"past" => line.two(|p: &Named, list: &Seq| past(p, list)),
-        b"past_all" => line.two(|left: &Seq, right: &Seq| past_all(left, right)),
-        b"front" => line.two(|list: &Seq, label: &Label| front(list, label)),
-        b"split" => line.ask(split_by),
-        b"norm" => line.one(|list: &Seq| norm(list)),
-        b"invert_all" => line.one(|list: &Seq| invert_all(list)),
-        b"clean_merge" => line.two(|left: &Seq, right: &Seq| clean_merge(left, right)),
-        b"apply_all" => line.ask(applied),
+        "past" => line.two(|p: &Named, list: &Seq| past(p, list)),
+        "past_all" => line.two(|left: &Seq, right: &Seq| past_all(left, right)),
+        "front" => line.two(|list: &Seq, label: &Label| front(list, label)),
+        "split" => line.ask(split_by),
+        "norm" => line.one(|list: &Seq| norm(list)),
+        "invert_all" => line.one(|list: &Seq| invert_all(list)),
+        "clean_merge" => line.two(|left: &Seq, right: &Seq| clean_merge(left, right)),
+        "apply_all" => line.ask(applied),
         _ => return None,
     };
     Some(outcome)

@@ -10,11 +10,11 @@ use std::alloc::AllocError;
 /// The result of a call on primitives. `commute` is of catches too, where its arguments begin as these do.
 pub(crate) fn answer(line: CallLine<'_>) -> Option<Outcome> {
     let outcome = match line.name {
-        b"read" => line.ask(read),
-        b"copy" => line.one(Named::try_clone),
-        b"invert" => line.one(invert),
-        b"apply" => line.ask(apply),
-        b"commute" if !line.is_of_catches() => { line.two(|p: &Named, q: &Named| commute(p, q)) }
+        "read" => line.ask(read),
+        "copy" => line.one(Named::try_clone),
+        "invert" => line.one(invert),
+        "apply" => line.ask(apply),
+        "commute" if !line.is_of_catches() => { line.two(|p: &Named, q: &Named| commute(p, q)) }
         _ => return None,
     };
     Some(outcome)

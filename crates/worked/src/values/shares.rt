@@ -12,12 +12,12 @@ use std::alloc::AllocError;
 /// The result of a call on shared lists.
 pub(crate) fn answer(line: CallLine<'_>) -> Option<Outcome> {
     let outcome = match line.name {
-        b"list_shared" => line.one(Numbers::share),
-        b"list_pushed" => line.two(pushed),
-        b"list_inserted" => line.three(inserted),
-        b"list_replaced" => line.three(replaced),
-        b"list_without" => line.two(without),
-        b"list_spliced" => line.ask(spliced),
+        "list_shared" => line.one(Numbers::share),
+        "list_pushed" => line.two(pushed),
+        "list_inserted" => line.three(inserted),
+        "list_replaced" => line.three(replaced),
+        "list_without" => line.two(without),
+        "list_spliced" => line.ask(spliced),
         _ => return None,
     };
     Some(outcome)

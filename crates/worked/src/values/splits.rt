@@ -48,9 +48,9 @@ pub(crate) fn split(alloc: Global, text: &[u8]) -> Result<Vec<&[u8]>, AllocError
     for _ in 0..text.len() {
         let (part, behind) = rest.split_at(argument_len(rest));
         parts.push(part)?;
-        match behind {
-            [b',', b' ', others @ ..] => rest = others,
-            _ => return Ok(parts),
+        match behind.strip_prefix(b", ") {
+            Some(others) => rest = others,
+            None => return Ok(parts),
         }
     }
     Ok(parts)

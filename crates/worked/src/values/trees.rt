@@ -12,12 +12,12 @@ use std::alloc::AllocError;
 /// The result of a call on trees.
 pub(crate) fn answer(line: CallLine<'_>) -> Option<Outcome> {
     let outcome = match line.name {
-        b"is_empty" => line.one(Tree::is_empty),
-        b"file" => line.ask(file),
-        b"copy_tree" => line.one(Tree::try_clone),
-        b"add_file" => line.ask(add_file),
-        b"remove_file" => line.ask(remove_file),
-        b"splice" => line.ask(splice),
+        "is_empty" => line.one(Tree::is_empty),
+        "file" => line.ask(file),
+        "copy_tree" => line.one(Tree::try_clone),
+        "add_file" => line.ask(add_file),
+        "remove_file" => line.ask(remove_file),
+        "splice" => line.ask(splice),
         _ => return None,
     };
     Some(outcome)
