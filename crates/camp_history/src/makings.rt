@@ -14,6 +14,13 @@ use camp_object::{Fault, Object};
 use camp_share::{Share, Shared};
 use std::alloc::AllocError;
 
+/// Where a version is made for its next call, a seat keeps the marks of this many calls for itself at most, and
+/// moves more into the list that copies share. A version has copies of those that it keeps.
+const FEW: usize = 40;
+/// Elsewhere it keeps this many: those of a version, and of 64 calls behind it. To move marks takes the longer the
+/// more calls there are; so a seat that adopts a version for each 64 calls moves none.
+const MANY: usize = 104;
+
 impl<State: Object> Seat<State> {
     ghost use Rattle.camp_object.specs.Histories.{replay};
     ghost use Rattle.camp_history.specs.Seats.{history_of};
@@ -136,6 +143,14 @@ impl<State: Object> Head<State> {
         let version = seat.version()?;
         let _handed = self.put_at(number, seat, version);
         Ok(())
+    }
+
+    /// How many marks a seat keeps for itself before its next call.
+    pub(crate) fn most_own(&self, seat: &Seat<State>) -> usize {
+        if slot_of(seat.position().saturating_add(1), self.every).is_none() {
+            return MANY;
+        }
+        FEW
     }
 
     /// The version for the position of a call, if one is kept there.

@@ -15,9 +15,6 @@ use camp_row::{Next, Pass, Row, Trail};
 use camp_share::Shared;
 use std::alloc::AllocError;
 
-/// A seat keeps the marks of this many calls for itself before it moves them into the list that copies share. Most
-/// versions, one for each 64 calls, have fewer, so that a seat that adopts one need not move them.
-const FEW: usize = 40;
 /// No head has more calls.
 const MOST_LISTED: usize = 4_194_304;
 
@@ -88,12 +85,12 @@ impl<State: Object> Seat<State> {
         }
     }
 
-    /// Moves the last calls into the list that copies share, once there are some.
-    fn settle(&mut self) -> Result<(), AllocError>
+    /// Moves the last calls into the list that copies share, once there are so many.
+    fn settle(&mut self, most: usize) -> Result<(), AllocError>
         ensures { self.new ≡ self.old }
     {
         let len = self.earlier.len();
-        if self.tail.len() < FEW || self.tail.len() + len > MOST_LISTED {
+        if self.tail.len() < most || self.tail.len() + len > MOST_LISTED {
             return Ok(());
         }
         let longer = self.earlier.spliced(len, len, &self.tail)?;
@@ -209,7 +206,8 @@ impl<State: Object> Head<State> {
         while let Some(next) = seat.next(&self.row, &mut trail) {
             self.see(seat, next)?;
         }
-        seat.settle()
+        let most = self.most_own(seat);
+        seat.settle(most)
     }
 
     /// Sees all of the chain as it is now.

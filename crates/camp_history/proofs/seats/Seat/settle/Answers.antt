@@ -34,7 +34,7 @@ invariant_of-self g c =
             len,
             none,
             tail.0,
-            c.len-else-len-lt-FEW.ensures,
+            c.len-else-len-most.ensures,
             c.if-len-gt-MOST_LISTED.false,
             length-append c.in_ok-self-inside.field-0 c.clear.new.self.items,
             length-append c.self.inside.earlier c.self.inside.tail.items,
