@@ -201,7 +201,7 @@ module _ {D : Type 0} (seen : D → List ℕ) (may_leave : D → List ℕ → Ty
         subst (λ (h : Entries). Holds seen may_leave (calls_of h) new) (sym same) (keeps stays.calls within_book stays.holds)
 
     module _ (new : Kept D) (after : Option (List ℕ)) (same : new.book ≡ kept.book) where
-      -- all calls are kept, and a front of what was held back is written
+      -- all calls are kept, and a beginning of what was held back is written
       promised_all : AllAreKept seen may_leave kept new → AppendsSome now after held → Promises seen may_leave a old after first new
       promised_all keeps grows =
           let all : Holds seen may_leave (calls_in kept) new = keeps stays.calls within_book stays.holds in

@@ -107,7 +107,7 @@ at_first changes n line patch hunk whole own is =
 pub in_range_there : (hunk : Edit) (line : ℕ) → line ≡ hunk.line → IsInRange hunk → IsInRange (at_line line hunk)
 in_range_there hunk line own range = subst (λ l. IsInRange (at_line l hunk)) (sym own) range
 
--- where a front of some changes ends
+-- where a beginning of some changes ends
 pub ends_within : (changes : List Named) (left stop : ℕ) → left ≤ length changes → stop ≤ length (take left changes) → stop ≤ left
 ends_within changes left stop within past =
     let long : length (take left changes) ≡ left = length-take-le left changes within in omega (arith, long, past)

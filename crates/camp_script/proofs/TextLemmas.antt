@@ -33,7 +33,7 @@ tree_done tree old count begun now n i counts begins so is past =
     ∙ ap (λ t. t ++ flat_map file_text (entries tree)) (begins ∙ ap (λ c. old ++ line_text (codes "tree" ∷ c ∷ [])) counts)
     ∙ append_assoc old (line_text (codes "tree" ∷ decimal (len tree) ∷ [])) (flat_map file_text (entries tree))
 
--- a write took a front of what was left
+-- a write took a beginning of what was left
 pub moved_on : (all done rest : List ℕ) (n : ℕ) → all ≡ done ++ rest → all ≡ (done ++ take n rest) ++ take (length rest - n) (drop n rest)
 moved_on all done rest n is =
     is ∙ ap (λ t. done ++ t) (sym (take-append-drop n rest)) ∙ sym (append_assoc done (take n rest) (drop n rest)) ∙ ap (λ t. (done ++ take n rest) ++ t) (sym (take_rest rest n))

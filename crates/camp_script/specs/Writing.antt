@@ -4,12 +4,12 @@ use Rattle.std.specs.Io.KnownBytes.{Appends, Keeps}
 use Rattle.camp_script.specs.declared.faults.WriteFault.{WriteFault}
 use Rattle.camp_script.specs.declared.faults.WriteFault.TheVariants.{Memory, Write}
 
--- known bytes grow by a front of a text, and not by all of it
+-- known bytes grow by a beginning of a text, and not by all of it
 abbrev pub AppendsBeginning : Option (List ℕ) → Option (List ℕ) → List ℕ → Type 0
 AppendsBeginning old new text =
     (done : List ℕ) × (rest : List ℕ) × (text ≡ done ++ rest) × (0 < length rest) × Appends old new done
 
--- Ok: known bytes grow by the text. Out of memory: by nothing. After a fault of the writer: by a front of the text.
+-- Ok: known bytes grow by the text. Out of memory: by nothing. After a fault of the writer: by a beginning of the text.
 -- Nothing is read.
 abbrev pub Writes : Option (List ℕ) → List ℕ → Result (Unit {0}) WriteFault → Option (List ℕ) → Type 0
 Writes old text (Ok done) new = Appends old new text

@@ -18,7 +18,7 @@ use std::io;
 use std::io::{ErrorKind, Write};
 
 /// Writes the text of the answer to a call: a reply, or that the object was busy or the seat full. Where
-/// memory runs out nothing is written; where the writer fails, a front of the text is.
+/// memory runs out nothing is written; where the writer fails, a beginning of the text is.
 pub fn write_reply<W: Write>(
     alloc: Global,
     answer: &Result<Reply, Fault>,
@@ -46,7 +46,7 @@ pub(crate) fn write_made<W: Write>(
     }
 }
 
-/// Writes all bytes of a text. Where the writer fails, a front of the text is
+/// Writes all bytes of a text. Where the writer fails, a beginning of the text is
 /// written, and not all of it. A writer that is interrupted is asked again.
 pub fn write_text<W: Write>(writer: &mut W, text: &[u8]) -> io::Result<()>
     ensures writes { MatchResult result

@@ -25,7 +25,7 @@ take_behind (suc room) (byte ∷ done) more =
     let left : suc room - suc (length front) ≡ room - length front = omega arith in
     ap (λ n. byte ∷ (front ++ take n more)) left ∙ ap (λ bytes. byte ∷ bytes) (take_behind room done more)
 
--- a front of a front
+-- a beginning of a beginning
 pub take_least : (len room : ℕ) (bytes : List ℕ) (n : ℕ) → n ≡ min len room → take n bytes ≡ take room (take len bytes)
 take_least zero room bytes n is =
     let none : n ≡ 0 = omega arith in

@@ -81,7 +81,7 @@ module _ (remaining rest old new : Option (List ℕ)) where
     pub answers : AnswersSome before service.request service.answer after
     pub keeps : Keeps old new
 
-  -- a request was read and answered, and a front of the frame of its answer was written
+  -- a request was read and answered, and a beginning of the frame of its answer was written
   pub record WritesNot (before after : Entries) : Type 0 where
     pub service : Service
     pub is : IsFrame service.request service.frame

@@ -21,7 +21,7 @@ pub record AnswersRequest (history : Entries) (request answer : List ℕ) (now :
   pub asks : request ≡ flat_map (λ exchange. exchange.command) said ++ last.command
   pub tells : answer ≡ flat_map (λ exchange. exchange.answer) said ++ last.answer
 
--- the command that stands next in a request was asked, or what its end leaves of one, and a front of its answer is there
+-- the command that stands next in a request was asked, or what its end leaves of one, and a beginning of its answer is there
 pub record AsksOneMore (middle : Standing) (rest front : List ℕ) (now : Entries) : Type 0 where
   pub last : Exchange
   pub more : List ℕ

@@ -19,7 +19,7 @@ pub record HasRisen (old new : ℕ) : Type 0 where
   pub rises : old < new
   pub counted : old < 2 ^ 64
 
--- known bytes grow by a front of a text
+-- known bytes grow by a beginning of a text
 abbrev pub AppendsSome : Option (List ℕ) → Option (List ℕ) → List ℕ → Type 0
 AppendsSome old new text = (done : List ℕ) × (rest : List ℕ) × (text ≡ done ++ rest) × Appends old new done
 
@@ -59,7 +59,7 @@ module _ (remaining rest old new : Option (List ℕ)) where
     pub answers : Answers before said.command said.answer after
     pub writes : Appends old new said.answer
 
-  -- a command was read and asked, and a front of its answer was written; its lines are not counted
+  -- a command was read and asked, and a beginning of its answer was written; its lines are not counted
   pub record Stops (before after : Standing) : Type 0 where
     pub whole : Bool
     pub said : Exchange

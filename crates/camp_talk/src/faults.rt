@@ -14,7 +14,7 @@ pub enum TalkFault {
     Memory,
     /// The reader failed, with this error.
     Read(io::Error),
-    /// The writer failed, with this error. A front of an answer was written.
+    /// The writer failed, with this error. A beginning of an answer was written.
     Write(io::Error),
     /// A line has no number below 2^64. No conversation comes to that.
     Internal,
