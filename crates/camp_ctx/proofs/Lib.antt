@@ -1,6 +1,7 @@
 pub mod AddResults
 pub mod AddSteps
 pub mod AddValid
+pub mod AnyOrder
 pub mod CommonLabels
 pub mod ConflictLaws
 pub mod ConflictSteps

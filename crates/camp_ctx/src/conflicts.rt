@@ -3,7 +3,9 @@ ghost use Rattle.camp_base.specs.Answers.{FindsPair};
 ghost use Rattle.camp_ctx.specs.Conflicts.{common_labels, has_label, Conflict, MergesBehindCommon};
 ghost use Rattle.camp_ctx.specs.Contexts.{whole};
 
-use crate::fast::{are_apart, are_elsewhere, clash, merge_apart, stand_aside};
+use crate::fast::{
+    are_apart, are_elsewhere, clash, conflict_in_any_order, merge_apart, stand_aside,
+};
 use crate::{Contexted, join};
 use camp_prim::{Label, Named};
 use camp_seq::{Seq, clean_merge, split};
@@ -25,6 +27,9 @@ pub fn conflict(x: &Contexted, y: &Contexted) -> Result<bool, AllocError>
         return Ok(false);
     }
     let first = whole(x)?;
+    if let Some(found) = conflict_in_any_order(x, y, &first, &second)? {
+        return Ok(found);
+    }
     match merge_behind_common(x.allocator(), &first, &second)? {
         None => Ok(true),
         Some(_) => Ok(false),

@@ -19,9 +19,10 @@
 //!   not conflict with it: the two merge with nothing in common. No list is made of it.
 //! - Contexted patches that change other files, under other absolute labels, do not conflict: their normal
 //!   orders change other files too, and merge as they are. No list is made of them.
-//! - Two contexted patches without a label in common, each of which is its own normal order, conflict where
-//!   the inverse of the first primitive of the one does not commute with the first of the other. No list is made
-//!   of them.
+//! - Two contexted patches without a label in common conflict exactly where they don't merge as they stand, if each
+//!   is its own normal order or they have room: with room, whether lists merge does not depend on their orders.
+//!   So none is put in order; and where the inverse of the first primitive of the one does not commute with the
+//!   first of the other, no list is made of them.
 //! - Two lists with no label in common merge as they stand where each is its own normal order: a split
 //!   takes nothing off. Where their first primitives do not merge, the lists do not, and neither is copied.
 mod behind;
@@ -31,6 +32,6 @@ mod links;
 mod stays;
 
 pub use behind::conflict_behind;
-pub(crate) use conflicts::{are_apart, clash, merge_apart, stand_aside};
+pub(crate) use conflicts::{are_apart, clash, conflict_in_any_order, merge_apart, stand_aside};
 pub(crate) use elsewhere::are_elsewhere;
 pub(crate) use links::{becomes_context, linked};

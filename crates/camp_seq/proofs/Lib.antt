@@ -10,6 +10,7 @@ pub mod ListRuns
 pub mod ListSteps
 pub mod ListsDecided
 pub mod MergeGrid
+pub mod MergeOrders
 pub mod NormalForms
 pub mod NormalOrders
 pub mod OrderSteps
@@ -18,4 +19,5 @@ pub mod PassingSteps
 pub mod PlacingSteps
 pub mod Reaching
 pub mod RoomSteps
+pub mod RoomToMerge
 pub mod Words

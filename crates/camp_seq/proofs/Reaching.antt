@@ -1,5 +1,5 @@
 -- A list whose reach is in range has room: in every order its hunks stand in their files, whose ends are known.
-use Rattle.camp_seq.proofs.Words.{◌≡◌, ℕ, ◌+◌, ◌-◌, ◌≤◌, ◌^◌, max, List, [], ◌∷◌, ◌++◌, length, drop, get_or, refl, sym, ap, ◌∙◌, subst, inl, inr, arith, All, at_drop_all, All-nil, All-cons, All-head, All-tail, InRange, path_of, PrimitivesCommute, Primitive, Named, Reaches, here, further, HasRoom, line_of, sides_of, greatest_line, all_sides, reach_of}
+use Rattle.camp_seq.proofs.Words.{◌≡◌, ℕ, ◌+◌, ◌-◌, ◌≤◌, ◌^◌, List, [], ◌∷◌, ◌++◌, length, get_or, refl, sym, ap, ◌∙◌, subst, inl, inr, arith, All, All-nil, All-cons, All-head, All-tail, InRange, path_of, PrimitivesCommute, Primitive, Named, Reaches, here, further, HasRoom, line_of, sides_of, greatest_line, all_sides, reach_of}
 use Rattle.camp_prim.specs.declared.primitives.Primitive.TheVariants.{Add, Remove, Hunk}
 use Rattle.camp_prim.proofs.FileEnds.{Steps, same_path_or_not, both_turned, olds_of, news_of, news_kept}
 
@@ -97,10 +97,3 @@ room_within s a le t r =
     let there = reached path before s t r (every_fits path before (greatest_line s) s a (omega arith) (omega arith)) in
     let news : all_news t ≡ all_news s = there.1 in
     in_range_at path before t there.0 (omega arith))
-
--- what a walk over the whole list has found is its reach
-pub reach_at_end : (greatest sides i : ℕ) (s : List Named) → length s ≤ i → max greatest (greatest_line (drop i s)) ≡ greatest_line s → sides + all_sides (drop i s) ≡ all_sides s → greatest + sides ≡ reach_of s
-reach_at_end greatest sides i s le line all =
-    let a : greatest_line (drop i s) ≡ 0 = at_drop_all greatest_line s i le in
-    let b : all_sides (drop i s) ≡ 0 = at_drop_all all_sides s i le in
-    omega arith

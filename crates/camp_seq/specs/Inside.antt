@@ -3,3 +3,4 @@ pub mod InPlace
 pub mod Insertions
 pub mod LeastLabels
 pub mod NextInOrder
+pub mod Reach

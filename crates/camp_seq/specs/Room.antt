@@ -1,5 +1,5 @@
 -- When every list that commuting neighbours makes of a list is in range.
-use Rattle.std.specs.Prelude.{◌≤◌, List, [], ◌∷◌}
+use Rattle.std.specs.Prelude.{◌≤◌, List, [], ◌∷◌, ◌++◌}
 use Rattle.std.specs.List.{All}
 use Rattle.camp_base.specs.Limits.{greatest_reach}
 use Rattle.camp_prim.specs.Effect.{InRange}
@@ -7,7 +7,9 @@ use Rattle.camp_prim.specs.Laws.{SixOrders}
 use Rattle.camp_prim.specs.Commuting.{CommuteAnywhere, Commute}
 use Rattle.camp_prim.specs.declared.named.Named.{Named}
 use Rattle.camp_seq.specs.Equivalence.{CommutesOnce, ◌~◌}
+use Rattle.camp_seq.specs.Merging.{CleanMerge}
 use Rattle.camp_seq.specs.NormalOrder.{Norm}
+use Rattle.camp_seq.specs.Running.{inverse_all}
 use Rattle.camp_seq.specs.Shapes.{reach_of}
 
 -- a list leads to another by commuting neighbours any number of times, in range or not, one after the other
@@ -36,3 +38,14 @@ NormalForm = (s t : List Named) → HasRoom s → s ~ t → (u : List Named) →
 -- a list of primitives in range whose reach is in range has room
 abbrev pub ReachGivesRoom : Type 0
 ReachGivesRoom = (s : List Named) → All (λ p. InRange p.prim) s → reach_of s ≤ greatest_reach → HasRoom s
+
+-- two lists that begin in one state have room to merge: the inverse of each with the other behind it has room
+pub record HasRoomToMerge (s t : List Named) : Type 0 where
+  pub forth : HasRoom (inverse_all s ++ t)
+  pub back : HasRoom (inverse_all t ++ s)
+
+-- with room, whether two lists merge cleanly does not depend on the order of their elements
+abbrev pub MergesInAnyOrder : Type 0
+MergesInAnyOrder =
+    (s u t v : List Named) → HasRoomToMerge s t → s ~ u → t ~ v → (t' s' : List Named) → CleanMerge s t t' s'
+    → (v' : List Named) × (u' : List Named) × CleanMerge u v v' u'

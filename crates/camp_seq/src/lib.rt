@@ -24,10 +24,12 @@ pub use laws::{
     splits_are_by_labels,
 };
 pub use merges::{clean_merge, invert_all};
-pub use normal_forms::{normal_order_is_a_normal_form, six_orders_of_three_agree};
+pub use normal_forms::{
+    lists_merge_in_any_order, normal_order_is_a_normal_form, six_orders_of_three_agree,
+};
 pub use orders::{norm, ordered, ordered_before};
 pub use passes::{past, past_all};
-pub use rooms::{has_room, reach_gives_room};
+pub use rooms::{has_room, has_room_to_merge, reach_gives_room};
 pub use runs::apply_all;
 pub use seqs::Seq;
 pub use splits::split;

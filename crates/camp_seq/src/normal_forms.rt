@@ -1,4 +1,4 @@
-ghost use Rattle.camp_seq.specs.Room.{LawOfThree, NormalForm};
+ghost use Rattle.camp_seq.specs.Room.{LawOfThree, MergesInAnyOrder, NormalForm};
 
 /// Where the first two of three primitives commute, and the third commutes past both, the six orders of
 /// the three exist and agree, given room.
@@ -11,4 +11,10 @@ pub fn six_orders_of_three_agree()
 #[tactic(auto, using(crate::proofs::NormalForms::normal_form))]
 pub fn normal_order_is_a_normal_form()
     ensures law { NormalForm }
+{}
+
+/// Whether two lists merge cleanly does not depend on the order of their elements, given room.
+#[tactic(auto, using(crate::proofs::MergeOrders::merges_in_any_order))]
+pub fn lists_merge_in_any_order()
+    ensures law { MergesInAnyOrder }
 {}

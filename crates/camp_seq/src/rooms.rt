@@ -1,8 +1,9 @@
-ghost use Rattle.std.specs.Prelude.{◌≡◌, ◌≤◌, ◌↔◌, IsTrue};
+ghost use Rattle.std.specs.Prelude.{◌≡◌, ◌<◌, ◌≤◌, ◌+◌, ◌↔◌, [], ◌∷◌, ◌++◌, IfSome, IsTrue, MatchOption};
 ghost use Rattle.camp_base.specs.Limits.{greatest_reach};
 ghost use Rattle.camp_prim.specs.Effect.{InRange};
-ghost use Rattle.camp_seq.specs.Room.{HasRoom, ReachGivesRoom};
-ghost use Rattle.camp_seq.specs.Shapes.{line_of, sides_of, reach_of};
+ghost use Rattle.camp_seq.specs.Inside.Reach.{GoesOnTo, IsShape};
+ghost use Rattle.camp_seq.specs.Room.{HasRoom, HasRoomToMerge, ReachGivesRoom};
+ghost use Rattle.camp_seq.specs.Shapes.{all_sides, line_of, sides_of, reach_of};
 
 use crate::Seq;
 use camp_prim::{Named, Primitive};
@@ -32,16 +33,49 @@ pub(crate) fn surely_has_room(items: &[Named]) -> bool
     ensures exact { IsTrue result ↔ (reach_of items.now ≤ greatest_reach) }
     ensures room { IsTrue result → HasRoom items.now }
 {
-    let mut greatest = 0;
-    let mut sides = 0;
+    match shape_from(items, 0, 0) {
+        Some((greatest, sides)) => greatest + sides <= MAX_REACH,
+        None => false,
+    }
+}
+
+/// Whether two lists that begin in one state, each with one more element behind it, have room for sure to merge, in
+/// whatever order their elements are. It takes one look at each element.
+pub fn has_room_to_merge(s: &[Named], p: &Named, t: &[Named], q: &Named) -> bool
+    ensures { IsTrue result → HasRoomToMerge (s.now ++ p.now ∷ []) (t.now ++ q.now ∷ []) }
+{
+    match (shape_with(s, p), shape_with(t, q)) {
+        (Some(one), Some(other)) => one.0.max(other.0) + one.1 + other.1 <= MAX_REACH,
+        _ => false,
+    }
+}
+
+/// The greatest line of a list's hunks and the numbers of all their lines together, with one more element behind the
+/// list. None where that is surely too much.
+fn shape_with(items: &[Named], last: &Named) -> Option<(usize, usize)>
+    ensures { IfSome result (λ shape. IsShape (items.now ++ last.now ∷ []) shape.0 shape.1) }
+{
+    shape_from(items, line_of(&last.prim), sides_of(&last.prim))
+}
+
+/// The greater of a line and the greatest line of a list's hunks, and a number with the numbers of all their lines.
+/// None where that number is more than 2^30.
+fn shape_from(items: &[Named], line: usize, more: usize) -> Option<(usize, usize)>
+    requires line { line ≤ greatest_reach }
+    requires more { more ≤ greatest_reach }
+    ensures { MatchOption result (greatest_reach < more + all_sides items.now)
+        (λ shape. GoesOnTo items.now line more shape.0 shape.1) }
+{
+    let mut greatest = line;
+    let mut sides = more;
     for p in items {
         greatest = line_of(&p.prim).max(greatest);
         sides += sides_of(&p.prim);
         if sides > MAX_REACH {
-            return false;
+            return None;
         }
     }
-    greatest + sides <= MAX_REACH
+    Some((greatest, sides))
 }
 
 /// The line of a hunk, and 0 for an add or a remove.

@@ -6,11 +6,20 @@ use Rattle.camp_prim.specs.Labels.{label_of, SameKey}
 use Rattle.camp_prim.specs.Commuting.{path_of}
 use Rattle.camp_prim.specs.declared.named.Named.{Named}
 use Rattle.camp_seq.specs.Merging.{CleanMerge}
+use Rattle.camp_seq.specs.NormalOrder.{Norm}
 use Rattle.camp_ctx.specs.Conflicts.{has_label}
 
 -- two lists do not merge cleanly
 abbrev pub NoCleanMerge : List Named → List Named → Type 0
 NoCleanMerge s t = (t' s' : List Named) → ¬ (CleanMerge s t t' s')
+
+-- two lists merge cleanly as they stand exactly where their normal orders do
+pub record MergesAsOrdered (s t : List Named) : Type 0 where
+  pub forth : (s1 t1 t' s' : List Named) → Norm s s1 → Norm t t1 → CleanMerge s1 t1 t' s'
+      → (v' : List Named) × (u' : List Named) × CleanMerge s t v' u'
+  pub back : (t' s' : List Named) → CleanMerge s t t' s'
+      → (s1 : List Named) × (t1 : List Named) × (v' : List Named) × (u' : List Named)
+      × Norm s s1 × Norm t t1 × CleanMerge s1 t1 v' u'
 
 -- no label of the one list is in the other
 abbrev pub LacksLabels : List Named → List Named → Type 0

@@ -1,5 +1,5 @@
 //! Conflicts and merges that a look tells.
-ghost use Rattle.std.specs.Prelude.{◌≡◌, ◌↔◌, List, [], ◌∷◌, IfOk, IsTrue};
+ghost use Rattle.std.specs.Prelude.{◌≡◌, ◌↔◌, List, [], ◌∷◌, IfOk, IfSome, IsTrue};
 ghost use Rattle.camp_base.specs.Answers.{FindsPair};
 ghost use Rattle.camp_prim.specs.Labels.{label_of};
 ghost use Rattle.camp_prim.specs.declared.named.Named.{Named as AnyNamed};
@@ -7,17 +7,17 @@ ghost use Rattle.camp_seq.specs.Merging.{CleanMerge};
 ghost use Rattle.camp_seq.specs.NormalOrder.{Norm};
 ghost use Rattle.camp_ctx.specs.Conflicts.{has_label, Conflict, MergesBehindCommon};
 ghost use Rattle.camp_ctx.specs.Contexts.{whole};
-ghost use Rattle.camp_ctx.specs.Inside.Apart.{LacksLabels, NoCleanMerge};
+ghost use Rattle.camp_ctx.specs.Inside.Apart.{LacksLabels, MergesAsOrdered, NoCleanMerge};
 
 use crate::Contexted;
 use crate::conflicts::has_label;
 use camp_prim::{Label, Named};
-use camp_seq::{Seq, can_commute, clean_merge, is_own_order, stays_past};
+use camp_seq::{Seq, can_commute, clean_merge, has_room_to_merge, is_own_order, stays_past};
 use std::alloc::AllocError;
 use std::slice;
 
-/// Whether a look tells that two contexted patches conflict: they have no label in common, each is its own
-/// normal order, and their first primitives don't merge. Where it says no, they may still do.
+/// Whether a look tells that two contexted patches conflict: they merge only as they stand, and their first primitives
+/// don't. Where it says no, they may still do.
 pub(crate) fn clash(x: &Contexted, y: &Contexted) -> Result<bool, AllocError>
     ensures { IfOk result (λ yes. IsTrue yes → Conflict x.now y.now) }
 {
@@ -26,13 +26,59 @@ pub(crate) fn clash(x: &Contexted, y: &Contexted) -> Result<bool, AllocError>
     if !stop_each_other(first, second)? {
         return Ok(false);
     }
+    Ok(merge_as_they_stand(x, y))
+}
+
+/// Whether two contexted patches conflict, given as lists too. None where they have a label in common, or where their
+/// orders may count.
+pub(crate) fn conflict_in_any_order(
+    x: &Contexted,
+    y: &Contexted,
+    first: &Seq,
+    second: &Seq,
+) -> Result<Option<bool>, AllocError>
+    requires first { first.now ≡ whole x.now }
+    requires second { second.now ≡ whole y.now }
+    ensures { IfOk result (λ told. IfSome told (λ found. IsTrue found ↔ Conflict x.now y.now)) }
+{
+    if !merge_as_they_stand(x, y) {
+        return Ok(None);
+    }
+    match clean_merge(first, second)? {
+        None => Ok(Some(true)),
+        Some(_) => Ok(Some(false)),
+    }
+}
+
+/// Whether two contexted patches conflict exactly where they don't merge as they stand: they have no label in common,
+/// and each is its own normal order, or they have room. Where it says no, that may still be so.
+fn merge_as_they_stand(x: &Contexted, y: &Contexted) -> bool
+    ensures labels { IsTrue result → LacksLabels (whole x.now) (whole y.now) }
+    ensures orders { IsTrue result → MergesAsOrdered (whole x.now) (whole y.now) }
+{
     if !have_no_common_label(x, y) {
-        return Ok(false);
+        return false;
     }
+    if are_ordered(x, y) {
+        return true;
+    }
+    has_room_to_merge(
+        x.context().items(),
+        x.patch(),
+        y.context().items(),
+        y.patch(),
+    )
+}
+
+/// Whether a look has told of both that they are their own normal orders.
+fn are_ordered(x: &Contexted, y: &Contexted) -> bool
+    ensures first { IsTrue result → Norm (whole x.now) (whole x.now) }
+    ensures second { IsTrue result → Norm (whole y.now) (whole y.now) }
+{
     if !x.whole_is_ordered() {
-        return Ok(false);
+        return false;
     }
-    Ok(y.whole_is_ordered())
+    y.whole_is_ordered()
 }
 
 /// The first primitive of the context, or the patch where there is none.

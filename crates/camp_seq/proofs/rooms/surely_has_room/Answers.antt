@@ -1,10 +1,9 @@
-use Rattle.camp_seq.proofs.Words.{◌≤◌, ◌^◌, subst, arith, length-drop}
+use Rattle.camp_seq.proofs.Words.{arith}
 use borrow.Author.Tests.{leb-true}
-use Rattle.camp_seq.proofs.Reaching.{room_within, reach_at_end}
+use Rattle.camp_seq.proofs.Reaching.{room_within}
 use Rattle.camp_seq.proofs.rooms.surely_has_room.Goals as goal
 
-pub returns-clause-room : goal.returns-clause-room
-returns-clause-room c holds =
-    let found = c.loop-p.invariant in
-    let reach = reach_at_end c.loop-p.greatest c.loop-p.sides c.loop-p.p-index c.args.items.now (omega arith) found.line found.sides in
-    room_within _ (found.ranges (λ k d within. absurd (omega (arith, length-drop c.loop-p.p-index c.args.items.now)))) (subst (λ x. x ≤ 2 ^ 30) reach (leb-true _ _ holds))
+pub returns-in-Some-clause-room : goal.returns-in-Some-clause-room
+returns-in-Some-clause-room c holds =
+    let found = c.in-Some.ensures in
+    room_within c.args.items.now found.ranges (omega (arith, leb-true _ _ holds, found.top, found.all))

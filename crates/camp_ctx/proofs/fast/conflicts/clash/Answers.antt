@@ -1,11 +1,10 @@
 use Rattle.camp_ctx.proofs.Words.{whole}
-use Rattle.camp_ctx.proofs.Standing.{clashes, firsts_stop}
+use Rattle.camp_ctx.proofs.AnyOrder.{conflict_as_they_stand}
+use Rattle.camp_ctx.proofs.Standing.{firsts_stop}
 use Rattle.camp_ctx.proofs.fast.conflicts.clash.Goals as goal
 
 pub returns : goal.returns
 returns c = λ yes.
     let stops = rw (c.from_ref-first.ensures.value, c.from_ref-second.ensures.value) at (c.in_ok-stop_each_other.ensures c.if-not-branch.false) in
-    let own = c.whole_is_ordered.ensures c.if-not-whole_is_ordered.false in
-    let other = c.whole_is_ordered-2.ensures yes in
-    let lacks = c.have_no_common_label.ensures c.if-not-have_no_common_label.false in
-    clashes c.args.x.now c.args.y.now lacks own other (firsts_stop (whole c.args.x.now) (whole c.args.y.now) _ _ _ _ c.first_of.ensures.1 c.first_of-2.ensures.1 stops)
+    conflict_as_they_stand c.args.x.now c.args.y.now (c.merge_as_they_stand.ensures.labels yes) (c.merge_as_they_stand.ensures.orders yes)
+    (firsts_stop (whole c.args.x.now) (whole c.args.y.now) _ _ _ _ c.first_of.ensures.1 c.first_of-2.ensures.1 stops)
