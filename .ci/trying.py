@@ -38,7 +38,7 @@ def build(crate, program, words=(), given="stdin", told=None):
         try:
             while not found and ran.poll() is None:
                 time.sleep(0.05)
-                end_hints(ran.pid)
+                look_after(ran.pid)
                 found = any(taken(it, program) for it in glob.glob(f"{folder}/*/*/program"))
                 if told:
                     told(time.time() - started)
@@ -58,7 +58,7 @@ def tried(crate):
         ran = subprocess.Popen(["rt", "try"], cwd=crate, stdin=subprocess.DEVNULL, stdout=wrote, stderr=said)
         while ran.poll() is None:
             time.sleep(0.05)
-            end_hints(ran.pid)
+            look_after(ran.pid)
         texts = []
         for it in (wrote, said):
             it.seek(0)
@@ -66,15 +66,29 @@ def tried(crate):
     return ran.returncode, *texts
 
 
-def end_hints(process):
-    """Ends the check that `rt try` runs beside its build for hints on names: it takes as long as the build does."""
+def look_after(process):
+    """Ends the check that `rt try` runs beside its build for hints on names, since it takes as long as the build does, and
+    lets the build give way as this process does."""
+    give_way(process)
     for child in children_of(process):
+        give_way(child)
         try:
             with open(f"/proc/{child}/cmdline", "rb") as it:
                 if it.read().split(b"\0")[:2][-1:] == [b"check"]:
                     os.kill(child, signal.SIGKILL)
         except OSError:
             pass
+
+
+def give_way(process):
+    """Gives the session of a process the niceness of this one: `rt try` builds in a session of its own, and between sessions
+    Linux goes by that of the sessions, where it groups processes by them."""
+    try:
+        if os.getsid(process) != os.getsid(0):
+            with open(f"/proc/{process}/autogroup", "w", encoding="utf-8") as it:
+                it.write(str(os.nice(0)))
+    except OSError:
+        pass
 
 
 def children_of(process):
