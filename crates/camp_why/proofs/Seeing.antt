@@ -120,11 +120,11 @@ plain word other none =
     (record { returns = returns.0; strange = strange.0; quotes = quotes.0; capitals = capitals.0 }, capitals.1)
 
 plain_line : (line word : List ℕ) (other : Hint) → line_hint line word other ≡ seen.Nothing
-    → (begins_signed (first_word (words_of line)) ≡ false) × IsPlain word × (other ≡ seen.Nothing)
+    → (is_cut line ≡ false) × (begins_signed (first_word (words_of line)) ≡ false) × IsPlain word × (other ≡ seen.Nothing)
 plain_line line word other none =
     let whole = passed (is_cut line) seen.TooLong _ refl none in
     let signed = passed (begins_signed (first_word (words_of line))) seen.OfBody _ refl whole.1 in
-    let found = plain word other signed.1 in (signed.0, found.0, found.1)
+    let found = plain word other signed.1 in (whole.0, signed.0, found.0, found.1)
 
 no_form : (line : List ℕ) → begins_signed (first_word (words_of line)) ≡ false → form_hint line ≡ seen.Nothing → HasNoForm line
 no_form line unsigned none =
@@ -164,8 +164,9 @@ new_line line none =
 shows_nothing : (kind : FaultKind) (line : List ℕ) → hint kind line ≡ seen.Nothing → ShowsNothing kind line
 shows_nothing kind.UnknownCommand line none =
     let found = plain_line line (command_word line) (form_hint line) none in
-    (found.1, no_form line found.0 found.2)
-shows_nothing kind.BadGroup line none = (plain_line line (first_word (words_of line)) seen.Nothing none).1
+    (found.0, found.2, no_form line found.1 found.3)
+shows_nothing kind.BadGroup line none =
+    let found = plain_line line (first_word (words_of line)) seen.Nothing none in (found.0, found.1, found.2)
 shows_nothing kind.BadName line none = (plain (misnamed (words_of line)) seen.Nothing none).0
 shows_nothing kind.WrongNumberOfWords line none =
     let returns = passed (list_any is_return (words_of line)) seen.CarriageReturn _ refl none in

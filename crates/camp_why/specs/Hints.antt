@@ -285,8 +285,9 @@ pub record HasNoForm (line : List ℕ) : Type 0 where
 
 -- nothing is to be seen in a line with a fault of a kind
 abbrev pub ShowsNothing : FaultKind → List ℕ → Type 0
-ShowsNothing UnknownCommand line = IsPlain (command_word line) × HasNoForm line
-ShowsNothing BadGroup line = IsPlain (first_word (words_of line))
+ShowsNothing UnknownCommand line = (is_cut line ≡ false) × IsPlain (command_word line) × HasNoForm line
+ShowsNothing BadGroup line =
+    (is_cut line ≡ false) × (begins_signed (first_word (words_of line)) ≡ false) × IsPlain (first_word (words_of line))
 ShowsNothing BadName line = IsPlain (misnamed (words_of line))
 ShowsNothing WrongNumberOfWords line =
     (list_any is_return (words_of line) ≡ false) × (list_any begins_quoted (words_of line) ≡ false)
