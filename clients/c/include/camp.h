@@ -59,7 +59,7 @@ int32_t camp_open(camp *repository);
 /* Asks the commands of a text, which is a conversation of its own: docs/shell.md has the commands and their answers. The
  * answer is that of each command, one behind another; a refusal or a fault is an answer as any other. A body that is not
  * ended has its fault; lines count from 1 in each text.
- * CAMP_MEMORY: commands at the front were answered as far as the answer goes, and one more may have been done. Where you
+ * CAMP_MEMORY: the first commands were answered as far as the answer goes, and one more may have been done. Where you
  * have to know, ask one command at a time, and `history` afterwards. */
 int32_t camp_ask(camp *repository, const uint8_t *text, size_t length);
 
@@ -76,8 +76,8 @@ void camp_close(camp *repository);
  * CAMP_NOT_OPEN: the repository is closed, or the view is open. CAMP_MEMORY: the view stays closed. */
 int32_t camp_look(camp *repository, camp_view *view);
 
-/* Asks the questions of a text of a view. A command that would write, or that asks about the history (`history`, `keep`),
- * is answered by the fault `not asked of a view`. Nothing but the answer changes.
+/* Asks the questions of a text of a view. A command that would write, or that asks about the history (`history`, `keep`) or
+ * about an earlier command (`why`), is answered by the fault `not asked of a view`. Nothing but the answer changes.
  * CAMP_MEMORY: the answer is empty. */
 int32_t camp_view_ask(camp_view *view, const uint8_t *text, size_t length);
 

@@ -1,4 +1,4 @@
-//! Callers of each crate, proved from its public clauses alone: what the contracts are good for.
+//! Callers of the crates up to camp_run, proved from their public clauses alone: what the contracts are good for.
 #![tactic(auto)]
 
 pub mod branches;
