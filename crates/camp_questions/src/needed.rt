@@ -1,7 +1,8 @@
 ghost use Rattle.std.specs.Prelude.{◌≡◌, ℕ, List, map, IfOk};
 ghost use Rattle.camp_branch.specs.Branches.{is_among, names_of};
 ghost use Rattle.camp_branch.specs.Fields.{names_in};
-ghost use Rattle.camp_questions.specs.Inside.Graphing.{NeedEach};
+ghost use Rattle.camp_questions.specs.Graphs.{NeedsThese};
+ghost use Rattle.camp_questions.specs.Inside.Graphing.{NeedEach, marked};
 
 use crate::dependencies::stuck_to_front;
 use crate::fast::{all_reached, by_patch, taken_back};
@@ -29,8 +30,7 @@ pub(crate) fn all_needed(branch: &Branch, names: &[Name]) -> Result<Vec<Needed>,
     let alloc = branch.catches().allocator();
     let catches = branch.catches().to_vec()?;
     let patches = by_patch(alloc, &catches)?;
-    let back = taken_back(alloc, &catches, &patches)?;
-    match back {
+    match taken_back(alloc, &catches, &patches)? {
         Some(back) => all_reached(alloc, &back),
         None => all_stuck(alloc, &catches, names),
     }
@@ -47,12 +47,25 @@ fn all_stuck(
 {
     let mut all = Vec::with_capacity(alloc, names.len())?;
     for name in names {
-        let named = set_of(alloc, slice::from_ref(name))?;
-        let grown = stuck_to_front(alloc, catches, named)?;
-        let needs = marks_of(alloc, names, &grown)?;
+        let needs = stuck_marks(alloc, catches, names, name)?;
         all.push(Needed { name: *name, needs })?;
     }
     Ok(all)
+}
+
+/// Which of the names the patch of one needs.
+fn stuck_marks(
+    alloc: Global,
+    catches: &[Shared<Catch>],
+    names: &[Name],
+    name: &Name,
+) -> Result<Vec<bool>, AllocError>
+    requires { names.now ≡ names_of catches.now }
+    ensures { IfOk result (λ marks. NeedsThese catches.now (record { name = name.now; needs = marked names.now marks.items })) }
+{
+    let named = set_of(alloc, slice::from_ref(name))?;
+    let grown = stuck_to_front(alloc, catches, named)?;
+    marks_of(alloc, names, &grown)
 }
 
 /// Which of the names are in a set.

@@ -2,7 +2,7 @@
 ghost use Rattle.std.specs.Prelude.{◌≡◌, ◌≤◌, [], ◌∷◌, ◌++◌, map, filter, fold, if◌then◌else◌, nat_lt, min, max, IfOk, OnOk};
 ghost use Rattle.std.specs.List.{slice_range};
 ghost use Rattle.camp_questions.specs.Inside.Placing.{is_within};
-ghost use Rattle.camp_questions.specs.Places.{at_place, differs_within, joined, place_from, range_of, touch, with_marks, with_range};
+ghost use Rattle.camp_questions.specs.Places.{at_place, differs_within, file_from, joined, place_from, range_of, touch, with_marks, with_range};
 
 use crate::common_lines::{common_end, common_front};
 use crate::marking::{MarkedFile, Place, Version};
@@ -11,7 +11,7 @@ use camp_share::SharedList;
 use std::alloc::{AllocError, Global};
 
 /// Lines of a file, from one place up to another; none, where the two are one.
-#[derive(Clone, Copy, Debug)]
+#[derive(Clone, Copy)]
 pub struct Range {
     pub from: usize,
     pub to: usize,
@@ -27,10 +27,23 @@ pub(crate) fn with_marks(
     let alloc = lines.allocator();
     let ranges = ranges_of(alloc, lines, versions)?;
     let found = places_of(alloc, &ranges)?;
-    let mut places = Vec::with_capacity(alloc, found.len())?;
+    file_with(lines, versions, &ranges, &found)
+}
+
+/// A file with what versions of it, which differ from it in these ranges, have at some places.
+fn file_with(
+    lines: &SharedList<Line>,
+    versions: &[Version],
+    ranges: &[Range],
+    found: &[Range],
+) -> Result<MarkedFile, AllocError>
+    requires { ranges.now ≡ map (λ version. range_of lines.now version.lines) versions.now }
+    ensures { IfOk result (λ file. file ≡ file_from lines.now versions.now 0 found.now) }
+{
+    let mut places = Vec::with_capacity(lines.allocator(), found.len())?;
     let mut at = 0;
-    for place in &found {
-        let next = place_from(lines, versions, &ranges, at, *place)?;
+    for place in found {
+        let next = place_from(lines, versions, ranges, at, *place)?;
         places.push(next)?;
         at = place.to;
     }
@@ -227,8 +240,7 @@ fn part(lines: &SharedList<Line>, from: usize, to: usize) -> Result<SharedList<L
 {
     let end = lesser(to, lines.len());
     let start = lesser(from, end);
-    let part = lines.copied(start, end)?;
-    Ok(part)
+    Ok(lines.copied(start, end)?)
 }
 
 fn lesser(a: usize, b: usize) -> usize

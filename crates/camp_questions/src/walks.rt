@@ -92,7 +92,7 @@ impl Walk {
         let gone = names.copied(from, to)?;
         let own = own_names(alloc, &gone, name, hunk)?;
         let before = keep(&mut taken, key, gone)?;
-        let coming = names_coming(before, own, hunk.new().len())?;
+        let coming = names_coming(before, own, hunk.new().len()).to_vec()?;
         let names = names.spliced(from, to, &coming)?;
         Ok(Walk { names, taken })
     }
@@ -115,14 +115,14 @@ fn keep(
 // many, and else its own.
 fn names_coming(
     taken: Option<SharedList<Name>>,
-    own: Vec<Name>,
+    own: SharedList<Name>,
     count: usize,
-) -> Result<Vec<Name>, AllocError>
-    ensures { IfOk result (λ names. names.items ≡ names_coming taken own.items count) }
+) -> SharedList<Name>
+    ensures { result ≡ names_coming taken own count }
 {
     match taken {
-        Some(taken) if taken.len() == count => taken.to_vec(),
-        _ => Ok(own),
+        Some(taken) if taken.len() == count => taken,
+        _ => own,
     }
 }
 
@@ -133,16 +133,12 @@ fn own_names(
     gone: &SharedList<Name>,
     name: &Name,
     hunk: &Hunk,
-) -> Result<Vec<Name>, AllocError>
+) -> Result<SharedList<Name>, AllocError>
     requires { length gone.now ≡ length hunk.now.old }
-    ensures { IfOk result (λ names. names.items ≡ own_names gone.now name.now hunk.now) }
+    ensures { IfOk result (λ names. names ≡ own_names gone.now name.now hunk.now) }
 {
     let front = common_front(hunk.old(), hunk.new());
     let end = common_end(&hunk.old()[front..], &hunk.new()[front..]);
-    let mut names = gone.range_to_vec(0, front)?;
     let between = vec![in alloc; *name; hunk.new().len() - front - end]?;
-    names.extend_from_slice(&between)?;
-    let last = gone.range_to_vec(gone.len() - end, gone.len())?;
-    names.extend_from_slice(&last)?;
-    Ok(names)
+    gone.spliced(front, gone.len() - end, &between)
 }
