@@ -5,7 +5,7 @@ ghost use Rattle.std.specs.FinMap.{get};
 ghost use Rattle.camp_branch.specs.Branches.{LeadsTo};
 ghost use Rattle.camp_ctx.specs.Contexts.{AreValid};
 ghost use Rattle.camp_questions.specs.Answers.{TellsOrWants};
-ghost use Rattle.camp_questions.specs.Marks.{AreMarked, AreVersions, IsMarked, Makes, MarksAt, names_in_pairs, with_made};
+ghost use Rattle.camp_questions.specs.Marks.{AreMarked, AreVersions, Makes, MarksAt, names_in_pairs, with_made};
 
 use crate::Unanswered;
 use crate::contents::file_at;
@@ -145,25 +145,12 @@ fn marks_at(branch: &Branch, tree: &Tree, path: &Path) -> Result<Marked, AllocEr
     let Some(lines) = tree.file(path) else {
         return Ok(Marked::NoFile);
     };
-    let file = file_marked(branch, tree, path, lines)?;
-    Ok(Marked::File(file))
-}
-
-/// A file of a branch with marks.
-fn file_marked(
-    branch: &Branch,
-    tree: &Tree,
-    path: &Path,
-    lines: &SharedList<Line>,
-) -> Result<MarkedFile, AllocError>
-    requires { LeadsTo branch.now tree.now }
-    ensures { IfOk result (IsMarked branch.now tree.now path.now lines.now) }
-{
     let seen = labels_seen(branch)?;
     let pairs = open_among(branch.catches(), &seen)?;
     let names = names_in_pairs(branch, &pairs)?;
     let versions = versions_of(&seen, tree, path, lines, names.as_slice())?;
-    with_marks(lines, &versions)
+    let file = with_marks(lines, &versions)?;
+    Ok(Marked::File(file))
 }
 
 /// The names of the patches of a branch that are in one of some pairs.

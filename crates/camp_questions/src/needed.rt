@@ -1,8 +1,7 @@
 ghost use Rattle.std.specs.Prelude.{◌≡◌, ℕ, List, map, IfOk};
 ghost use Rattle.camp_branch.specs.Branches.{is_among, names_of};
 ghost use Rattle.camp_branch.specs.Fields.{names_in};
-ghost use Rattle.camp_questions.specs.Graphs.{NeedsThese};
-ghost use Rattle.camp_questions.specs.Inside.Graphing.{NeedEach, marked};
+ghost use Rattle.camp_questions.specs.Inside.Graphing.{NeedEach};
 
 use crate::dependencies::stuck_to_front;
 use crate::fast::{all_reached, by_patch, taken_back};
@@ -47,25 +46,12 @@ fn all_stuck(
 {
     let mut all = Vec::with_capacity(alloc, names.len())?;
     for name in names {
-        let needs = stuck_marks(alloc, catches, names, name)?;
+        let named = set_of(alloc, slice::from_ref(name))?;
+        let grown = stuck_to_front(alloc, catches, named)?;
+        let needs = marks_of(alloc, names, &grown)?;
         all.push(Needed { name: *name, needs })?;
     }
     Ok(all)
-}
-
-/// Which of the names the patch of one needs.
-fn stuck_marks(
-    alloc: Global,
-    catches: &[Shared<Catch>],
-    names: &[Name],
-    name: &Name,
-) -> Result<Vec<bool>, AllocError>
-    requires { names.now ≡ names_of catches.now }
-    ensures { IfOk result (λ marks. NeedsThese catches.now (record { name = name.now; needs = marked names.now marks.items })) }
-{
-    let named = set_of(alloc, slice::from_ref(name))?;
-    let grown = stuck_to_front(alloc, catches, named)?;
-    marks_of(alloc, names, &grown)
 }
 
 /// Which of the names are in a set.

@@ -218,8 +218,12 @@ fn kept_pairs(
 ) -> Result<Vec<(Name, Name)>, AllocError>
     ensures { IfOk result (λ left. left.items ≡ filter (λ pair. has_name kept.now pair.0 && has_name kept.now pair.1) pairs.now) }
 {
-    let mut left = Vec::from_slice(alloc, pairs)?;
-    left.retain(|pair| are_kept(kept, pair));
+    let mut left = Vec::new(alloc);
+    for pair in pairs {
+        if are_kept(kept, pair) {
+            left.push(*pair)?;
+        }
+    }
     Ok(left)
 }
 

@@ -97,28 +97,35 @@ fn places_of(alloc: Global, ranges: &[Range]) -> Result<Vec<Range>, AllocError>
 fn with_range(alloc: Global, places: &[Range], range: Range) -> Result<Vec<Range>, AllocError>
     ensures { IfOk result (λ new. new.items ≡ with_range places.now range) }
 {
-    let mut new = places_before(alloc, places, range)?;
-    let whole = joined_with(range, places);
-    new.push(whole)?;
-    let behind = places_behind(alloc, places, range)?;
-    new.extend_from_slice(&behind)?;
+    let mut new = Vec::new(alloc);
+    append_before(&mut new, places, range)?;
+    new.push(joined_with(range, places))?;
+    append_behind(&mut new, places, range)?;
     Ok(new)
 }
 
-fn places_before(alloc: Global, places: &[Range], range: Range) -> Result<Vec<Range>, AllocError>
-    ensures { IfOk result (λ before. before.items ≡ filter (λ place. nat_lt place.to range.from) places.now) }
+/// Puts the places that end before a range behind others.
+fn append_before(new: &mut Vec<Range>, places: &[Range], range: Range) -> Result<(), AllocError>
+    ensures { OnOk result (new.new.items ≡ new.old.items ++ filter (λ place. nat_lt place.to range.from) places.now) }
 {
-    let mut before = Vec::from_slice(alloc, places)?;
-    before.retain(|place| place.to < range.from);
-    Ok(before)
+    for place in places {
+        if place.to < range.from {
+            new.push(*place)?;
+        }
+    }
+    Ok(())
 }
 
-fn places_behind(alloc: Global, places: &[Range], range: Range) -> Result<Vec<Range>, AllocError>
-    ensures { IfOk result (λ behind. behind.items ≡ filter (λ place. nat_lt range.to place.from) places.now) }
+/// Puts the places that begin behind a range behind others.
+fn append_behind(new: &mut Vec<Range>, places: &[Range], range: Range) -> Result<(), AllocError>
+    ensures { OnOk result (new.new.items ≡ new.old.items ++ filter (λ place. nat_lt range.to place.from) places.now) }
 {
-    let mut behind = Vec::from_slice(alloc, places)?;
-    behind.retain(|place| range.to < place.from);
-    Ok(behind)
+    for place in places {
+        if range.to < place.from {
+            new.push(*place)?;
+        }
+    }
+    Ok(())
 }
 
 /// A range and those that it touches, as one.

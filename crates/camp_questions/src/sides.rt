@@ -74,16 +74,9 @@ fn said_in(branch: &Branch, name: &Name) -> Result<Said, AllocError>
     let alloc = branch.catches().allocator();
     let seen = labels_seen(branch)?;
     let side = side_among(alloc, &seen, name)?;
-    let changes = changes_in(alloc, side.items())?;
+    let mut changes = Vec::with_capacity(alloc, side.items().len())?;
+    append_changes(&mut changes, side.items())?;
     Ok(Said { changes })
-}
-
-fn changes_in(alloc: Global, side: &[Named]) -> Result<Vec<Primitive>, AllocError>
-    ensures { IfOk result (λ changes. changes.items ≡ changes_in side.now) }
-{
-    let mut changes = Vec::with_capacity(alloc, side.len())?;
-    append_changes(&mut changes, side)?;
-    Ok(changes)
 }
 
 /// The labels in conflict of a branch, as seen from its end: from the last catch to the first, with
