@@ -1,5 +1,5 @@
 -- Questions, and what is told of them.
-use Rattle.camp_questions.proofs.Words.{Catch, Contents, catches_of, first_lacked, ◌≡◌, ℕ, List, Result, Ok, Err, Some, refl, subst, None, AnswerOf, IfOk, Tells, IsFound, IsTold, Unanswered, MatchOption, Refusal, NoBranch, NoPatch, OfBranch, OfPatches, TellsOrWants}
+use Rattle.camp_questions.proofs.Words.{Catch, Contents, catches_of, ◌≡◌, ℕ, List, Result, Ok, Err, Some, refl, subst, AnswerOf, IfOk, Tells, IsFound, IsTold, Unanswered, MatchOption, Refusal, NoBranch, NoPatch, OfBranch, OfPatches, TellsOrWants}
 
 -- an answer is no refusal
 pub no_refusal : {A : Type 0} (refusal : Refusal) (answer : A) (is : AnswerOf A) → is ≡ Err refusal → is ≡ Ok answer → ⊥

@@ -1,5 +1,5 @@
 -- The graph of a branch, patch by patch.
-use Rattle.camp_questions.proofs.Words.{◌≡◌, ◌<◌, ℕ, ◌+◌, Bool, cond, List, [], ◌∷◌, ◌++◌, map, filter, length, take, get_or, Ok, Some, refl, sym, ap, ◌∙◌, subst, AllByRecursion, Catch, is_among, name_of, names_of, AreConflicts, all_append, Contents, catches_of, ComeToFront, Drawn, IsGraph, IsGraphOf, Needing, NeedsThese, StickOn, node_of, Node, in_order, map-append, take_more, conflicts_are_determined, Needed, NeedEach, marked, needing, GrowsToFront, node_in, AreAlike, map-map, map-id}
+use Rattle.camp_questions.proofs.Words.{◌≡◌, ◌<◌, ℕ, ◌+◌, Bool, cond, List, [], ◌∷◌, ◌++◌, map, filter, length, take, get_or, refl, sym, ap, ◌∙◌, subst, AllByRecursion, Catch, is_among, name_of, names_of, AreConflicts, all_append, ComeToFront, Drawn, IsGraph, Needing, NeedsThese, StickOn, node_of, Node, in_order, map-append, take_more, conflicts_are_determined, Needed, NeedEach, marked, needing, GrowsToFront, node_in, AreAlike, map-map, map-id}
 use Rattle.camp_questions.proofs.BranchGrowths.{needs_are_determined, to_front}
 use Rattle.camp_questions.proofs.Growing.{grown_in_order}
 use Rattle.camp_questions.proofs.PatchFronts.{all_images}

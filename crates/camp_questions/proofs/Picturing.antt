@@ -1,5 +1,5 @@
 -- How the parts of a picture are gathered.
-use Rattle.camp_questions.proofs.Words.{◌≡◌, ◌<◌, ◌+◌, ◌&&◌, ℕ, Bool, true, false, List, [], ◌∷◌, map, filter, drop, length, get_or, Ok, Err, refl, sym, ap, ◌∙◌, arith, drop_more, Contents, Catch, IsFound, Node, Drawn, IsGraph, IsGraphOf, AnswerOf, ◌==◌, true≢false, eqb-true, Refusal, OfPatches, AreOpen, AreOpenIn, IsPictured, Picture, drawn_about, hangs_on, kept_node, part_with, whole_picture, with_needing, with_needing_one, with_needs, with_needs_of}
+use Rattle.camp_questions.proofs.Words.{◌≡◌, ◌<◌, ◌+◌, ◌&&◌, ℕ, Bool, true, false, List, [], ◌∷◌, map, filter, drop, length, get_or, refl, sym, ap, ◌∙◌, arith, drop_more, Node, ◌==◌, true≢false, eqb-true, Picture, drawn_about, hangs_on, kept_node, part_with, with_needing, with_needing_one, with_needs, with_needs_of}
 
 -- one more patch, from the last, brings what it needs
 pub one_brought : (nodes : List Node) (i at : ℕ) (node d : Node) (names was next : List (List ℕ)) → i + 1 ≡ at → i < length nodes → node ≡ get_or nodes i d → was ≡ with_needs (drop at nodes) names → next ≡ with_needs_of node was → next ≡ with_needs (drop i nodes) names

@@ -1,5 +1,5 @@
 -- How a file with its places is made, one place after the other.
-use Rattle.camp_questions.proofs.Words.{append-nil, arith, length-drop, slice_range, ◌≡◌, ◌<◌, ◌≤◌, ℕ, ◌+◌, ◌-◌, Bool, true, false, cond, List, [], ◌∷◌, ◌++◌, drop, filter, get_or, length, map, take, sym, ap, ◌∙◌, append_assoc, drop_more, map-append, Lines, get_or-map, take_all, File, Place, at_place, differs_within, file_from, place_from, range_of, with_marks, Version, Range, take_more, filter-append}
+use Rattle.camp_questions.proofs.Words.{append-nil, arith, length-drop, slice_range, ◌≡◌, ◌<◌, ◌≤◌, ℕ, ◌+◌, ◌-◌, Bool, true, false, cond, List, [], ◌∷◌, ◌++◌, drop, filter, get_or, length, map, take, sym, ap, ◌∙◌, append_assoc, drop_more, map-append, Lines, get_or-map, take_all, File, Place, at_place, differs_within, file_from, place_from, range_of, Version, Range, take_more, filter-append}
 use Rattle.std.proofs.Math.ListN.{drop_of_length-le}
 use Rattle.camp_questions.specs.Inside.Placing.{is_within}
 

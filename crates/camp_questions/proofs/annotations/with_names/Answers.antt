@@ -1,4 +1,4 @@
-use Rattle.camp_questions.proofs.Words.{List, ◌∙◌, sym, ap, annotated, names_of_lines}
+use Rattle.camp_questions.proofs.Words.{◌∙◌, sym, ap, annotated, names_of_lines}
 use Rattle.camp_questions.specs.declared.annotations.Annotated.TheVariants.{File}
 use Rattle.camp_questions.proofs.annotations.with_names.Goals as goal
 

@@ -1,4 +1,4 @@
-use Rattle.camp_questions.proofs.Words.{◌≡◌, ◌∙◌, inl, refl, subst, List, Arrange, ArrangeSticks, Catch, names_in}
+use Rattle.camp_questions.proofs.Words.{◌≡◌, ◌∙◌, inl, refl, subst, Arrange, ArrangeSticks, names_in}
 use Rattle.camp_questions.proofs.AlongEnough.{have_diverged, stands_behind}
 use Rattle.camp_questions.proofs.bringing.behind_common.Goals as goal
 

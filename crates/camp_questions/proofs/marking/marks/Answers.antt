@@ -1,4 +1,4 @@
-use Rattle.camp_questions.proofs.Words.{◌≡◌, Files, LeadsTo, MarksAt, get, IfOk-weaker}
+use Rattle.camp_questions.proofs.Words.{Files, LeadsTo, MarksAt, get, IfOk-weaker}
 use Rattle.camp_questions.proofs.Answering.{such_wanted}
 use Rattle.camp_questions.proofs.marking.marks.Goals as goal
 
