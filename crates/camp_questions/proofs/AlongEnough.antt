@@ -1,5 +1,5 @@
 -- A pull of what comes along is not refused for want of a patch.
-use Rattle.camp_questions.proofs.Words.{and_from, and_parts, ◌≡◌, ℕ, Bool, true, false, not, ◌&&◌, List, [], ◌∷◌, ◌++◌, map, filter, Option, None, Some, Ok, Err, refl, sym, ap, ◌∙◌, inl, inr, subst, Key, Catch, has_patch, is_among, name_of, names_of, among_kept, among_once, Arrange, AreAlike, Contents, catches_of, first_lacked, is_empty, step, AreAmong, ComeToFront, StickOn, MatchOption, filter_image, is_among_is, not_among, MergesBehind, Outcome, PullGives, WantedNext, common_names, NoBranch, NoPatch, NothingToDo, TooLarge, keep_labels, lists_are_unique, lists_succeed_or_stick, KeysPart, keys_of, Decision, becomes, is_full_with, refused, refused_if, wanted, AnswerOf, OfBranch, OfPatches, AlongIsEnough, map-map, catch_key, ◌≢◌, ArrangeSticks, arrange_by_members, in_order, GrowsToFront}
+use Rattle.camp_questions.proofs.Words.{and_from, and_parts, ◌≡◌, ℕ, Bool, true, false, not, ◌&&◌, List, [], ◌∷◌, ◌++◌, map, filter, Option, None, Some, Ok, Err, refl, sym, ap, ◌∙◌, inl, inr, subst, Key, Catch, has_patch, is_among, name_of, names_of, among_kept, among_once, Arrange, AreAlike, Contents, catches_of, first_lacked, is_empty, step, AreAmong, ComeToFront, StickOn, MatchOption, filter_image, is_among_is, not_among, MergesBehind, Outcome, PullGives, WantedNext, common_names, NoBranch, NoPatch, NothingToDo, TooLarge, keep_labels, lists_are_unique, lists_succeed_or_stick, KeysPart, keys_of, Decision, becomes, is_full_with, refused, refused_if, wanted, AnswerOf, OfBranch, OfPatches, AlongIsEnough, map-map, catch_key, ◌≢◌, ArrangeSticks, arrange_by_members, in_order, GrowsToFront, Result, IfOk, IsTold, Unanswered}
 use Rattle.camp_branch.proofs.Words.{cond-false, cond-true}
 use Rattle.camp_branch.proofs.OutcomesDetermined.{outcomes_are_determined}
 use Rattle.camp_branch.specs.declared.faults.Blocked.TheVariants as blocked
@@ -8,7 +8,7 @@ use Rattle.camp_call.specs.declared.replies.Refusal.TheVariants.{Depends}
 use Rattle.camp_repo.specs.Outcomes.{pulled}
 use Rattle.camp_questions.proofs.BranchGrowths.{none_lacked, none_lacked_among, to_front, contains_alike}
 use Rattle.camp_questions.proofs.Growths.{all_done, all_own, in_order_there, names_differ, same_in_order}
-use Rattle.camp_questions.specs.Along.{AlongOr, ComesAlong, OfTwo, AreAlong, HaveDiverged}
+use Rattle.camp_questions.specs.Along.{AlongOr, ComesAlong, OfTwo, HaveDiverged, TellsAlong}
 use Rattle.camp_questions.proofs.Growing.{grown_in_order}
 use Rattle.camp_questions.specs.Inside.Alongside.{StandBehind}
 
@@ -174,5 +174,8 @@ comes_along from to behind names set grown told stand alike grows is =
     (stand.0, behind, stand.1, grown_in_order (map name_of behind) (ComeToFront behind) (StickOn behind) (to_front behind) from (wanted to names) set grown told alike grows is)
 
 module _ (state : Contents) (from to : List ℕ) (names : List (List ℕ)) (theirs ours : List Catch) (is_from : catches_of state.branches from ≡ Some theirs) (is_to : catches_of state.branches to ≡ Some ours) where
-  pub are_along : (told : List (List ℕ)) → from ≢ to → first_lacked theirs names ≡ None → ComesAlong theirs ours names told → AreAlong state from to names (Ok told)
-  are_along told two none w = rw is_from (rw is_to (inr (two, rw none (inl (told, refl, w)))))
+  pub along_told : {E : Type 0} (made : Result (List (List ℕ)) E) (result : Result (List (List ℕ)) Unanswered) → IsTold made result → IfOk made (ComesAlong theirs ours names) → from ≢ to → first_lacked theirs names ≡ None → TellsAlong state from to names result
+  along_told (Ok told) result is w two none =
+      rw is (rw is_from (rw is_to (inr (two, rw none (inl (told, refl, w))))))
+  along_told (Err error) result is w two none =
+      rw is (record { theirs = theirs; ours = ours; is_from = is_from; is_to = is_to; are_two = two; has = none })

@@ -1,5 +1,5 @@
 -- The arrows of a graph are the direct needs.
-use Rattle.camp_questions.proofs.Words.{◌≡◌, ◌≢◌, ℕ, Bool, true, false, true≢false, not, ◌||◌, List, [], ◌∷◌, ◌++◌, map, bytes_eq, refl, sym, ap, ◌∙◌, subst, ◌↔◌, AllByRecursion, list_any, Catch, and_from, and_parts, not-true, is_among, name_of, names_of, name_itself, or_true, among_kept, among_once, Needs, Node, ArrowsAreDirectNeeds, NeedsDirectly, NeedsPatch, Needing, NeedsThese, goes_between, needs_directly, needs_other, node_of, inl, inr}
+use Rattle.camp_questions.proofs.Words.{◌≡◌, ℕ, Bool, true, false, true≢false, not, ◌||◌, List, [], ◌∷◌, ◌++◌, map, bytes_eq, refl, sym, ap, ◌∙◌, subst, ◌↔◌, AllByRecursion, list_any, Catch, and_from, and_parts, not-true, is_among, name_of, names_of, name_itself, or_true, among_kept, among_once, Needs, Node, ArrowsAreDirectNeeds, NeedsDirectly, NeedsPatch, Needing, NeedsThese, goes_between, needs_directly, needs_other, node_of, inl, inr}
 use Rattle.camp_questions.proofs.BranchGrowths.{needs_are_determined}
 use Rattle.camp_questions.proofs.Growths.{among_cases, in_order_there, names_differ}
 use Rattle.camp_questions.proofs.PatchFronts.{all_are, all_images, one_passing}

@@ -4,6 +4,7 @@ use Rattle.std.proofs.lemmas.Nat.{mod_below}
 use Rattle.camp_seq.specs.Room.{here}
 use Rattle.camp_catch.specs.Commuting.{CommuteCatch}
 use Rattle.camp_questions.specs.declared.fast.changed_files.PatchFiles.{PatchFiles}
+use Rattle.camp_questions.specs.Inside.ChangedFiles.{HasFiles}
 use Rattle.camp_questions.proofs.PartsArranged.{of_its_name}
 use Rattle.camp_questions.proofs.ReachedPatches.{catches_at}
 
@@ -128,21 +129,20 @@ plain_in_range [] all = tt
 plain_in_range (p ∷ s) all =
     (All-head (λ p. InRange p.prim) p s all, plain_in_range s (All-tail (λ p. InRange p.prim) p s all))
 
--- the catches of a patch taken back are plain and in range
-pub ready_at : (branch : List Catch) (patches : List PatchCatches) → IsInverted branch patches → (place : ℕ) (p d : PatchCatches) → place < length patches → p ≡ get_or patches place d → AllByRecursion IsPlainInRange p.catches.items
-ready_at branch patches inverted place p d within is =
-    let back = inverse_all inverted.forth in
-    let all = plain_in_range back (inverted.room_back back here) in
-    catches_at patches inverted.are place p d within is IsPlainInRange (subst (AllByRecursion IsPlainInRange) (sym inverted.inverses) all)
-
--- the files of the patch at a place
-pub files_at : (patches : List PatchCatches) (files : List PatchFiles) → AreFilesOf patches files → length files ≡ length patches → (place : ℕ) (p d : PatchCatches) (f e : PatchFiles) → place < length patches → p ≡ get_or patches place d → f ≡ get_or files place e → f.numbers.items ≡ map number_of p.catches.items
-files_at patches files are each place p d f e within is there =
-    ap (λ (x : PatchFiles). x.numbers.items) there
-    ∙ sym (get_or-map (λ (x : PatchFiles). x.numbers.items) files place e e.numbers.items (omega (arith, within, each)))
-    ∙ ap (λ l. get_or l place e.numbers.items) are
-    ∙ get_or-map (λ (x : PatchCatches). map number_of x.catches.items) patches place d e.numbers.items within
-    ∙ ap (λ (x : PatchCatches). map number_of x.catches.items) (sym is)
+-- the catches of the patch at a place are plain and in range, and these are their files
+pub has_files : (branch : List Catch) (patches : List PatchCatches) → IsInverted branch patches → (files : List PatchFiles) → AreFilesOf patches files → length files ≡ length patches → (place : ℕ) (p d : PatchCatches) (f e : PatchFiles) → place < length patches → p ≡ get_or patches place d → f ≡ get_or files place e → HasFiles p f
+has_files branch patches inverted files are each place p d f e within is there = record {
+  plain =
+      let back = inverse_all inverted.forth in
+      let all = plain_in_range back (inverted.room_back back here) in
+      catches_at patches inverted.are place p d within is IsPlainInRange (subst (AllByRecursion IsPlainInRange) (sym inverted.inverses) all);
+  numbers =
+      ap (λ (x : PatchFiles). x.numbers.items) there
+      ∙ sym (get_or-map (λ (x : PatchFiles). x.numbers.items) files place e e.numbers.items (omega (arith, within, each)))
+      ∙ ap (λ l. get_or l place e.numbers.items) are
+      ∙ get_or-map (λ (x : PatchCatches). map number_of x.catches.items) patches place d e.numbers.items within
+      ∙ ap (λ (x : PatchCatches). map number_of x.catches.items) (sym is);
+}
 
 pub as_many_files : (patches : List PatchCatches) (files : List PatchFiles) → AreFilesOf patches files → length files ≡ length patches
 as_many_files patches files are =

@@ -1,5 +1,5 @@
 -- The graph of a branch, patch by patch.
-use Rattle.camp_questions.proofs.Words.{◌≡◌, ◌<◌, ℕ, ◌+◌, Bool, cond, List, [], ◌∷◌, ◌++◌, map, filter, length, take, get_or, Ok, Some, refl, sym, ap, ◌∙◌, subst, AllByRecursion, Catch, is_among, name_of, names_of, AreConflicts, all_append, Contents, catches_of, ComeToFront, Drawn, IsGraph, IsGraphOf, Needing, NeedsThese, StickOn, node_of, Node, in_order, map-append, take_more, conflicts_are_determined, Needed, NeedEach, marked, needing, GrowsToFront, node_in, AreAlike, map-map, map-id}
+use Rattle.camp_questions.proofs.Words.{◌≡◌, ◌<◌, ℕ, ◌+◌, Bool, cond, List, [], ◌∷◌, ◌++◌, map, filter, length, take, get_or, refl, sym, ap, ◌∙◌, subst, AllByRecursion, Catch, is_among, name_of, names_of, AreConflicts, all_append, ComeToFront, Drawn, IsGraph, Needing, NeedsThese, StickOn, node_of, Node, in_order, map-append, take_more, conflicts_are_determined, Needed, NeedEach, marked, needing, GrowsToFront, node_in, AreAlike, map-map, map-id}
 use Rattle.camp_questions.proofs.BranchGrowths.{needs_are_determined, to_front}
 use Rattle.camp_questions.proofs.Growing.{grown_in_order}
 use Rattle.camp_questions.proofs.PatchFronts.{all_images}
@@ -29,10 +29,10 @@ marked_by test [] = refl
 marked_by test (n ∷ names) = ap (λ l. cond (test n) (n ∷ l) l) (marked_by test names)
 
 -- what a patch sticks on is marked
-pub grown_needs : (branch : List Catch) (names : List (List ℕ)) (name : List ℕ) (set grown : List (List ℕ)) (one : Needed) → names ≡ names_of branch → AreAlike set (name ∷ []) → GrowsToFront branch set grown → one.name ≡ name → one.needs.items ≡ map (is_among grown) names → NeedsThese branch (needing names one)
-grown_needs branch names name set grown one own alike grows called marks =
-    let told : marked names one.needs.items ≡ in_order branch grown = ap (marked names) marks ∙ marked_by (is_among grown) names ∙ ap (filter (is_among grown)) own in
-    (marked names one.needs.items, grown_in_order (map name_of branch) (ComeToFront branch) (StickOn branch) (to_front branch) branch (one.name ∷ []) set grown (marked names one.needs.items) (λ n. alike n ∙ ap (λ m. is_among (m ∷ []) n) (sym called)) grows told, λ n. refl)
+pub grown_needs : (branch : List Catch) (names : List (List ℕ)) (name : List ℕ) (set grown : List (List ℕ)) (marks : List Bool) → names ≡ names_of branch → AreAlike set (name ∷ []) → GrowsToFront branch set grown → marks ≡ map (is_among grown) names → NeedsThese branch (record { name = name; needs = marked names marks })
+grown_needs branch names name set grown marks own alike grows are =
+    let told : marked names marks ≡ in_order branch grown = ap (marked names) are ∙ marked_by (is_among grown) names ∙ ap (filter (is_among grown)) own in
+    (marked names marks, grown_in_order (map name_of branch) (ComeToFront branch) (StickOn branch) (to_front branch) branch (name ∷ []) set grown (marked names marks) alike grows told, λ n. refl)
 
 -- what a patch needs in a branch
 abbrev needing_in : List Catch → List ℕ → Needing
@@ -57,10 +57,6 @@ is_drawn branch = record {
   patches = refl;
   conflicts = (conflicts_are_determined branch).1;
 }
-
--- there is the branch, and this is its graph
-pub is_graph_of : (state : Contents) (branch : List ℕ) (catches : List Catch) (graph : Drawn) → catches_of state.branches branch ≡ Some catches → IsGraph catches graph → IsGraphOf state branch (Ok graph)
-is_graph_of state branch catches graph is w = rw is (graph, refl, w)
 
 pub graph_of_nodes : (branch : List Catch) (names : List (List ℕ)) (all : List Needed) (nodes : List Node) (pairs told : List (List ℕ × List ℕ)) → names ≡ names_of branch → NeedEach branch names all → nodes ≡ map (node_in names (map (needing names) all)) (map (needing names) all) → AreConflicts branch pairs → told ≡ pairs → IsGraph branch (record { patches = nodes; conflicts = told })
 graph_of_nodes branch names all nodes pairs told own each drawn are same = record {

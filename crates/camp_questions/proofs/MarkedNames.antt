@@ -1,5 +1,5 @@
 -- Names that are marked by their places.
-use Rattle.camp_questions.proofs.Words.{◌≡◌, ◌<◌, ◌≤◌, ◌≢◌, ℕ, zero, suc, ◌+◌, Bool, true, false, true≢false, ◌||◌, List, [], ◌∷◌, length, get_or, take, replicate, bytes_eq, refl, sym, ap, ◌∙◌, arith, is_among, is_among_is, name_itself, or_none, or_parts, or_true, same_name, AreDistinct, set, false_from_ne_true, or_from, Contains-get_or, AreMarkedBelow, marked, marked_in_both, other_way}
+use Rattle.camp_questions.proofs.Words.{◌≡◌, ◌<◌, ◌≤◌, ℕ, zero, suc, ◌+◌, Bool, true, false, true≢false, ◌||◌, List, [], ◌∷◌, length, get_or, take, replicate, bytes_eq, refl, sym, ap, ◌∙◌, arith, is_among, is_among_is, name_itself, or_none, or_parts, or_true, same_name, AreDistinct, set, false_from_ne_true, or_from, Contains-get_or, AreMarkedBelow, marked, marked_in_both, other_way}
 
 -- whether a place is marked
 abbrev pub mark_at : List Bool → ℕ → Bool

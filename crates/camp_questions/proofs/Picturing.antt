@@ -1,6 +1,5 @@
 -- How the parts of a picture are gathered.
-use Rattle.camp_questions.proofs.Words.{◌≡◌, ◌<◌, ◌+◌, ◌&&◌, ℕ, Bool, true, false, List, [], ◌∷◌, map, filter, drop, length, get_or, Ok, Err, refl, sym, ap, ◌∙◌, arith, drop_more, Contents, Catch, IsFound, Node, Drawn, IsGraph, IsGraphOf, AnswerOf, ◌==◌, true≢false, eqb-true, Refusal, OfPatches, AreOpen, AreOpenIn, IsPictured, Picture, drawn_about, hangs_on, kept_node, part_with, whole_picture, with_needing, with_needing_one, with_needs, with_needs_of}
-use Rattle.camp_questions.proofs.Answering.{goes_on, goes_on_with, no_refusal}
+use Rattle.camp_questions.proofs.Words.{◌≡◌, ◌<◌, ◌+◌, ◌&&◌, ℕ, Bool, true, false, List, [], ◌∷◌, map, filter, drop, length, get_or, refl, sym, ap, ◌∙◌, arith, drop_more, Node, ◌==◌, true≢false, eqb-true, Picture, drawn_about, hangs_on, kept_node, part_with, with_needing, with_needing_one, with_needs, with_needs_of}
 
 -- one more patch, from the last, brings what it needs
 pub one_brought : (nodes : List Node) (i at : ℕ) (node d : Node) (names was next : List (List ℕ)) → i + 1 ≡ at → i < length nodes → node ≡ get_or nodes i d → was ≡ with_needs (drop at nodes) names → next ≡ with_needs_of node was → next ≡ with_needs (drop i nodes) names
@@ -20,27 +19,6 @@ pub part_made : (keeps others : List ℕ → Bool) (nodes left : List Node) (pai
 part_made keeps others nodes left pairs kept unsettled same are pairs_are =
     (λ i. record { patches = are i; conflicts = pairs_are i; unsettled = unsettled })
     ∙ ap (λ f. part_with f (record { patches = nodes; conflicts = pairs; unsettled = unsettled })) (λ i name. same name i)
-
-one_answer : {A : Type 0} (a b : A) (is : AnswerOf A) → is ≡ Ok a → is ≡ Ok b → a ≡ b
-one_answer a b is e f = cc
-
-module _ (state : Contents) (branch : List ℕ) (names : List (List ℕ)) (catches : List Catch) (found : IsFound state branch names catches) where
-  abbrev Goes : List Catch → AnswerOf Picture → Type 0
-  Goes c answer =
-      (graph : Drawn) × (pairs : List (List ℕ × List ℕ)) × (answer ≡ Ok (drawn_about names (whole_picture graph pairs)))
-      × IsGraph c graph × AreOpenIn c pairs
-
-  pub is_pictured : (graph : Drawn) (pairs : List (List ℕ × List ℕ)) (told : Picture) → IsGraphOf state branch (Ok graph) → AreOpen state branch (Ok pairs) → told ≡ drawn_about names (whole_picture graph pairs) → IsPictured state branch names (Ok told)
-  is_pictured graph pairs told first second is =
-      let on = goes_on state branch catches (λ c answer. (graph : Drawn) × (answer ≡ Ok graph) × IsGraph c graph) (Ok graph) found.is first in
-      let open_on = goes_on state branch catches (λ c answer. (pairs : List (List ℕ × List ℕ)) × (answer ≡ Ok pairs) × AreOpenIn c pairs) (Ok pairs) found.is second in
-      rw found.is (rw found.has (on.0, open_on.0, ap Ok is ∙ (λ i. Ok (drawn_about names (whole_picture (one_answer graph on.0 (Ok graph) refl on.1 i) (one_answer pairs open_on.0 (Ok pairs) refl open_on.1 i)))), on.2, open_on.2))
-
-  pub picture_not_refused : (refusal : Refusal) → ¬ (IsPictured state branch names (Err refusal))
-  picture_not_refused refusal w =
-      let on = goes_on state branch catches (λ c. OfPatches c names (Goes c)) (Err refusal) found.is w in
-      let told = goes_on_with catches names (Goes catches) (Err refusal) found.has on in
-      no_refusal refusal (drawn_about names (whole_picture told.0 told.1)) (Err refusal) refl told.2
 
 -- with no patch named the whole is drawn
 pub all_drawn : (names : List (List ℕ)) (whole : Picture) (test : Bool) → test ≡ (length names == 0) → test ≡ true → whole ≡ drawn_about names whole

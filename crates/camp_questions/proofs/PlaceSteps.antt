@@ -1,5 +1,5 @@
 -- How a file with its places is made, one place after the other.
-use Rattle.camp_questions.proofs.Words.{append-nil, arith, length-drop, slice_range, ◌≡◌, ◌<◌, ◌≤◌, ℕ, ◌+◌, ◌-◌, Bool, true, false, cond, List, [], ◌∷◌, ◌++◌, drop, filter, get_or, length, map, take, sym, ap, ◌∙◌, append_assoc, drop_more, map-append, Lines, get_or-map, take_all, File, Place, at_place, differs_within, file_from, place_from, range_of, with_marks, Version, Range, take_more, filter-append}
+use Rattle.camp_questions.proofs.Words.{append-nil, arith, length-drop, slice_range, ◌≡◌, ◌<◌, ◌≤◌, ℕ, ◌+◌, ◌-◌, Bool, true, false, cond, List, [], ◌∷◌, ◌++◌, drop, filter, get_or, length, map, take, sym, ap, ◌∙◌, append_assoc, drop_more, map-append, Lines, get_or-map, take_all, File, Place, at_place, differs_within, file_from, place_from, range_of, Version, Range, take_more, filter-append}
 use Rattle.std.proofs.Math.ListN.{drop_of_length-le}
 use Rattle.camp_questions.specs.Inside.Placing.{is_within}
 
@@ -26,9 +26,9 @@ range_there lines versions ranges i range d version are within is there =
     is ∙ ap (λ l. get_or l i d) are ∙ get_or-map (λ (v : Version). range_of lines v.lines) versions i version d within ∙ ap (λ (v : Version). range_of lines v.lines) (sym there)
 
 -- one more place of a file
-pub one_more_place : (lines : Lines) (versions : List Version) (found : List Range) (i : ℕ) (range d : Range) (at : ℕ) (places next : List Place) (place : Place) → i < length found → range ≡ get_or found i d → place ≡ place_from lines versions at range → next ≡ places ++ place ∷ []
-    → behind_places places (file_from lines versions at (drop i found)) ≡ with_marks lines versions → behind_places next (file_from lines versions range.to (drop (i + 1) found)) ≡ with_marks lines versions
-one_more_place lines versions found i range d at places next place within is made becomes was =
+pub one_more_place : (lines : Lines) (versions : List Version) (found : List Range) (i : ℕ) (range d : Range) (at : ℕ) (places next : List Place) (place : Place) (whole : File) → i < length found → range ≡ get_or found i d → place ≡ place_from lines versions at range → next ≡ places ++ place ∷ []
+    → behind_places places (file_from lines versions at (drop i found)) ≡ whole → behind_places next (file_from lines versions range.to (drop (i + 1) found)) ≡ whole
+one_more_place lines versions found i range d at places next place whole within is made becomes was =
     let rest = file_from lines versions range.to (drop (i + 1) found) in
     let here : drop i found ≡ range ∷ drop (i + 1) found = drop_more found i d within ∙ ap (λ r. r ∷ drop (i + 1) found) (sym is) in
     ap (λ l. behind_places l rest) (becomes ∙ ap (λ p. places ++ p ∷ []) made) ∙ ap (λ l. record { places = l; rest = rest.rest }) (append_assoc places (place_from lines versions at range ∷ []) rest.places)
@@ -43,7 +43,7 @@ abbrev pub file_of : List Place → Lines → File
 file_of places rest = record { places = places; rest = rest }
 
 -- all places are made
-pub all_places : (lines : Lines) (versions : List Version) (found : List Range) (i at : ℕ) (places : List Place) → length found ≤ i → behind_places places (file_from lines versions at (drop i found)) ≡ with_marks lines versions → file_of places (drop at lines) ≡ with_marks lines versions
-all_places lines versions found i at places past was =
+pub all_places : (lines : Lines) (versions : List Version) (found : List Range) (i at : ℕ) (places : List Place) (whole : File) → length found ≤ i → behind_places places (file_from lines versions at (drop i found)) ≡ whole → file_of places (drop at lines) ≡ whole
+all_places lines versions found i at places whole past was =
     ap (λ l. record { places = l; rest = drop at lines }) (sym (append-nil places))
     ∙ ap (λ l. behind_places places (file_from lines versions at l)) (sym (drop_of_length-le found past)) ∙ was

@@ -82,6 +82,7 @@ pub use Rattle.camp_questions.specs.Inside.Growing.{Grows, GrowsToFront, GrowsTo
 pub use Rattle.camp_questions.specs.Inside.Moving.{Passes, hunk_at}
 pub use Rattle.camp_questions.specs.Inside.Seeing.{AllSeenToo, ComesIf, ComesIfNamed, SeenToo, first_with}
 pub use Rattle.camp_questions.specs.Inside.StandingAside.{AllStay, ComeBeforeAll, StandsAside, StickBehind}
+pub use Rattle.camp_questions.specs.Inside.Telling.{IsTold}
 pub use Rattle.camp_questions.specs.Inside.TakingBack.{AreInverses, AreTakenBack, HaveRoom}
 pub use Rattle.camp_questions.specs.Marks.{AreMarked, AreVersions, Makes, MarksAt, is_in_pair, names_in_pairs, with_made}
 pub use Rattle.camp_questions.specs.OpenConflicts.{AreInOpenConflict, AreOpen, AreOpenAmong, AreOpenIn, OpensWith, is_open}

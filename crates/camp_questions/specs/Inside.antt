@@ -13,4 +13,5 @@ pub mod Placing
 pub mod Seeing
 pub mod StandingAside
 pub mod TakingBack
+pub mod Telling
 pub mod Walking

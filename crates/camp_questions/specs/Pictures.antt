@@ -1,5 +1,5 @@
 -- Pictures of branches: how their patches hang together, and which conflicts are open.
-use Rattle.std.specs.Prelude.{◌≡◌, ℕ, Bool, ◌&&◌, ◌||◌, List, [], ◌∷◌, ◌++◌, map, filter, Ok, if◌then◌else◌}
+use Rattle.std.specs.Prelude.{◌≡◌, ℕ, Bool, ◌&&◌, List, [], ◌∷◌, ◌++◌, map, filter, Ok, if◌then◌else◌}
 use Rattle.std.specs.List.{list_any}
 use Rattle.camp_branch.specs.Branches.{is_among}
 use Rattle.camp_repo.specs.States.{Contents}

@@ -1,12 +1,18 @@
-ghost use Rattle.camp_questions.specs.Annotations.{AreAnnotated};
+ghost use Rattle.std.specs.FinMap.{get};
+ghost use Rattle.std.specs.Prelude.{◌≡◌, IfOk};
+ghost use Rattle.camp_branch.specs.Branches.{LeadsTo};
+ghost use Rattle.camp_questions.specs.Annotations.{AreAnnotated, annotated, names_of_lines};
 ghost use Rattle.camp_questions.specs.Answers.{Tells};
 
 use crate::Unanswered;
 use crate::finding::branch_of;
+use crate::telling::told;
 use crate::walks::names_of_lines;
-use camp_base::{Line, Name, Path};
+use camp_base::{Line, Name, Path, Tree};
+use camp_catch::Catch;
 use camp_repo::State;
-use camp_share::{Share, SharedList};
+use camp_share::{Share, Shared, SharedList};
+use std::alloc::AllocError;
 
 /// What is told of the lines of a path.
 #[derive(Drop)]
@@ -26,10 +32,22 @@ pub fn annotate(state: &State, branch: &Name, path: &Path) -> Result<Annotated, 
     ensures exact { Tells (AreAnnotated state.now branch.now path.now) result }
 {
     let branch = branch_of(state, branch)?;
-    let Some(lines) = branch.tree().file(path) else {
+    told(with_names(branch.catches(), branch.tree(), path))
+}
+
+/// The same of catches that lead to a tree.
+fn with_names(
+    catches: &SharedList<Shared<Catch>>,
+    tree: &Tree,
+    path: &Path,
+) -> Result<Annotated, AllocError>
+    requires { LeadsTo catches.now tree.now }
+    ensures { IfOk result (λ told. told ≡ annotated (get tree.now path.now) (names_of_lines path.now catches.now)) }
+{
+    let Some(lines) = tree.file(path) else {
         return Ok(Annotated::NoFile);
     };
-    let names = names_of_lines(branch.catches(), path)?;
+    let names = names_of_lines(catches, path)?;
     let lines = lines.share()?;
     Ok(Annotated::File { lines, names })
 }

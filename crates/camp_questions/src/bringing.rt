@@ -3,13 +3,16 @@ ghost use Rattle.std.specs.Prelude.{◌≡◌, ℕ, List, IfOk};
 ghost use Rattle.std.specs.Result.{MatchResult};
 ghost use Rattle.camp_branch.specs.Branches.{is_among};
 ghost use Rattle.camp_branch.specs.Fields.{names_in};
+ghost use Rattle.camp_branch.specs.Pulling.{common_names};
 ghost use Rattle.camp_repo.specs.Steps.{wanted};
-ghost use Rattle.camp_questions.specs.Along.{TellsAlong};
+ghost use Rattle.camp_questions.specs.Along.{ComesAlong, TellsAlong};
 ghost use Rattle.camp_questions.specs.Inside.Alongside.{DoNotStand, StandBehind};
 
 use crate::Unanswered;
 use crate::dependencies::{in_order, stuck_to_front};
 use crate::finding::branch_of;
+use crate::keeping::keep_lacked;
+use crate::telling::told;
 use camp_base::Name;
 use camp_branch::{NameSet, set_of};
 use camp_catch::{Catch, Unmade, arrange};
@@ -31,23 +34,33 @@ pub fn along(state: &State, from: &Name, to: &Name, names: &[Name]) -> Result<Na
     if let Some(name) = theirs.first_lacked(names) {
         return Err(Unanswered::Refused(Refusal::NoPatch(name)));
     }
-    let alloc = theirs.catches().allocator();
     let behind = behind_common(theirs, ours)?;
-    let wanted = wanted(alloc, ours, names)?;
-    let grown = stuck_to_front(alloc, &behind, wanted)?;
-    Ok(in_order(theirs, &grown)?)
+    told(brought(theirs, ours, &behind, names))
+}
+
+/// The names that come along behind the patches that both branches have.
+fn brought(
+    from: &Branch,
+    to: &Branch,
+    behind: &[Shared<Catch>],
+    names: &[Name],
+) -> Result<Names, AllocError>
+    requires { StandBehind from.now to.now behind.now }
+    ensures { IfOk result (ComesAlong from.now to.now names.now) }
+{
+    let alloc = from.catches().allocator();
+    let wanted = wanted(alloc, to, names)?;
+    let grown = stuck_to_front(alloc, behind, wanted)?;
+    in_order(from, &grown)
 }
 
 /// The catches of a branch behind those of the patches that both branches have.
 fn behind_common(from: &Branch, to: &Branch) -> Result<Vec<Shared<Catch>>, Unanswered>
     ensures { MatchResult result (λ behind. StandBehind from.now to.now behind.items) (DoNotStand from.now to.now) }
 {
-    let alloc = from.catches().allocator();
-    let mut names = from.names()?;
-    names.retain(|name| to.has_patch(name));
-    let common = set_of(alloc, &names)?;
+    let common = common(from, to)?;
     let catches = from.catches().to_vec()?;
-    match arrange(alloc, &catches, &common) {
+    match arrange(from.catches().allocator(), &catches, &common) {
         Ok(arranged) => Ok(arranged.rest),
         Err(Unmade::Blocked(stuck)) => {
             Err(Unanswered::Refused(Refusal::Diverged(stuck.patch.name)))
@@ -56,12 +69,20 @@ fn behind_common(from: &Branch, to: &Branch) -> Result<Vec<Shared<Catch>>, Unans
     }
 }
 
+/// The names of the patches that both branches have.
+fn common(from: &Branch, to: &Branch) -> Result<NameSet, AllocError>
+    ensures { IfOk result (λ set. (name : List ℕ) → is_among (names_in set) name ≡ is_among (common_names from.now to.now) name) }
+{
+    let mut names = from.names()?;
+    names.retain(|name| to.has_patch(name));
+    set_of(from.catches().allocator(), &names)
+}
+
 /// Those of the names of which a branch has no patch.
 fn wanted(alloc: Global, to: &Branch, names: &[Name]) -> Result<NameSet, AllocError>
     ensures { IfOk result (λ set. (name : List ℕ) → is_among (names_in set) name ≡ is_among (wanted to.now names.now) name) }
 {
     let mut wanted = Vec::from_slice(alloc, names)?;
-    wanted.retain(|name| !to.has_patch(name));
-    let set = set_of(alloc, &wanted)?;
-    Ok(set)
+    keep_lacked(&mut wanted, to);
+    set_of(alloc, &wanted)
 }

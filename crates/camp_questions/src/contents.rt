@@ -1,11 +1,13 @@
 //! What a repository and its branches have.
+ghost use Rattle.std.specs.FinMap.{get};
 ghost use Rattle.std.specs.Prelude.{◌≡◌, IfOk};
 ghost use Rattle.camp_questions.specs.Answers.{Tells};
 ghost use Rattle.camp_questions.specs.Files.{IsFile, branch_names};
 
 use crate::Unanswered;
 use crate::finding::branch_of;
-use camp_base::{Line, Name, Path};
+use crate::telling::told;
+use camp_base::{Line, Name, Path, Tree};
 use camp_repo::{Names, State};
 use camp_share::{Share, SharedList};
 use std::alloc::{AllocError, Global};
@@ -28,7 +30,14 @@ pub fn file(
     ensures exact { Tells (IsFile state.now branch.now path.now) result }
 {
     let branch = branch_of(state, branch)?;
-    match branch.tree().file(path) {
+    told(file_at(branch.tree(), path))
+}
+
+/// The lines of the file of a path, shared with the tree.
+pub(crate) fn file_at(tree: &Tree, path: &Path) -> Result<Option<SharedList<Line>>, AllocError>
+    ensures { IfOk result (λ lines. lines ≡ get tree.now path.now) }
+{
+    match tree.file(path) {
         Some(lines) => Ok(Some(lines.share()?)),
         None => Ok(None),
     }

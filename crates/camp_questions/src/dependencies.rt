@@ -2,12 +2,14 @@ ghost use Rattle.std.specs.Prelude.{◌≡◌, ℕ, List, IfOk};
 ghost use Rattle.camp_branch.specs.Branches.{is_among};
 ghost use Rattle.camp_branch.specs.Fields.{names_in};
 ghost use Rattle.camp_questions.specs.Answers.{Tells};
-ghost use Rattle.camp_questions.specs.Dependencies.{AreHeldBy, AreNeeded, in_order};
+ghost use Rattle.camp_questions.specs.Dependencies.{AreHeldBy, AreNeeded, HeldBy, Needs, in_order};
 ghost use Rattle.camp_questions.specs.Inside.Growing.{GrowsToFront, GrowsToGo};
 
 use crate::Unanswered;
 use crate::fast::{by_patch, held_in, taken_back};
 use crate::finding::branch_with;
+use crate::keeping::keep_named;
+use crate::telling::told;
 use camp_base::Name;
 use camp_branch::{NameSet, set_of};
 use camp_catch::{Catch, Unmade, arrange};
@@ -22,9 +24,16 @@ pub fn needs(state: &State, branch: &Name, names: &[Name]) -> Result<Names, Unan
     ensures exact { Tells (AreNeeded state.now branch.now names.now) result }
 {
     let branch = branch_with(state, branch, names)?;
+    told(needed_in(branch, names))
+}
+
+/// What names of a branch need there.
+fn needed_in(branch: &Branch, names: &[Name]) -> Result<Names, AllocError>
+    ensures { IfOk result (Needs branch.now names.now) }
+{
     let named = set_of(branch.catches().allocator(), names)?;
     let needed = grown_to_front(branch, named)?;
-    Ok(in_order(branch, &needed)?)
+    in_order(branch, &needed)
 }
 
 /// The names that must go with these where they are taken out of a branch: the names themselves, and
@@ -33,9 +42,16 @@ pub fn held_by(state: &State, branch: &Name, names: &[Name]) -> Result<Names, Un
     ensures exact { Tells (AreHeldBy state.now branch.now names.now) result }
 {
     let branch = branch_with(state, branch, names)?;
+    told(held_there(branch, names))
+}
+
+/// What names of a branch hold there.
+fn held_there(branch: &Branch, names: &[Name]) -> Result<Names, AllocError>
+    ensures { IfOk result (HeldBy branch.now names.now) }
+{
     let named = set_of(branch.catches().allocator(), names)?;
     let held = grown_to_go(branch, named)?;
-    Ok(in_order(branch, &held)?)
+    in_order(branch, &held)
 }
 
 /// The names, and those that are added until they come to the front of the branch: where all its patches are
@@ -46,8 +62,7 @@ pub(crate) fn grown_to_front(branch: &Branch, names: NameSet) -> Result<NameSet,
     let alloc = branch.catches().allocator();
     let catches = branch.catches().to_vec()?;
     let patches = by_patch(alloc, &catches)?;
-    let back = taken_back(alloc, &catches, &patches)?;
-    match back {
+    match taken_back(alloc, &catches, &patches)? {
         Some(mut back) => {
             back.reverse();
             held_in(alloc, &back, names)
@@ -90,6 +105,6 @@ pub(crate) fn in_order(branch: &Branch, set: &NameSet) -> Result<Names, AllocErr
     ensures { IfOk result (λ names. names ≡ in_order branch.now (names_in set.now)) }
 {
     let mut names = branch.names()?;
-    names.retain(|name| set.contains_key(name));
+    keep_named(&mut names, set);
     Ok(Names::new(names))
 }

@@ -1,10 +1,14 @@
+ghost use Rattle.std.specs.Prelude.{◌≡◌, IfOk};
 ghost use Rattle.camp_questions.specs.Answers.{Tells};
-ghost use Rattle.camp_questions.specs.Differences.{IsMissing};
+ghost use Rattle.camp_questions.specs.Differences.{IsMissing, missing_in};
 
 use crate::Unanswered;
 use crate::finding::branch_of;
+use crate::keeping::keep_lacked;
+use crate::telling::told;
 use camp_base::Name;
-use camp_repo::{Names, State};
+use camp_repo::{Branch, Names, State};
+use std::alloc::AllocError;
 
 /// The names of the patches that the branch `from` has and `to` lacks, in the order of `from`: none,
 /// where the two are one. Where nothing refuses it, a pull without names brings these.
@@ -13,7 +17,14 @@ pub fn missing(state: &State, from: &Name, to: &Name) -> Result<Names, Unanswere
 {
     let theirs = branch_of(state, from)?;
     let ours = branch_of(state, to)?;
+    told(missing_in(ours, theirs))
+}
+
+/// The names of the patches that one branch lacks, in the order of the other.
+fn missing_in(ours: &Branch, theirs: &Branch) -> Result<Names, AllocError>
+    ensures { IfOk result (λ names. names ≡ missing_in ours.now theirs.now) }
+{
     let mut names = theirs.names()?;
-    names.retain(|name| !ours.has_patch(name));
+    keep_lacked(&mut names, ours);
     Ok(Names::new(names))
 }

@@ -13,20 +13,14 @@ pub fn graph_text(alloc: Global, picture: &Picture) -> Result<String, AllocError
     ensures exact { IfOk result (λ text. string_bytes text ≡ graph_text picture.now) }
 {
     let mut text = String::new(alloc);
-    append_heading(&mut text)?;
+    text.push_str(
+        "digraph {\n  rankdir=LR;\n  node [shape=box, style=rounded, height=0.3];\n  edge [color=gray50, arrowsize=0.6];\n",
+    )?;
     append_nodes(&mut text, picture.patches())?;
     let unsettled = picture.unsettled().pairs();
     append_conflicts(&mut text, unsettled, picture.conflicts().pairs())?;
     text.push_str("}\n")?;
     Ok(text)
-}
-
-fn append_heading(text: &mut String) -> Result<(), AllocError>
-    ensures { OnOk result (string_bytes text.new ≡ string_bytes text.old ++ heading) }
-{
-    text.push_str(
-        "digraph {\n  rankdir=LR;\n  node [shape=box, style=rounded, height=0.3];\n  edge [color=gray50, arrowsize=0.6];\n",
-    )
 }
 
 fn append_nodes(text: &mut String, nodes: &[Node]) -> Result<(), AllocError>

@@ -1,13 +1,15 @@
-ghost use Rattle.std.specs.Prelude.{◌≡◌};
+ghost use Rattle.std.specs.Prelude.{◌≡◌, IfOk};
 ghost use Rattle.camp_questions.specs.Answers.{Tells};
-ghost use Rattle.camp_questions.specs.Graphs.{IsGraphOf};
+ghost use Rattle.camp_questions.specs.Graphs.{IsGraph, IsGraphOf};
 
 use crate::Unanswered;
 use crate::finding::branch_of;
 use crate::needed::all_needed;
 use crate::nodes::nodes;
+use crate::telling::told;
 use camp_base::Name;
-use camp_repo::{Conflicts, Names, State};
+use camp_repo::{Branch, Conflicts, Names, State};
+use std::alloc::AllocError;
 use std::marker::Model;
 
 /// The patches of a branch, what each needs directly, and which are in conflict.
@@ -63,6 +65,12 @@ pub fn graph(state: &State, branch: &Name) -> Result<PatchGraph, Unanswered>
     ensures exact { Tells (IsGraphOf state.now branch.now) result }
 {
     let branch = branch_of(state, branch)?;
+    told(graph_of(branch))
+}
+
+pub(crate) fn graph_of(branch: &Branch) -> Result<PatchGraph, AllocError>
+    ensures { IfOk result (IsGraph branch.now) }
+{
     let names = branch.names()?;
     let all = all_needed(branch, &names)?;
     let patches = nodes(branch.catches().allocator(), &names, &all)?;

@@ -13,6 +13,7 @@ mod finding;
 mod foresight;
 mod graph_texts;
 mod graphs;
+mod keeping;
 mod laws;
 mod marking;
 mod needed;
@@ -23,6 +24,7 @@ mod pictures;
 mod places;
 mod showing;
 mod sides;
+mod telling;
 mod walks;
 
 pub use annotations::{Annotated, annotate};

@@ -2,20 +2,24 @@
 ghost use Rattle.std.specs.Prelude.{◌≡◌, ◌++◌, [], bytes_eq, IfOk, OnOk};
 ghost use Rattle.std.specs.Cmp.Lexicographic.{pointwise};
 ghost use Rattle.std.specs.FinMap.{get};
+ghost use Rattle.camp_branch.specs.Branches.{LeadsTo};
 ghost use Rattle.camp_ctx.specs.Contexts.{AreValid};
 ghost use Rattle.camp_questions.specs.Answers.{TellsOrWants};
-ghost use Rattle.camp_questions.specs.Marks.{AreMarked, AreVersions, Makes, names_in_pairs, with_made};
+ghost use Rattle.camp_questions.specs.Marks.{AreMarked, AreVersions, Makes, MarksAt, names_in_pairs, with_made};
 
 use crate::Unanswered;
+use crate::contents::file_at;
+use crate::dependencies::in_order;
 use crate::finding::branch_of;
 use crate::open_conflicts::open_among;
 use crate::places::with_marks;
 use crate::sides::{labels_seen, side_among};
+use crate::telling::told;
 use camp_base::{Apply, Line, Name, Path, Tree};
 use camp_ctx::CtxSet;
-use camp_repo::{Branch, State};
+use camp_repo::{Branch, Names, State};
 use camp_seq::apply_all;
-use camp_share::{Share, SharedList, SharedMap};
+use camp_share::{SharedList, SharedMap};
 use std::alloc::{AllocError, Global};
 use std::marker::Model;
 
@@ -130,30 +134,35 @@ pub fn marks(state: &State, branch: &Name, path: &Path) -> Result<Marked, Unansw
     ensures exact { TellsOrWants (AreMarked state.now branch.now path.now) result }
 {
     let branch = branch_of(state, branch)?;
-    let tree = branch.tree();
+    told(marks_at(branch, branch.tree(), path))
+}
+
+/// The same of a branch that leads to a tree.
+fn marks_at(branch: &Branch, tree: &Tree, path: &Path) -> Result<Marked, AllocError>
+    requires { LeadsTo branch.now tree.now }
+    ensures { IfOk result (MarksAt branch.now tree.now path.now (get tree.now path.now)) }
+{
     let Some(lines) = tree.file(path) else {
         return Ok(Marked::NoFile);
     };
     let seen = labels_seen(branch)?;
     let pairs = open_among(branch.catches(), &seen)?;
     let names = names_in_pairs(branch, &pairs)?;
-    let versions = versions_of(&seen, tree, path, lines, &names)?;
+    let versions = versions_of(&seen, tree, path, lines, names.as_slice())?;
     let file = with_marks(lines, &versions)?;
     Ok(Marked::File(file))
 }
 
 /// The names of the patches of a branch that are in one of some pairs.
-fn names_in_pairs(branch: &Branch, pairs: &[(Name, Name)]) -> Result<Vec<Name>, AllocError>
-    ensures { IfOk result (λ names. names.items ≡ names_in_pairs branch.now pairs.now) }
+fn names_in_pairs(branch: &Branch, pairs: &[(Name, Name)]) -> Result<Names, AllocError>
+    ensures { IfOk result (λ names. names ≡ names_in_pairs branch.now pairs.now) }
 {
     let mut set = SharedMap::new(branch.catches().allocator());
     for pair in pairs {
         let first = set.inserted(pair.0, ())?;
         set = first.inserted(pair.1, ())?;
     }
-    let mut names = branch.names()?;
-    names.retain(|name| set.contains_key(name));
-    Ok(names)
+    in_order(branch, &set)
 }
 
 /// The versions that patches would make of a file, in their order.
@@ -222,15 +231,5 @@ fn made_by(
         Err(Apply::Memory) => return Err(AllocError),
         Err(Apply::DoesNotApply) => unreachable!(),
     }
-    let made = file_at(&next, path)?;
-    Ok(made)
-}
-
-fn file_at(tree: &Tree, path: &Path) -> Result<Option<SharedList<Line>>, AllocError>
-    ensures { IfOk result (λ lines. lines ≡ get tree.now path.now) }
-{
-    match tree.file(path) {
-        Some(lines) => Ok(Some(lines.share()?)),
-        None => Ok(None),
-    }
+    file_at(&next, path)
 }

@@ -29,8 +29,7 @@ pub(crate) fn all_needed(branch: &Branch, names: &[Name]) -> Result<Vec<Needed>,
     let alloc = branch.catches().allocator();
     let catches = branch.catches().to_vec()?;
     let patches = by_patch(alloc, &catches)?;
-    let back = taken_back(alloc, &catches, &patches)?;
-    match back {
+    match taken_back(alloc, &catches, &patches)? {
         Some(back) => all_reached(alloc, &back),
         None => all_stuck(alloc, &catches, names),
     }

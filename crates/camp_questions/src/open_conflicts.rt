@@ -4,16 +4,17 @@ ghost use Rattle.std.specs.List.{flat_map};
 ghost use Rattle.camp_branch.specs.Inside.Collecting.{pair_of};
 ghost use Rattle.camp_questions.specs.Answers.{TellsOrWants};
 ghost use Rattle.camp_questions.specs.Inside.OpenPairs.{open_at, open_in, open_with, open_within};
-ghost use Rattle.camp_questions.specs.OpenConflicts.{AreOpen, AreOpenAmong, is_open, takes_back};
+ghost use Rattle.camp_questions.specs.OpenConflicts.{AreOpen, AreOpenAmong, AreOpenIn, is_open, takes_back};
 
 use crate::Unanswered;
 use crate::finding::branch_of;
 use crate::sides::labels_seen;
+use crate::telling::told;
 use camp_base::Name;
 use camp_catch::Catch;
 use camp_ctx::{Contexted, CtxSet};
 use camp_prim::Key;
-use camp_repo::{Conflicts, State};
+use camp_repo::{Branch, Conflicts, State};
 use camp_share::{Shared, SharedList};
 use std::alloc::AllocError;
 use std::cmp::Ordering;
@@ -24,6 +25,13 @@ pub fn open_pairs(state: &State, branch: &Name) -> Result<Conflicts, Unanswered>
     ensures exact { TellsOrWants (AreOpen state.now branch.now) result }
 {
     let branch = branch_of(state, branch)?;
+    told(open_in(branch))
+}
+
+/// The open conflicts of a branch.
+pub(crate) fn open_in(branch: &Branch) -> Result<Conflicts, AllocError>
+    ensures { IfOk result (AreOpenIn branch.now) }
+{
     let seen = labels_seen(branch)?;
     let pairs = open_among(branch.catches(), &seen)?;
     Ok(Conflicts::new(pairs))

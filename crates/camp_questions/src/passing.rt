@@ -222,10 +222,14 @@ fn moved_to(alloc: Global, x: &Contexted, hunk: &Hunk, line: u32) -> Result<Cont
     if line == hunk.line() {
         return x.try_clone();
     }
-    let moved = hunk_moved(alloc, hunk, line)?;
-    let mut patch = x.patch().try_clone()?;
-    patch.prim = moved;
-    Contexted::new(alloc, Seq::empty(alloc), patch)
+    let patch = x.patch();
+    let moved = Named {
+        name: patch.name,
+        place: patch.place,
+        inverse: patch.inverse,
+        prim: hunk_moved(alloc, hunk, line)?,
+    };
+    Contexted::new(alloc, Seq::empty(alloc), moved)
 }
 
 fn hunk_moved(alloc: Global, hunk: &Hunk, line: u32) -> Result<Primitive, AllocError>

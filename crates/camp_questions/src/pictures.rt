@@ -4,13 +4,19 @@ ghost use Rattle.std.specs.List.{list_any};
 ghost use Rattle.camp_branch.specs.Branches.{is_among};
 ghost use Rattle.camp_branch.specs.Fields.{has_name, names_in};
 ghost use Rattle.camp_questions.specs.Answers.{TellsOrWants};
+ghost use Rattle.camp_questions.specs.Graphs.{Drawn, IsGraph};
+ghost use Rattle.camp_questions.specs.OpenConflicts.{AreOpenIn};
 ghost use Rattle.camp_questions.specs.Pictures.{IsPictured, drawn_about, hangs_on, kept_node, whole_picture, with_needing, with_needing_one, with_needs, with_needs_of};
 
 use crate::finding::branch_with;
-use crate::{Node, PatchGraph, Unanswered, graph, open_pairs};
+use crate::graphs::graph_of;
+use crate::keeping::keep_named;
+use crate::open_conflicts::open_in;
+use crate::telling::told;
+use crate::{Node, PatchGraph, Unanswered};
 use camp_base::Name;
 use camp_branch::{NameSet, set_of};
-use camp_repo::{Conflicts, Names, State};
+use camp_repo::{Branch, Conflicts, Names, State};
 use std::alloc::{AllocError, Global};
 use std::marker::Model;
 
@@ -62,12 +68,17 @@ impl Picture {
 pub fn picture_of(state: &State, branch: &Name, names: &[Name]) -> Result<Picture, Unanswered>
     ensures exact { TellsOrWants (IsPictured state.now branch.now names.now) result }
 {
-    let found = branch_with(state, branch, names)?;
-    let alloc = found.catches().allocator();
-    let whole = graph(state, branch)?;
-    let unsettled = open_pairs(state, branch)?;
-    let picture = drawn_about(alloc, names, whole, unsettled)?;
-    Ok(picture)
+    let branch = branch_with(state, branch, names)?;
+    told(picture_in(branch, names))
+}
+
+fn picture_in(branch: &Branch, names: &[Name]) -> Result<Picture, AllocError>
+    ensures { IfOk result (λ picture. (graph : Drawn) × (pairs : List (List ℕ × List ℕ))
+        × (picture ≡ drawn_about names.now (whole_picture graph pairs)) × IsGraph branch.now graph × AreOpenIn branch.now pairs) }
+{
+    let whole = graph_of(branch)?;
+    let unsettled = open_in(branch)?;
+    drawn_about(branch.catches().allocator(), names, whole, unsettled)
 }
 
 /// The whole picture, or the part of it with what patches need, and what needs them.
@@ -104,8 +115,7 @@ fn hanging_on(alloc: Global, nodes: &[Node], names: &[Name]) -> Result<NameSet, 
     let mut all = needed(alloc, nodes, names)?;
     let needing = needing(alloc, nodes, names)?;
     all.extend_from_slice(&needing)?;
-    let set = set_of(alloc, &all)?;
-    Ok(set)
+    set_of(alloc, &all)
 }
 
 /// The names, and what they need, from the last patch to the first.
@@ -126,8 +136,7 @@ fn bring_needs(names: &mut Vec<Name>, node: &Node) -> Result<(), AllocError>
     if !has(names, &node.name) {
         return Ok(());
     }
-    names.extend_from_slice(node.needs.as_slice())?;
-    Ok(())
+    names.extend_from_slice(node.needs.as_slice())
 }
 
 /// The names, and what needs them, from the first patch to the last.
@@ -193,20 +202,13 @@ fn push_kept(left: &mut Vec<Node>, kept: &NameSet, node: &Node) -> Result<(), Al
     if !kept.contains_key(&node.name) {
         return Ok(());
     }
-    let needs = kept_names(kept.allocator(), kept, node.needs.as_slice())?;
+    let mut needs = Vec::from_slice(kept.allocator(), node.needs.as_slice())?;
+    keep_named(&mut needs, kept);
     left.push(Node {
         name: node.name,
         needs: Names::new(needs),
     })?;
     Ok(())
-}
-
-fn kept_names(alloc: Global, kept: &NameSet, names: &[Name]) -> Result<Vec<Name>, AllocError>
-    ensures { IfOk result (λ left. left.items ≡ filter (has_name kept.now) names.now) }
-{
-    let mut left = Vec::from_slice(alloc, names)?;
-    left.retain(|name| kept.contains_key(name));
-    Ok(left)
 }
 
 fn kept_pairs(
@@ -216,8 +218,12 @@ fn kept_pairs(
 ) -> Result<Vec<(Name, Name)>, AllocError>
     ensures { IfOk result (λ left. left.items ≡ filter (λ pair. has_name kept.now pair.0 && has_name kept.now pair.1) pairs.now) }
 {
-    let mut left = Vec::from_slice(alloc, pairs)?;
-    left.retain(|pair| are_kept(kept, pair));
+    let mut left = Vec::new(alloc);
+    for pair in pairs {
+        if are_kept(kept, pair) {
+            left.push(*pair)?;
+        }
+    }
     Ok(left)
 }
 

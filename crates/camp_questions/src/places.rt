@@ -2,7 +2,7 @@
 ghost use Rattle.std.specs.Prelude.{◌≡◌, ◌≤◌, [], ◌∷◌, ◌++◌, map, filter, fold, if◌then◌else◌, nat_lt, min, max, IfOk, OnOk};
 ghost use Rattle.std.specs.List.{slice_range};
 ghost use Rattle.camp_questions.specs.Inside.Placing.{is_within};
-ghost use Rattle.camp_questions.specs.Places.{at_place, differs_within, joined, place_from, range_of, touch, with_marks, with_range};
+ghost use Rattle.camp_questions.specs.Places.{at_place, differs_within, file_from, joined, place_from, range_of, touch, with_marks, with_range};
 
 use crate::common_lines::{common_end, common_front};
 use crate::marking::{MarkedFile, Place, Version};
@@ -11,7 +11,7 @@ use camp_share::SharedList;
 use std::alloc::{AllocError, Global};
 
 /// Lines of a file, from one place up to another; none, where the two are one.
-#[derive(Clone, Copy, Debug)]
+#[derive(Clone, Copy)]
 pub struct Range {
     pub from: usize,
     pub to: usize,
@@ -27,10 +27,23 @@ pub(crate) fn with_marks(
     let alloc = lines.allocator();
     let ranges = ranges_of(alloc, lines, versions)?;
     let found = places_of(alloc, &ranges)?;
-    let mut places = Vec::with_capacity(alloc, found.len())?;
+    file_with(lines, versions, &ranges, &found)
+}
+
+/// A file with what versions of it, which differ from it in these ranges, have at some places.
+fn file_with(
+    lines: &SharedList<Line>,
+    versions: &[Version],
+    ranges: &[Range],
+    found: &[Range],
+) -> Result<MarkedFile, AllocError>
+    requires { ranges.now ≡ map (λ version. range_of lines.now version.lines) versions.now }
+    ensures { IfOk result (λ file. file ≡ file_from lines.now versions.now 0 found.now) }
+{
+    let mut places = Vec::with_capacity(lines.allocator(), found.len())?;
     let mut at = 0;
-    for place in &found {
-        let next = place_from(lines, versions, &ranges, at, *place)?;
+    for place in found {
+        let next = place_from(lines, versions, ranges, at, *place)?;
         places.push(next)?;
         at = place.to;
     }
@@ -84,28 +97,35 @@ fn places_of(alloc: Global, ranges: &[Range]) -> Result<Vec<Range>, AllocError>
 fn with_range(alloc: Global, places: &[Range], range: Range) -> Result<Vec<Range>, AllocError>
     ensures { IfOk result (λ new. new.items ≡ with_range places.now range) }
 {
-    let mut new = places_before(alloc, places, range)?;
-    let whole = joined_with(range, places);
-    new.push(whole)?;
-    let behind = places_behind(alloc, places, range)?;
-    new.extend_from_slice(&behind)?;
+    let mut new = Vec::new(alloc);
+    append_before(&mut new, places, range)?;
+    new.push(joined_with(range, places))?;
+    append_behind(&mut new, places, range)?;
     Ok(new)
 }
 
-fn places_before(alloc: Global, places: &[Range], range: Range) -> Result<Vec<Range>, AllocError>
-    ensures { IfOk result (λ before. before.items ≡ filter (λ place. nat_lt place.to range.from) places.now) }
+/// Puts the places that end before a range behind others.
+fn append_before(new: &mut Vec<Range>, places: &[Range], range: Range) -> Result<(), AllocError>
+    ensures { OnOk result (new.new.items ≡ new.old.items ++ filter (λ place. nat_lt place.to range.from) places.now) }
 {
-    let mut before = Vec::from_slice(alloc, places)?;
-    before.retain(|place| place.to < range.from);
-    Ok(before)
+    for place in places {
+        if place.to < range.from {
+            new.push(*place)?;
+        }
+    }
+    Ok(())
 }
 
-fn places_behind(alloc: Global, places: &[Range], range: Range) -> Result<Vec<Range>, AllocError>
-    ensures { IfOk result (λ behind. behind.items ≡ filter (λ place. nat_lt range.to place.from) places.now) }
+/// Puts the places that begin behind a range behind others.
+fn append_behind(new: &mut Vec<Range>, places: &[Range], range: Range) -> Result<(), AllocError>
+    ensures { OnOk result (new.new.items ≡ new.old.items ++ filter (λ place. nat_lt range.to place.from) places.now) }
 {
-    let mut behind = Vec::from_slice(alloc, places)?;
-    behind.retain(|place| range.to < place.from);
-    Ok(behind)
+    for place in places {
+        if range.to < place.from {
+            new.push(*place)?;
+        }
+    }
+    Ok(())
 }
 
 /// A range and those that it touches, as one.
@@ -227,8 +247,7 @@ fn part(lines: &SharedList<Line>, from: usize, to: usize) -> Result<SharedList<L
 {
     let end = lesser(to, lines.len());
     let start = lesser(from, end);
-    let part = lines.copied(start, end)?;
-    Ok(part)
+    Ok(lines.copied(start, end)?)
 }
 
 fn lesser(a: usize, b: usize) -> usize

@@ -1,10 +1,11 @@
 ghost use Rattle.std.specs.Prelude.{◌≡◌, ◌++◌, [], ◌∷◌, IfOk, OnOk};
 ghost use Rattle.camp_repo.specs.Steps.{catches_named};
 ghost use Rattle.camp_questions.specs.Answers.{Tells};
-ghost use Rattle.camp_questions.specs.Showing.{IsShown, changes_in, changes_of};
+ghost use Rattle.camp_questions.specs.Showing.{IsShown, changes_in, changes_of, patch_in};
 
 use crate::Unanswered;
 use crate::finding::branch_with;
+use crate::telling::told;
 use camp_base::Name;
 use camp_catch::Catch;
 use camp_prim::{Named, Primitive};
@@ -63,8 +64,15 @@ pub fn show(state: &State, branch: &Name, name: &Name) -> Result<Shown, Unanswer
     ensures exact { Tells (IsShown state.now branch.now name.now) result }
 {
     let branch = branch_with(state, branch, slice::from_ref(name))?;
-    let catches = catches_named(branch.catches(), name)?;
-    let changes = changes_of(branch.catches().allocator(), &catches)?;
+    told(patch_in(branch.catches(), name))
+}
+
+/// The patch of a name as it stands in a list.
+fn patch_in(list: &SharedList<Shared<Catch>>, name: &Name) -> Result<Shown, AllocError>
+    ensures { IfOk result (λ shown. shown ≡ patch_in list.now name.now) }
+{
+    let catches = catches_named(list, name)?;
+    let changes = changes_of(list.allocator(), &catches)?;
     Ok(Shown { catches, changes })
 }
 

@@ -1,20 +1,22 @@
 //! What patches in conflict say, as seen from the end of a branch.
-ghost use Rattle.std.specs.Prelude.{◌≡◌, [], ◌∷◌, ◌++◌, is_some, IfOk, OnOk};
+ghost use Rattle.std.specs.Prelude.{◌≡◌, List, [], ◌∷◌, ◌++◌, is_some, IfOk, OnOk};
 ghost use Rattle.std.specs.FinMap.{get};
 ghost use Rattle.std.specs.Ordering.{eq_by_cmp};
 ghost use Rattle.camp_catch.specs.declared.catches.Catch.TheVariants as catch;
 ghost use Rattle.camp_prim.specs.Labels.{key_cmp, key_of, label_of};
 ghost use Rattle.camp_prim.specs.declared.labels.Key.{Key as AnyKey};
+ghost use Rattle.camp_prim.specs.declared.named.Named.{Named as AnyNamed};
 ghost use Rattle.camp_seq.specs.Running.{inverse_all};
 ghost use Rattle.camp_questions.specs.Answers.{TellsOrWants};
 ghost use Rattle.camp_questions.specs.Inside.Seeing.{AllSeenToo, ComesIfNamed, SeenToo};
 ghost use Rattle.camp_questions.specs.Showing.{changes_in};
-ghost use Rattle.camp_questions.specs.Sides.{AreSeen, ComesBehind, IsSide, IsSideAmong, has_key, told_by};
+ghost use Rattle.camp_questions.specs.Sides.{AreSeen, ComesBehind, IsSide, IsSideAmong, IsSideIn, has_key, told_by};
 
 use crate::Unanswered;
 use crate::finding::branch_with;
 use crate::passing::seen_before;
 use crate::showing::append_changes;
+use crate::telling::told;
 use camp_base::Name;
 use camp_catch::{Catch, Conflictor};
 use camp_ctx::{Contexted, CtxSet};
@@ -62,19 +64,19 @@ pub fn side(state: &State, branch: &Name, name: &Name) -> Result<Said, Unanswere
     ensures exact { TellsOrWants (IsSide state.now branch.now name.now) result }
 {
     let branch = branch_with(state, branch, slice::from_ref(name))?;
+    told(said_in(branch, name))
+}
+
+/// What a patch of a branch says.
+fn said_in(branch: &Branch, name: &Name) -> Result<Said, AllocError>
+    ensures { IfOk result (λ changes. (side : List AnyNamed) × (changes ≡ changes_in side) × IsSideIn branch.now name.now side) }
+{
     let alloc = branch.catches().allocator();
     let seen = labels_seen(branch)?;
     let side = side_among(alloc, &seen, name)?;
-    let changes = changes_in(alloc, side.items())?;
+    let mut changes = Vec::with_capacity(alloc, side.items().len())?;
+    append_changes(&mut changes, side.items())?;
     Ok(Said { changes })
-}
-
-fn changes_in(alloc: Global, side: &[Named]) -> Result<Vec<Primitive>, AllocError>
-    ensures { IfOk result (λ changes. changes.items ≡ changes_in side.now) }
-{
-    let mut changes = Vec::with_capacity(alloc, side.len())?;
-    append_changes(&mut changes, side)?;
-    Ok(changes)
 }
 
 /// The labels in conflict of a branch, as seen from its end: from the last catch to the first, with
@@ -135,8 +137,7 @@ fn with_label(
         return Ok(seen);
     }
     let added = seen_before(alloc, undone.items(), x)?;
-    let next = seen.insert(&added)?;
-    Ok(next)
+    seen.insert(&added)
 }
 
 fn is_seen(seen: &CtxSet, key: &Key) -> bool

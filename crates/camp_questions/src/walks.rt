@@ -24,7 +24,7 @@ pub(crate) fn names_of_lines(
 {
     let mut walk = Walk::new(catches.allocator());
     for catch in catches.iter() {
-        walk = walk.behind_all(path, catch.name(), catch.effect())?;
+        walk.behind_all(path, catch.name(), catch.effect())?;
     }
     Ok(walk.into_names())
 }
@@ -53,48 +53,46 @@ impl Walk {
         self.names
     }
 
-    /// What is known behind an effect of a patch of this name.
-    fn behind_all(self, path: &Path, name: &Name, effect: &[Named]) -> Result<Walk, AllocError>
-        requires { FollowsOn path.now effect.now (known_in self) }
-        ensures { IfOk result (λ walk. known_in walk ≡ behind_all path.now name.now effect.now (known_in self)) }
+    /// Goes on behind an effect of a patch of this name.
+    fn behind_all(&mut self, path: &Path, name: &Name, effect: &[Named]) -> Result<(), AllocError>
+        requires { FollowsOn path.now effect.now (known_in self.old) }
+        ensures { OnOk result (known_in self.new ≡ behind_all path.now name.now effect.now (known_in self.old)) }
     {
-        let mut walk = self;
         for p in effect {
-            walk = walk.behind_change(path, name, p)?;
+            self.behind_change(path, name, p)?;
         }
-        Ok(walk)
+        Ok(())
     }
 
-    // What is known behind a primitive: no other one than a hunk of the file tells more.
-    fn behind_change(self, path: &Path, name: &Name, p: &Named) -> Result<Walk, AllocError>
-        requires { AppliesOn path.now p.now.prim (known_in self) }
-        ensures { IfOk result (λ walk. known_in walk ≡
-            behind_change path.now name.now (key_of (label_of p.now)) p.now.prim (known_in self)) }
+    // Goes on behind a primitive: no other one than a hunk of the file tells more.
+    fn behind_change(&mut self, path: &Path, name: &Name, p: &Named) -> Result<(), AllocError>
+        requires { AppliesOn path.now p.now.prim (known_in self.old) }
+        ensures { OnOk result (known_in self.new ≡
+            behind_change path.now name.now (key_of (label_of p.now)) p.now.prim (known_in self.old)) }
     {
         match &p.prim {
             Primitive::Hunk(hunk) if hunk.path() == path => {
                 self.behind_hunk(name, p.label().key(), hunk)
             }
-            _ => Ok(self),
+            _ => Ok(()),
         }
     }
 
-    // What is known behind a hunk of the file. It costs what the hunk changes, a search among the hunks
+    // Goes on behind a hunk of the file. It costs what the hunk changes, a search among the hunks
     // before it, and a count for each part of the list.
-    fn behind_hunk(self, name: &Name, key: Key, hunk: &Hunk) -> Result<Walk, AllocError>
-        requires { StandsWithin hunk.now (known_in self) }
-        ensures { IfOk result (λ walk. known_in walk ≡ behind_hunk name.now key hunk.now (known_in self)) }
+    fn behind_hunk(&mut self, name: &Name, key: Key, hunk: &Hunk) -> Result<(), AllocError>
+        requires { StandsWithin hunk.now (known_in self.old) }
+        ensures { OnOk result (known_in self.new ≡ behind_hunk name.now key hunk.now (known_in self.old)) }
     {
-        let Walk { names, mut taken } = self;
-        let alloc = names.allocator();
+        let alloc = self.names.allocator();
         let from = hunk.line() as usize - 1;
         let to = from + hunk.old().len();
-        let gone = names.copied(from, to)?;
+        let gone = self.names.copied(from, to)?;
         let own = own_names(alloc, &gone, name, hunk)?;
-        let before = keep(&mut taken, key, gone)?;
-        let coming = names_coming(before, own, hunk.new().len())?;
-        let names = names.spliced(from, to, &coming)?;
-        Ok(Walk { names, taken })
+        let before = keep(&mut self.taken, key, gone)?;
+        let coming = names_coming(before, own, hunk.new().len()).to_vec()?;
+        self.names = self.names.spliced(from, to, &coming)?;
+        Ok(())
     }
 }
 
@@ -115,14 +113,14 @@ fn keep(
 // many, and else its own.
 fn names_coming(
     taken: Option<SharedList<Name>>,
-    own: Vec<Name>,
+    own: SharedList<Name>,
     count: usize,
-) -> Result<Vec<Name>, AllocError>
-    ensures { IfOk result (λ names. names.items ≡ names_coming taken own.items count) }
+) -> SharedList<Name>
+    ensures { result ≡ names_coming taken own count }
 {
     match taken {
-        Some(taken) if taken.len() == count => taken.to_vec(),
-        _ => Ok(own),
+        Some(taken) if taken.len() == count => taken,
+        _ => own,
     }
 }
 
@@ -133,16 +131,12 @@ fn own_names(
     gone: &SharedList<Name>,
     name: &Name,
     hunk: &Hunk,
-) -> Result<Vec<Name>, AllocError>
+) -> Result<SharedList<Name>, AllocError>
     requires { length gone.now ≡ length hunk.now.old }
-    ensures { IfOk result (λ names. names.items ≡ own_names gone.now name.now hunk.now) }
+    ensures { IfOk result (λ names. names ≡ own_names gone.now name.now hunk.now) }
 {
     let front = common_front(hunk.old(), hunk.new());
     let end = common_end(&hunk.old()[front..], &hunk.new()[front..]);
-    let mut names = gone.range_to_vec(0, front)?;
     let between = vec![in alloc; *name; hunk.new().len() - front - end]?;
-    names.extend_from_slice(&between)?;
-    let last = gone.range_to_vec(gone.len() - end, gone.len())?;
-    names.extend_from_slice(&last)?;
-    Ok(names)
+    gone.spliced(front, gone.len() - end, &between)
 }

@@ -33,6 +33,16 @@ AreFilesOf patches files =
     map (λ (files : PatchFiles). files.numbers.items) files
     ≡ map (λ (patch : PatchCatches). map number_of patch.catches.items) patches
 
+-- a catch is plain, and its primitive is in range
+abbrev pub IsPlainInRange : Catch → Type 0
+IsPlainInRange (Plain p) = InRange p.prim
+IsPlainInRange (Catch.Conflictor k) = ⊥
+
+-- a patch has plain catches in range, and these are the numbers of the files that they change
+pub record HasFiles (patch : PatchCatches) (files : PatchFiles) : Type 0 where
+  pub plain : AllByRecursion IsPlainInRange patch.catches.items
+  pub numbers : files.numbers.items ≡ map number_of patch.catches.items
+
 -- whether a number is marked
 abbrev pub is_marked : List Bool → ℕ → Bool
 is_marked marks number = get_or marks number false
@@ -41,11 +51,6 @@ is_marked marks number = get_or marks number false
 abbrev pub AreMarkedToo : List Bool → List ℕ → List Bool → Type 0
 AreMarkedToo old numbers new =
     (number : ℕ) → is_marked new number ≡ (is_marked old number || list_any (λ other. number == other) numbers)
-
--- a catch is plain, and its primitive is in range
-abbrev pub IsPlainInRange : Catch → Type 0
-IsPlainInRange (Plain p) = InRange p.prim
-IsPlainInRange (Catch.Conflictor k) = ⊥
 
 -- a catch is plain and in range, and the number of its file is marked
 abbrev pub IsMarkedPlain : List Bool → Catch → Type 0

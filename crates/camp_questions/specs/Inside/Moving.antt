@@ -1,10 +1,9 @@
 -- A hunk without a context that moves from line to line.
-use Rattle.std.specs.Prelude.{◌≡◌, ℕ, List}
+use Rattle.std.specs.Prelude.{ℕ}
 use Rattle.camp_prim.specs.Hunks.{Edit, IsInRange}
 use Rattle.camp_prim.specs.Commuting.{PrimitivesCommute, Commute, at_line}
 use Rattle.camp_prim.specs.declared.named.Named.{Named}
 use Rattle.camp_prim.specs.declared.primitives.Primitive.TheVariants.{Hunk}
-use Rattle.camp_ctx.specs.Contexts.{ContextedPatch}
 
 -- a patch with a hunk, at a line
 abbrev pub hunk_at : Named → Edit → ℕ → Named

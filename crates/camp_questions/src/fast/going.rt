@@ -1,8 +1,7 @@
 //! Catches that go, and the patches before them.
-ghost use Rattle.std.specs.Prelude.{◌≡◌, ◌++◌, map, IfOk, OnOk};
-ghost use Rattle.std.specs.List.{AllByRecursion};
+ghost use Rattle.std.specs.Prelude.{◌≡◌, ◌++◌, IfOk, OnOk};
 ghost use Rattle.camp_questions.specs.Inside.ByPatch.{AreApart, AreOfPatch};
-ghost use Rattle.camp_questions.specs.Inside.ChangedFiles.{GoMarked, IsPlainInRange, number_of};
+ghost use Rattle.camp_questions.specs.Inside.ChangedFiles.{GoMarked, HasFiles};
 ghost use Rattle.camp_questions.specs.Inside.StandingAside.{StandsAside};
 
 use crate::fast::changed_files::{NUMBERS, PatchFiles, are_unmarked, mark_numbers};
@@ -25,8 +24,7 @@ pub(crate) fn going_first(
     patch: &PatchCatches,
     files: &PatchFiles,
 ) -> Result<Going, AllocError>
-    requires plain { AllByRecursion IsPlainInRange patch.now.catches.items }
-    requires files { files.now.numbers.items ≡ map number_of patch.now.catches.items }
+    requires { HasFiles patch.now files.now }
     ensures marked { IfOk result (λ going. GoMarked going) }
     ensures catches { IfOk result (λ going. going.catches.items ≡ patch.now.catches.items) }
 {
@@ -45,8 +43,7 @@ pub(crate) fn go_too(
     files: &PatchFiles,
 ) -> Result<(), AllocError>
     requires marked { GoMarked going.old }
-    requires plain { AllByRecursion IsPlainInRange patch.now.catches.items }
-    requires files { files.now.numbers.items ≡ map number_of patch.now.catches.items }
+    requires files { HasFiles patch.now files.now }
     ensures marked { OnOk result (GoMarked going.new) }
     ensures catches { OnOk result (going.new.catches.items ≡ going.old.catches.items ++ patch.now.catches.items) }
 {
@@ -66,8 +63,7 @@ pub(crate) fn comes_before(
     requires marked { GoMarked going.old }
     requires own { AreOfPatch patch.now.name patch.now.catches.items }
     requires apart { AreApart patch.now.name going.now.catches.items }
-    requires plain { AllByRecursion IsPlainInRange patch.now.catches.items }
-    requires files { files.now.numbers.items ≡ map number_of patch.now.catches.items }
+    requires files { HasFiles patch.now files.now }
     ensures marked { OnOk result (GoMarked going.new) }
     ensures aside { IfOk result (λ yes. StandsAside patch.now.name going.old.catches.items patch.now.catches.items yes going.new.catches.items) }
 {

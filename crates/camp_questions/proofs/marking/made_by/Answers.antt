@@ -1,4 +1,4 @@
-use Rattle.camp_questions.proofs.Words.{Files, subst, sym, AppliesAll}
+use Rattle.camp_questions.proofs.Words.{Files, IfOk-weaker, subst, sym, AppliesAll}
 use Rattle.camp_questions.proofs.MarkSteps.{makes_at}
 use Rattle.camp_questions.proofs.SidesApply.{side_applies}
 use Rattle.camp_questions.proofs.marking.made_by.Goals as goal
@@ -11,4 +11,4 @@ unreachable-requires c =
 
 pub returns : goal.returns
 returns c =
-    makes_at c.args.seen.now c.args.tree.now c.apply_all.new.tree c.args.path.now c.args.name.now c.in_ok-side.side c.in_ok-made.made c.in_ok-side.ensures (subst (λ t. AppliesAll c.in_ok-side.side t c.apply_all.new.tree) c.in_ok-next.ensures.exact c.in-Ok.ensures.exact) c.in_ok-made.ensures
+    IfOk-weaker c.file_at.result _ _ (λ made is. makes_at c.args.seen.now c.args.tree.now c.apply_all.new.tree c.args.path.now c.args.name.now c.in_ok-side.side made c.in_ok-side.ensures (subst (λ t. AppliesAll c.in_ok-side.side t c.apply_all.new.tree) c.in_ok-next.ensures.exact c.in-Ok.ensures.exact) is) c.file_at.ensures

@@ -1,4 +1,4 @@
-use Rattle.camp_questions.proofs.Words.{◌≤◌, ◌∙◌, ap, arith, contains_key, filter, filter_same, length, map_of, names_of, nat_cmp, rules, slice_cmp}
+use Rattle.camp_questions.proofs.Words.{IfOk-weaker, ◌≤◌, ◌∙◌, arith, filter, has_listed, length, map_of, names_of, nat_cmp, slice_cmp, sym}
 use Rattle.camp_questions.proofs.MarkSteps.{has_names_of_all, has_names_of_none, has_names_of_one}
 use Rattle.camp_questions.proofs.marking.names_in_pairs.Goals as goal
 
@@ -14,5 +14,4 @@ returns c =
     let set = map_of (slice_cmp nat_cmp) c.loop-pair.set in
     let past : length c.args.pairs.now ≤ c.loop-pair.pair-index = omega arith in
     let has = has_names_of_all set c.args.pairs.now c.loop-pair.pair-index past c.loop-pair.invariant in
-    let kept = filter_same _ (contains_key set) _ (λ x b f' k. search rules) _ _ c.retain.ensures.filtered in
-    kept ∙ ap (filter (contains_key set)) c.in_ok-names.ensures.exact ∙ (λ i. filter (λ name. has name i) (names_of c.args.branch.now))
+    IfOk-weaker c.in_order.result _ _ (λ names is. is ∙ (λ i. filter (λ name. (sym (has_listed set name) ∙ has name) i) (names_of c.args.branch.now))) c.in_order.ensures

@@ -11,7 +11,7 @@ loop-name-preserved c =
     let name : List ℕ = c.name-item.result in
     let one : Needed = record { name = name; needs = c.in_ok-needs.needs } in
     let alike : AreAlike (names_in c.in_ok-named.named) (name ∷ []) = λ n. c.in_ok-named.ensures.exact n ∙ ap (λ l. is_among l n) c.from_ref.ensures.value in
-    let needs = grown_needs c.args.catches.now names name (names_in c.in_ok-named.named) (names_in c.in_ok-grown.grown) one c.requires alike c.in_ok-grown.ensures refl c.in_ok-needs.ensures in
+    let needs = grown_needs c.args.catches.now names name (names_in c.in_ok-named.named) (names_in c.in_ok-grown.grown) c.in_ok-needs.needs.items c.requires alike c.in_ok-grown.ensures c.in_ok-needs.ensures in
     rw c.in_ok-push.ensures.items (one_needed c.args.catches.now names names c.loop-name.name-index name name c.loop-name.all.items (c.loop-name.all.items ++ one ∷ []) one (omega arith) c.name-item.is c.loop-name.invariant needs refl refl)
 
 pub returns : goal.returns

@@ -1,12 +1,8 @@
-use Rattle.camp_questions.proofs.Answering.{wants_memory}
-use Rattle.camp_questions.proofs.Picturing.{is_pictured, picture_not_refused}
-use Rattle.camp_questions.proofs.Words.{IsPictured}
+use Rattle.camp_questions.proofs.Words.{◌≡◌, ℕ, List, Ok, Err, ap, refl, drawn_about, whole_picture, IfOk-weaker, Drawn, IsGraph, AreOpenIn}
+use Rattle.camp_questions.proofs.Answering.{no_refusal, wanted_with}
 use Rattle.camp_questions.proofs.pictures.picture_of.Goals as goal
-
-pub returns-in_err-picture : goal.returns-in_err-picture
-returns-in_err-picture c =
-    record { exact = wants_memory (IsPictured c.args.state.now c.args.branch.now c.args.names.now) c.from_residual-in_err-picture.result c.from_residual-in_err-picture.ensures.1 (picture_not_refused c.args.state.now c.args.branch.now c.args.names.now c.in_ok-found.found.now c.in_ok-found.ensures) }
 
 pub returns : goal.returns
 returns c =
-    record { exact = is_pictured c.args.state.now c.args.branch.now c.args.names.now c.in_ok-found.found.now c.in_ok-found.ensures c.in_ok-whole.whole c.in_ok-unsettled.unsettled c.in_ok-picture.picture c.in_ok-whole.ensures.exact c.in_ok-unsettled.ensures.exact c.in_ok-picture.ensures }
+    let names : List (List ℕ) = c.args.names.now in
+    record { exact = wanted_with c.args.state.now c.args.branch.now names c.in_ok-branch.ensures (λ b answer. (graph : Drawn) × (pairs : List (List ℕ × List ℕ)) × (answer ≡ Ok (drawn_about names (whole_picture graph pairs))) × IsGraph b graph × AreOpenIn b pairs) c.picture_in.result c.told.result c.told.ensures (IfOk-weaker c.picture_in.result _ _ (λ picture w. (w.0, w.1, ap Ok w.2, w.3, w.4)) c.picture_in.ensures) (λ refusal w. no_refusal refusal (drawn_about names (whole_picture w.0 w.1)) (Err refusal) refl w.2) }

@@ -10,7 +10,7 @@ behind_all-requires c =
 pub loop-catch-preserved : goal.loop-catch-preserved
 loop-catch-preserved c =
     let along = subst (λ rest. IsAlong c.args.path.now c.args.catches.now rest (known_in c.loop-catch.walk)) c.in-Some.ensures.steps c.loop-catch.invariant in
-    one_along c.args.path.now c.name.result.now c.args.catches.now c.in-Some.catch.now c.next.new.self c.effect.result.now (known_in c.loop-catch.walk) (known_in c.in_ok-walk.walk) (c.name.ensures.exact ∙ ap name_of c.deref.ensures) (c.effect.ensures.exact ∙ ap effect_of c.deref-in-loop-catch.ensures) along c.in_ok-walk.ensures
+    one_along c.args.path.now c.name.result.now c.args.catches.now c.in-Some.catch.now c.next.new.self c.effect.result.now (known_in c.loop-catch.walk) (known_in c.behind_all.new.self) (c.name.ensures.exact ∙ ap name_of c.deref.ensures) (c.effect.ensures.exact ∙ ap effect_of c.deref-in-loop-catch.ensures) along c.in_ok-behind_all.ensures
 
 pub loop-catch-init : goal.loop-catch-init
 loop-catch-init c =

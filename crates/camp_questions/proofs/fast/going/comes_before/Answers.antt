@@ -7,10 +7,10 @@ pub returns-then-are_unmarked-clause-aside : goal.returns-then-are_unmarked-clau
 returns-then-are_unmarked-clause-aside c =
     let list : List Catch = c.args.patch.now.catches.items in
     let free : not (list_any (is_marked c.args.going.now.files.items) (map number_of list)) ≡ true =
-    sym (λ i. not (list_any (is_marked (c.deref.ensures.value i)) ((c.deref-2.ensures.value ∙ c.requires.files) i))) ∙ sym c.are_unmarked.ensures ∙ c.if-are_unmarked.true in
-    (list, all_came c.args.patch.now.name c.args.going.now.catches.items list c.requires.own (all_pass c.args.going.now.files.items c.args.patch.now.name c.args.going.now.catches.items list c.requires.marked.marked c.requires.apart c.requires.plain c.requires.own free))
+    sym (λ i. not (list_any (is_marked (c.deref.ensures.value i)) ((c.deref-2.ensures.value ∙ c.requires.files.numbers) i))) ∙ sym c.are_unmarked.ensures ∙ c.if-are_unmarked.true in
+    (list, all_came c.args.patch.now.name c.args.going.now.catches.items list c.requires.own (all_pass c.args.going.now.files.items c.args.patch.now.name c.args.going.now.catches.items list c.requires.marked.marked c.requires.apart c.requires.files.plain c.requires.own free))
 
 pub returns-clause-marked : goal.returns-clause-marked
 returns-clause-marked c =
     let new : Going = record { catches = c.stand_aside.new.going; files = c.args.going.now.files } in
-    still_marked_after c.stand_aside.result c.args.patch.now.name c.args.patch.now.catches.items c.args.going.now new c.requires.marked c.requires.plain c.requires.own refl c.stand_aside.ensures
+    still_marked_after c.stand_aside.result c.args.patch.now.name c.args.patch.now.catches.items c.args.going.now new c.requires.marked c.requires.files.plain c.requires.own refl c.stand_aside.ensures

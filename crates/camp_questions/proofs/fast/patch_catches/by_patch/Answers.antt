@@ -1,4 +1,4 @@
-use Rattle.camp_questions.proofs.Words.{ap, arith, ◌-◌, ◌∙◌, name_of, PatchCatches}
+use Rattle.camp_questions.proofs.Words.{ap, arith, ◌∙◌, name_of, PatchCatches}
 use Rattle.camp_questions.proofs.PatchesOfLists.{all_found, none_found, one_found}
 use Rattle.camp_questions.proofs.fast.patch_catches.by_patch.Goals as goal
 

@@ -1,5 +1,5 @@
 use Rattle.camp_questions.proofs.Words.{List, Bool, ℕ, ◌≡◌, ◌<◌, ◌+◌, ◌-◌, ◌++◌, ◌∙◌, ap, arith, false, get_or, length, length-replicate, replicate, subst, sym, true, Catch, set, get_or_default, length-set, with_items_is, GoMarked, marked_in_both, StickBehind, PatchCatches, Needed}
-use Rattle.camp_questions.proofs.FileMarks.{files_at, ready_at}
+use Rattle.camp_questions.proofs.FileMarks.{has_files}
 use Rattle.camp_questions.proofs.MarkedNames.{both_long, mark_at, marked_still}
 use Rattle.camp_questions.proofs.ReachedPatches.{goes_apart_from, step_aside, step_first, step_last, step_on, step_stuck}
 use Rattle.camp_questions.proofs.fast.reaching.reached.Goals.{else-not-index, then-not-index+in_ok-comes_before+else-branch}
@@ -24,21 +24,13 @@ loop-all_below-init c =
     }
 
 -- the own patch, and one before it
-pub going_first-requires-clause-plain : goal.going_first-requires-clause-plain
-going_first-requires-clause-plain c =
-    ready_at c.requires.known.0 c.args.patches.now c.requires.known.1 (length c.args.known.now) c.index-patches-own.result c.index-patches-own.result c.requires.next c.index-patches-own.is
-
-pub going_first-requires-clause-files : goal.going_first-requires-clause-files
-going_first-requires-clause-files c =
-    files_at c.args.patches.now c.args.files.now c.requires.files c.requires.each (length c.args.known.now) c.index-patches-own.result c.index-patches-own.result c.index-files-own.result c.index-files-own.result c.requires.next c.index-patches-own.is c.index-files-own.is
-
-pub comes_before-requires-clause-plain : goal.comes_before-requires-clause-plain
-comes_before-requires-clause-plain c =
-    ready_at c.requires.known.0 c.args.patches.now c.requires.known.1 (c.loop-all_below.place - 1) c.index-patches-place.result c.index-patches-place.result (omega (arith, c.loop-all_below.invariant.within, c.requires.next)) c.index-patches-place.is
+pub going_first-requires : goal.going_first-requires
+going_first-requires c =
+    has_files c.requires.known.0 c.args.patches.now c.requires.known.1 c.args.files.now c.requires.files c.requires.each (length c.args.known.now) c.index-patches-own.result c.index-patches-own.result c.index-files-own.result c.index-files-own.result c.requires.next c.index-patches-own.is c.index-files-own.is
 
 pub comes_before-requires-clause-files : goal.comes_before-requires-clause-files
 comes_before-requires-clause-files c =
-    files_at c.args.patches.now c.args.files.now c.requires.files c.requires.each (c.loop-all_below.place - 1) c.index-patches-place.result c.index-patches-place.result c.index-files-place.result c.index-files-place.result (omega (arith, c.loop-all_below.invariant.within, c.requires.next)) c.index-patches-place.is c.index-files-place.is
+    has_files c.requires.known.0 c.args.patches.now c.requires.known.1 c.args.files.now c.requires.files c.requires.each (c.loop-all_below.place - 1) c.index-patches-place.result c.index-patches-place.result c.index-files-place.result c.index-files-place.result (omega (arith, c.loop-all_below.invariant.within, c.requires.next)) c.index-patches-place.is c.index-files-place.is
 
 pub go_too-requires-clause-marked : goal.go_too-requires-clause-marked
 go_too-requires-clause-marked c = elim c.if-not-index.branch [
@@ -46,13 +38,9 @@ go_too-requires-clause-marked c = elim c.if-not-index.branch [
   | else-not-index w ↦ subst GoMarked (sym w.going-is) c.loop-all_below.invariant.going
 ]
 
-pub go_too-requires-clause-plain : goal.go_too-requires-clause-plain
-go_too-requires-clause-plain c =
-    ready_at c.requires.known.0 c.args.patches.now c.requires.known.1 (c.loop-all_below.place - 1) c.index-patches-place.result c.index-patches-place.result (omega (arith, c.loop-all_below.invariant.within, c.requires.next)) c.index-patches-place.is
-
 pub go_too-requires-clause-files : goal.go_too-requires-clause-files
 go_too-requires-clause-files c =
-    files_at c.args.patches.now c.args.files.now c.requires.files c.requires.each (c.loop-all_below.place - 1) c.index-patches-place.result c.index-patches-place.result c.index-files-place.result c.index-files-place.result (omega (arith, c.loop-all_below.invariant.within, c.requires.next)) c.index-patches-place.is c.index-files-place.is
+    has_files c.requires.known.0 c.args.patches.now c.requires.known.1 c.args.files.now c.requires.files c.requires.each (c.loop-all_below.place - 1) c.index-patches-place.result c.index-patches-place.result c.index-files-place.result c.index-files-place.result (omega (arith, c.loop-all_below.invariant.within, c.requires.next)) c.index-patches-place.is c.index-files-place.is
 
 pub comes_before-requires-clause-apart : goal.comes_before-requires-clause-apart
 comes_before-requires-clause-apart c =

@@ -1,4 +1,4 @@
-use Rattle.camp_questions.proofs.Words.{◌<◌, ◌∙◌, arith, false, length, sym, eqb-false}
+use Rattle.camp_questions.proofs.Words.{◌<◌, ◌∙◌, arith, length, sym, eqb-false}
 use Rattle.camp_questions.proofs.PartsArranged.{first_stuck}
 use Rattle.camp_questions.proofs.fast.standing_aside.is_stopped.Goals as goal
 

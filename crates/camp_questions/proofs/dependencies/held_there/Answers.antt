@@ -1,0 +1,9 @@
+use Rattle.camp_questions.proofs.Words.{IfOk-weaker, List, map, Catch, name_of, names_in, AreHeldIn, CanGo}
+use Rattle.camp_questions.proofs.BranchGrowths.{to_go}
+use Rattle.camp_questions.proofs.Growing.{grown_in_order}
+use Rattle.camp_questions.proofs.dependencies.held_there.Goals as goal
+
+pub returns : goal.returns
+returns c =
+    let branch : List Catch = c.args.branch.now in
+    IfOk-weaker c.in_order.result _ _ (λ told is. grown_in_order (map name_of branch) (CanGo branch) (AreHeldIn branch) (to_go branch) branch c.args.names.now (names_in c.in_ok-named.named) (names_in c.in_ok-held.held) told c.in_ok-named.ensures.exact c.in_ok-held.ensures is) c.in_order.ensures

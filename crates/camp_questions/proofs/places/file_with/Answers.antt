@@ -1,0 +1,17 @@
+use Rattle.camp_questions.proofs.Words.{◌∙◌, ap, arith, get_or, refl, file_from, Range}
+use Rattle.camp_questions.proofs.PlaceSteps.{all_places, behind_places, file_of, one_more_place, rest_from}
+use Rattle.camp_questions.proofs.places.file_with.Goals as goal
+
+pub loop-place-init : goal.loop-place-init
+loop-place-init c =
+    ap (λ l. behind_places l (file_from c.args.lines.now c.args.versions.now 0 c.args.found.now)) c.in_ok-places.ensures.items
+
+pub loop-place-preserved : goal.loop-place-preserved
+loop-place-preserved c =
+    let none : Range = record { from = 0; to = 0 } in
+    one_more_place c.args.lines.now c.args.versions.now c.args.found.now c.loop-place.place-index (get_or c.args.found.now c.loop-place.place-index none) none c.loop-place.at c.loop-place.places.items c.push.new.self.items c.in_ok-next.next _ (omega arith) refl c.in_ok-next.ensures c.in_ok-push.ensures.items c.loop-place.invariant
+
+pub returns : goal.returns
+returns c =
+    let rest = c.in_ok-rest.ensures ∙ rest_from c.args.lines.now c.loop-place.at c.len.result c.len.ensures.exact in
+    c.new.ensures ∙ ap (file_of c.loop-place.places.items) rest ∙ all_places c.args.lines.now c.args.versions.now c.args.found.now c.loop-place.place-index c.loop-place.at c.loop-place.places.items _ (omega arith) c.loop-place.invariant

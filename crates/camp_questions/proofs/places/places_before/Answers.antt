@@ -1,7 +1,0 @@
-use Rattle.camp_questions.proofs.Words.{Bool, rules, ap, ◌∙◌, filter, filter_same, nat_lt, Range}
-use Rattle.camp_questions.proofs.places.places_before.Goals as goal
-
-pub returns : goal.returns
-returns c =
-    let test : Range → Bool = λ place. nat_lt place.to c.args.range.from in
-    filter_same _ test _ (λ x b f' k. search rules) _ _ c.retain.ensures.filtered ∙ ap (filter test) c.in_ok-before.ensures.items
