@@ -1,6 +1,6 @@
 -- Lemmas on lists that go side by side.
 use Rattle.std.proofs.lemmas.List.{take_more, get_or-map, map_push, append_assoc, append-nil}
-use Rattle.camp_clients.proofs.Words.{Vec, vec_items, ArePutApart, Gathers, lists_of, section_of, ◌≡◌, ℕ, ◌+◌, ◌<◌, suc, zero, List, [], ◌∷◌, ◌++◌, length, take, get_or, map, Result, Ok, IfOk, refl, sym, ◌∙◌, ap, subst, add-one, arith, All, AllZip, remove, OnOk, is_err, false, Err}
+use Rattle.camp_clients.proofs.Words.{Vec, vec_items, ArePutApart, Gathers, lists_of, section_of, ◌≡◌, ℕ, ◌+◌, ◌<◌, suc, zero, List, [], ◌∷◌, ◌++◌, length, take, get_or, Result, Ok, IfOk, refl, sym, ◌∙◌, ap, subst, add-one, arith, All, AllZip, remove, OnOk, is_err, false, Err}
 
 module _ {A B : Type 0} (R : A → B → Type 0) where
   pub zip_push : (xs : List A) (ys : List B) (x : A) (y : B) → AllZip R xs ys → R x y → AllZip R (xs ++ x ∷ []) (ys ++ y ∷ [])

@@ -1,5 +1,5 @@
 -- Lemmas on seats that meet the opening's seat, before and after their threads.
-use Rattle.camp_clients.proofs.Words.{◌≡◌, ◌⊎◌, ℕ, ◌+◌, ◌<◌, ◌≤◌, suc, zero, false, IfOk, List, [], ◌∷◌, ◌++◌, length, get_or, map, Option, None, Some, MatchOption, append_assoc, Result, Ok, Err, Vec, vec_items, refl, sym, ◌∙◌, ap, subst, add-one, inl, inr, arith, All, AllZip, IsBeginning, IsAnswered, IsLegal, own, Sequential, Fault, Memory, Busy, Full, Asks, SaysAmongThreads, IsDone, told, HeadId, Seated, IsSeatOf, history_of, number_of, calls_per_seat, Caller, AreNew, HasMet, IsMet, WasMet, Ran, own_at, done_at, HasBeginnings, IsShared, OwnDone, section_of, Section, begins_through, begins_self, begins_whole, own-append}
+use Rattle.camp_clients.proofs.Words.{◌≡◌, ◌⊎◌, ℕ, ◌+◌, ◌<◌, ◌≤◌, suc, zero, false, IfOk, List, [], ◌∷◌, ◌++◌, length, get_or, map, Option, None, Some, MatchOption, append_assoc, Result, Ok, Err, Vec, refl, sym, ◌∙◌, ap, subst, add-one, inl, inr, arith, All, AllZip, IsBeginning, IsAnswered, IsLegal, own, Sequential, Fault, Memory, Busy, Full, Asks, SaysAmongThreads, IsDone, told, HeadId, Seated, IsSeatOf, history_of, number_of, calls_per_seat, Caller, AreNew, HasMet, IsMet, WasMet, Ran, own_at, done_at, HasBeginnings, IsShared, OwnDone, section_of, Section, begins_through, begins_whole, own-append}
 use Rattle.std.proofs.lemmas.List.{append-nil, length-append, length-map, get_or-map, nil_from_length}
 use Rattle.camp_clients.proofs.SectionSteps.{section_grows, section_map, section_own_at, says, own_at_front, own_at_none}
 pub use Rattle.camp_clients.proofs.Gathering.{all_first, all_rest, ok_holds, ok_map, zip_all, zip_at, zip_length, zip_push}

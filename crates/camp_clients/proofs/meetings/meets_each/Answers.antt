@@ -1,4 +1,5 @@
-use Rattle.camp_clients.proofs.Words.{◌≡◌, ◌⊎◌, ◌≤◌, inl, inr, sym, ap, ◌∙◌, subst, refl, arith, length, IsBeginning, own, IsSeatOf, history_of, WasMet, begins_through, begins_self, length-beginning, common_steps}
+use Rattle.camp_clients.proofs.Words.{◌≡◌, ◌⊎◌, ◌≤◌, inl, inr, sym, ap, ◌∙◌, subst, arith, length, IsBeginning, own, IsSeatOf, history_of, begins_through, begins_self, length-beginning}
+use Rattle.std.proofs.Common.{eqb-true}
 use Rattle.camp_clients.proofs.Meeting.{one_met, all_first, all_rest, ok_holds}
 use Rattle.camp_clients.proofs.meetings.meets_each.Goals.{else-is_empty, then-is_empty}
 use Rattle.camp_clients.proofs.meetings.meets_each.Goals as goal
@@ -13,7 +14,7 @@ loop-seat-preserved g c =
     let next = ap length c.in-Some.ensures.steps.0 in
     let is_ok = sym c.is_err.ensures.value ∙ c.if-is_err.false in
     let counted : ((length c.loop-seat.all.items ≡ 0) ⊎ (c.if-is_empty.first ≡ c.loop-seat.first)) × (c.if-is_empty.first ≤ length now) = elim c.if-is_empty.branch [
-      | then-is_empty w ↦ (inl (grind (arith, common_steps, w.if-is_empty.true)), omega (arith, w.first-is, w.position-first.ensures.exact))
+      | then-is_empty w ↦ (inl (sym c.loop-seat.all.ok.0 ∙ eqb-true _ 0 (sym c.is_empty.ensures ∙ w.if-is_empty.true)), omega (arith, w.first-is, w.position-first.ensures.exact))
       | else-is_empty w ↦ (inr w.first-is, omega (arith, w.first-is, inv.least, length-beginning m.meets.a_grows))
     ] in
     record {

@@ -1,5 +1,5 @@
 use Rattle.camp_clients.proofs.Words.{◌≡◌, ℕ, ◌<◌, [], length, refl, sym, ◌∙◌, ap, subst, arith, All, IsBeginning, own, Asks, IsSeatOf, history_of, lists_of, section_of, Section, HasMet, IsMet, Ran}
-use Rattle.camp_clients.proofs.Meeting.{caller_of, can_begin, clients_hold, none_other, shared_run, all_map, all_mapped, zip_all, zip_firsts, zip_length}
+use Rattle.camp_clients.proofs.Meeting.{caller_of, can_begin, clients_hold, none_other, shared_run, all_map, all_mapped, zip_all, zip_length}
 use Rattle.camp_clients.proofs.Vectors.{lists_map, length-lists_of}
 use Rattle.camp_clients.proofs.heads.Run.all.Goals as goal
 
@@ -51,9 +51,9 @@ returns-clause-shared g c =
     let number = c.in_ok-seats.ensures.number ∙ c.in_ok-opening.ensures.number ∙ c.requires.opener.1 in
     let same = subst (λ n. own n history ≡ own n (history_of c.in_ok-seats.opener)) number c.in_ok-opener.ensures.own
     ∙ ap (own 0) c.in_ok-seats.ensures.seen in
-    let legal = c.number-_number.ensures.legal in
+    let legal = c.number-number.ensures.legal in
     let seats = ap (λ row. row.seats) c.in_ok-opener.ensures.seat.row ∙ c.args.self.now.seats ∙ sym (length-lists_of c.args.self.now.sections.now) in
-    let no_other = none_other _ _ _ _ seats refl c.number-_number.ensures.seats_below in
+    let no_other = none_other _ _ _ _ seats refl c.number-number.ensures.seats_below in
     let run = shared_run object head sections opened history opening.items l2 (c.args.opener, opening)
     (omega (arith, long, c.requires.as_many, length-lists_of c.args.self.now.sections.now)) holds asked beginning same legal no_other in
     rw (ran.all_answers, lists_map) run
