@@ -223,11 +223,6 @@ adopts_more old new version places sound goes adopts =
       own_stays = own_front number (history_of old) (history_of new) grows (omega arith);
     }
 
-pub adopting_more : {Call E : Type 0} (old new : Seated Call) (version : List (Mark Call)) (answer : Result (Unit {0}) E) → entries_of old ≡ old.known.seen → IsSound old.known → GoesOn old version
-    → OnOk answer (Adopts old version new) → OnErr answer (new ≡ old) → SeesMore old new
-adopting_more old new version (Ok done) places sound goes adopts same = adopts_more old new version places sound goes adopts
-adopting_more old new version (Err fault) places sound goes adopts same = subst (SeesMore old) (sym same) (sees_more_self old)
-
 -- and is one of the head
 pub seat_adopted : {Call : Type 0} (head : HeadId) (old new : Seated Call) (version : List (Mark Call)) → IsSeatOf head old → All (λ mark. Shows head.store mark.call) version → Adopts old version new → IsSeatOf head new
 seat_adopted {Call} head old new version of stored adopts = record {
@@ -235,11 +230,6 @@ seat_adopted {Call} head old new version of stored adopts = record {
   stored = All-same (λ (mark : Mark Call). Shows head.store mark.call) new.marks version adopts.marks stored;
   bases = All-same (IsBaseAt head.slots) new.bases old.bases adopts.bases of.bases;
 }
-
-pub adopting_of : {Call E : Type 0} (head : HeadId) (old new : Seated Call) (version : List (Mark Call)) (answer : Result (Unit {0}) E) → IsSeatOf head old → All (λ mark. Shows head.store mark.call) version
-    → OnOk answer (Adopts old version new) → OnErr answer (new ≡ old) → IsSeatOf head new
-adopting_of head old new version (Ok done) of stored takes same = seat_adopted head old new version of stored takes
-adopting_of head old new version (Err fault) of stored takes same = subst (IsSeatOf head) (sym same) of
 
 pub made_stored : {Call : Type 0} (head : HeadId) (seat : Seated Call) (call : Where Call) → IsSeatOf head seat → Shows head.store call → All (λ mark. Shows head.store mark.call) (made_of seat call)
 made_stored {Call} head seat call of shows =
