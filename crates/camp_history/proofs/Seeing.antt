@@ -1,5 +1,5 @@
 -- Lemmas on what a seat sees.
-use Rattle.camp_history.proofs.Words.{◌≡◌, ◌≢◌, ℕ, ◌<◌, ◌≤◌, List, [], ◌∷◌, ◌++◌, length, map, All, Some, refl, sym, ◌∙◌, ap, subst, arith, length-append, All-push, All-same, append_assoc, length-map, Sequential, IsLawfulObject, IsBeginning, replay, own, Decides, Entry, Seated, asked, told, Begins, most_listed, history_of, Mark, entry_of, DecidesAt, GetsOn, SeesMore, with_mark, HeadId, IsSeatOf, Shows, Where, Ok, Err, OnOk, OnErr, Result, entries_of, own_other, count-replay, begins_self, begins_through, Based, All-weaker, Known, Leads, ComesNext}
+use Rattle.camp_history.proofs.Words.{◌≡◌, ℕ, ◌<◌, ◌≤◌, List, [], ◌∷◌, ◌++◌, length, map, All, Some, refl, sym, ◌∙◌, ap, subst, arith, length-append, All-push, All-same, append_assoc, length-map, Sequential, IsLawfulObject, IsBeginning, replay, own, Decides, Entry, Seated, asked, told, Begins, most_listed, history_of, Mark, entry_of, DecidesAt, GetsOn, SeesMore, with_mark, HeadId, IsSeatOf, Shows, Where, Ok, Err, OnOk, OnErr, Result, entries_of, own_other, count-replay, begins_self, begins_through, Based, All-weaker, Known, Leads, ComesNext}
 use Rattle.camp_object.specs.declared.objects.Decided.{Decided}
 use Rattle.camp_row.specs.declared.trails.Next.{Next}
 pub use Rattle.camp_history.proofs.Marked.{length-own, map_more}

@@ -1,5 +1,5 @@
 -- Lemmas on versions: how they are tied to a store, and how one goes on from what a seat has seen.
-use Rattle.camp_history.proofs.Words.{Entry, HeadId, IsBeginning, IsIn, IsSeatOf, IsSound, Known, Leads, Seated, asked, entry_of, entries_of, begins_shorter, history_of, ids, ids_of, length-beginning, own, told, news, based, bases_in, Begins, Based, IsBaseAt, Share, GoesOn, Adopts, made_of, Mark, SeesMore, ◌≡◌, ℕ, zero, suc, ◌+◌, ◌-◌, ◌<◌, ◌≤◌, List, [], ◌∷◌, ◌++◌, length, map, take, drop, splice, slice_get, slice_index_or, All, Result, Ok, Err, OnOk, OnErr, Option, None, Some, IfSome, MatchOption, refl, sym, ◌∙◌, ap, subst, arith, append-nil, append_assoc, length-append, length-map, map-append, take-append-drop, take_at, take_rest, drop_at, drop-drop, drop-map, same_Some, take_all, drop_all, begins_self, Bool, true, false, if◌then◌else◌, All-append, All-drop, All-map, All-push, All-same, All-weaker, Shelves, Shows, Where, turns}
+use Rattle.camp_history.proofs.Words.{Entry, HeadId, IsBeginning, IsIn, IsSeatOf, IsSound, Known, Leads, Seated, asked, entry_of, entries_of, begins_shorter, history_of, ids, ids_of, length-beginning, own, told, news, based, bases_in, Begins, Based, IsBaseAt, Share, GoesOn, Adopts, made_of, Mark, SeesMore, ◌≡◌, ℕ, zero, suc, ◌+◌, ◌-◌, ◌<◌, ◌≤◌, List, [], ◌∷◌, ◌++◌, length, map, take, drop, splice, slice_get, slice_index_or, All, Option, None, Some, IfSome, MatchOption, refl, sym, ◌∙◌, ap, subst, arith, append-nil, append_assoc, length-append, length-map, map-append, take-append-drop, take_at, take_rest, drop_at, drop-drop, drop-map, same_Some, take_all, drop_all, begins_self, Bool, true, false, if◌then◌else◌, All-append, All-drop, All-map, All-push, All-same, All-weaker, Shelves, Shows, Where, turns}
 use Rattle.std.proofs.lemmas.List.{get_or-map}
 use Rattle.std.proofs.Math.Seq.{drop-append-add}
 use Rattle.std.proofs.lemmas.Simd.{map-map}
@@ -7,7 +7,7 @@ use Rattle.boxcar.specs.Slot.{Named}
 use Rattle.camp_row.specs.Chains as chain
 use Rattle.camp_row.proofs.Cells.{turns_front}
 use Rattle.camp_row.proofs.TrailSteps.{length-cells_back}
-use Rattle.camp_history.proofs.Seeing.{sees_more_self, length-own, map_more}
+use Rattle.camp_history.proofs.Seeing.{length-own, map_more}
 use Rattle.camp_history.proofs.Together.{own_front}
 use Rattle.camp_history.proofs.Compared.{get_append}
 use Rattle.camp_history.specs.declared.versions.Base.{Base}

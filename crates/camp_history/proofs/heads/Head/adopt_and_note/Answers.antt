@@ -1,4 +1,4 @@
-use Rattle.camp_history.proofs.Words.{◌≡◌, sym, ◌∙◌, ap, subst, map, told, begins_self, GetsOn, IsSeatOf, Leads, Begins, Adopts}
+use Rattle.camp_history.proofs.Words.{◌≡◌, sym, ◌∙◌, ap, subst, map, told, begins_self, GetsOn, Leads, Begins, Adopts}
 use Rattle.camp_history.proofs.Seeing.{sees_same, gets_on_self}
 use Rattle.camp_history.proofs.Versioned.{adopts_more, seat_adopted}
 use Rattle.camp_history.proofs.heads.Head.adopt_and_note.Given.{Over}

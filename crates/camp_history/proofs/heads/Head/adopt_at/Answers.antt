@@ -1,4 +1,4 @@
-use Rattle.camp_history.proofs.Words.{sym, subst, refl, GetsOn, Share}
+use Rattle.camp_history.proofs.Words.{sym, subst, refl, Share}
 use Rattle.camp_history.proofs.heads.Head.adopt_at.Goals as goal
 
 pub goes_on-requires-clause-from : goal.goes_on-requires-clause-from

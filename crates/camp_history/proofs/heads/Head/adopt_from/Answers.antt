@@ -1,4 +1,4 @@
-use Rattle.camp_history.proofs.Words.{◌≡◌, All, refl, sym, ◌∙◌, ap, subst, All-same, Shows, IsSound, IsSeatOf, GetsOn, GoesOn, Share, Adopts, entries_of}
+use Rattle.camp_history.proofs.Words.{◌≡◌, All, refl, sym, ◌∙◌, ap, subst, All-same, Shows, GetsOn, GoesOn, Share, Adopts}
 use Rattle.camp_history.proofs.Seeing.{gets_on_self}
 use Rattle.camp_history.proofs.Versioned.{adopts_more, seat_adopted}
 use Rattle.camp_history.proofs.heads.Head.adopt_from.Goals as goal

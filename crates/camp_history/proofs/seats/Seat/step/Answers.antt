@@ -1,4 +1,4 @@
-use Rattle.camp_history.proofs.Words.{◌≡◌, [], Some, ◌<◌, ◌∷◌, ◌++◌, refl, sym, ◌∙◌, ap, map, List, bases_in, marks_in, replay, asked, entry_of, history_of, with_mark, Known, Mark}
+use Rattle.camp_history.proofs.Words.{◌≡◌, [], ◌<◌, ◌∷◌, ◌++◌, refl, sym, ◌∙◌, ap, List, bases_in, marks_in, replay, asked, entry_of, history_of, with_mark, Known, Mark}
 use Rattle.camp_history.proofs.Seeing.{entries_more, history_more, begins_more, bases_begin, all_more, one_more}
 use Rattle.camp_history.proofs.seats.Seat.step.Given.{Over}
 use Rattle.camp_history.proofs.seats.Seat.step.Goals as goal
