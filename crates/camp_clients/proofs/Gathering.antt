@@ -1,6 +1,6 @@
 -- Lemmas on lists that go side by side.
-use Rattle.std.proofs.lemmas.List.{take_more, get_or-map, append_assoc, append-nil}
-use Rattle.camp_clients.proofs.Words.{Vec, vec_items, Gathers, lists_of, section_of, ◌≡◌, ℕ, ◌+◌, ◌<◌, suc, zero, List, [], ◌∷◌, ◌++◌, length, take, get_or, Result, Ok, IfOk, refl, sym, ◌∙◌, ap, subst, add-one, arith, All, AllZip, remove, OnOk, is_err, false, Err}
+use Rattle.std.proofs.lemmas.List.{take_more, get_or-map, map_push, append_assoc, append-nil}
+use Rattle.camp_clients.proofs.Words.{Vec, vec_items, ArePutApart, Gathers, lists_of, section_of, ◌≡◌, ℕ, ◌+◌, ◌<◌, suc, zero, List, [], ◌∷◌, ◌++◌, length, take, get_or, Result, Ok, IfOk, refl, sym, ◌∙◌, ap, subst, add-one, arith, All, AllZip, remove, OnOk, is_err, false, Err}
 
 module _ {A B : Type 0} (R : A → B → Type 0) where
   pub zip_push : (xs : List A) (ys : List B) (x : A) (y : B) → AllZip R xs ys → R x y → AllZip R (xs ++ x ∷ []) (ys ++ y ∷ [])
@@ -35,13 +35,6 @@ pub gathers_here : {Own Fault : Type 0} {here first : List Own} {made : List (Re
     → here ≡ first → Gathers here made all → Gathers first made all
 gathers_here {made = made} {all = all} is gathers = subst (λ list. Gathers list made all) is gathers
 
--- what threads brought, where nothing was there first
-pub gathered_alone : {Own Fault : Type 0} (first : List Own) (made : List (Result Own Fault)) (all : List Own)
-    → first ≡ [] → Gathers first made all → AllZip (λ one own. one ≡ Ok own) made all
-gathered_alone first made all none gathers =
-    let is : all ≡ gathers.others = gathers.begins ∙ ap (λ list. list ++ gathers.others) none in
-    subst (λ list. AllZip (λ one own. one ≡ Ok own) made list) (sym is) gathers.brought
-
 -- one thread more
 pub gathers_push : {Own Fault : Type 0} (first : List Own) (made : List (Result Own Fault)) (all : List Own) (one : Result Own Fault) (own : Own)
     → Gathers first made all → one ≡ Ok own → Gathers first (made ++ one ∷ []) (all ++ own ∷ [])
@@ -49,6 +42,17 @@ gathers_push first made all one own so_far is = record {
   others = so_far.others ++ own ∷ [];
   begins = ap (λ x. x ++ own ∷ []) so_far.begins ∙ append_assoc first so_far.others (own ∷ []);
   brought = zip_push (λ one own. one ≡ Ok own) made so_far.others one own so_far.brought is;
+}
+
+-- one thread more brought a seat and answers
+pub apart_push : {Seat Own Fault : Type 0} (opening : Own) (made : List (Result (Seat × Own) Fault)) (seats : List Seat) (all : List Own)
+    (one : Result (Seat × Own) Fault) (seat : Seat) (own : Own)
+    → ArePutApart opening made seats all → one ≡ Ok (seat, own) → ArePutApart opening (made ++ one ∷ []) (seats ++ seat ∷ []) (all ++ own ∷ [])
+apart_push opening made seats all one seat own so_far is = record {
+  pairs = so_far.pairs ++ (seat, own) ∷ [];
+  brought = zip_push (λ one pair. one ≡ Ok pair) made so_far.pairs one (seat, own) so_far.brought is;
+  firsts = ap (λ xs. xs ++ seat ∷ []) so_far.firsts ∙ sym (map_push (λ pair. pair.0) so_far.pairs (seat, own));
+  seconds = ap (λ xs. xs ++ own ∷ []) so_far.seconds ∙ ap (λ xs. opening ∷ xs) (sym (map_push (λ pair. pair.1) so_far.pairs (seat, own)));
 }
 
 -- the first answers come first, and what holds of each that a thread brought holds of all others
@@ -97,14 +101,10 @@ module _ {A B : Type 0} (R : A → B → Type 0) (P : B → Type 0) (each : (x :
   zip_all (a ∷ xs) (b ∷ ys) all zero d below = each a b all.0
   zip_all (a ∷ xs) (b ∷ ys) all (suc k) d below = zip_all xs ys all.1 k d (omega arith)
 
--- a client for each seat but the first: what holds of seat k + 1 holds of client k
-module _ {Seat Client : Type 0} (seat : Client → Seat) (P : ℕ → Seat → Type 0) where
-  pub behind_first : (seats rest : List Seat) (clients : List Client) → rest ≡ remove seats 0 → AllZip (λ s client. seat client ≡ s) rest clients
-      → ((k : ℕ) (d : Seat) → k < length seats → P k (get_or seats k d))
-      → (k : ℕ) (d : Client) → k < length clients → P (k + 1) (seat (get_or clients k d))
-  behind_first [] rest clients is all each k d below =
-      absurd (omega (arith, ap length is, zip_length (λ s client. seat client ≡ s) rest clients all))
-  behind_first (x ∷ xs) rest clients is all each k d below =
-      let here = subst (λ r. AllZip (λ s client. seat client ≡ s) r clients) is all in
-      let same = zip_length (λ s client. seat client ≡ s) xs clients here in
-      rw (add-one k, zip_at (λ s client. seat client ≡ s) xs clients k (seat d) d (omega (arith, same)) here) (each (suc k) (seat d) (omega (arith, same)))
+-- what holds of seat k + 1 holds of seat k behind the first
+module _ {Seat : Type 0} (P : ℕ → Seat → Type 0) where
+  pub behind_first : (seats rest : List Seat) → rest ≡ remove seats 0 → ((k : ℕ) (d : Seat) → k < length seats → P k (get_or seats k d))
+      → (k : ℕ) (d : Seat) → k < length rest → P (k + 1) (get_or rest k d)
+  behind_first [] rest is each k d below = absurd (omega (arith, ap length is))
+  behind_first (x ∷ xs) rest is each k d below =
+      rw (add-one k, is) (each (suc k) d (omega (arith, ap length is)))

@@ -1,8 +1,8 @@
--- Lemmas on clients that meet the opening's seat, before and after their threads.
-use Rattle.camp_clients.proofs.Words.{◌≡◌, ◌⊎◌, ℕ, ◌+◌, ◌<◌, suc, zero, IfOk, List, [], ◌∷◌, ◌++◌, length, get_or, map, Option, None, Some, MatchOption, append_assoc, Result, Ok, Err, refl, sym, ◌∙◌, ap, subst, add-one, inl, inr, arith, All, AllZip, IsBeginning, IsAnswered, IsLegal, own, Sequential, Fault, Memory, Busy, Full, Asks, SaysAmongThreads, IsDone, told, Sight, AreNew, HasMet, IsSeen, IsMet, Ran, caller_of, own_at, done_at, HasBeginnings, IsShared, OwnDone, section_of, Section, begins_through, begins_whole, own-append}
+-- Lemmas on seats that meet the opening's seat, before and after their threads.
+use Rattle.camp_clients.proofs.Words.{◌≡◌, ◌⊎◌, ℕ, ◌+◌, ◌<◌, ◌≤◌, suc, zero, false, IfOk, List, [], ◌∷◌, ◌++◌, length, get_or, map, Option, None, Some, MatchOption, append_assoc, Result, Ok, Err, Vec, refl, sym, ◌∙◌, ap, subst, add-one, inl, inr, arith, All, AllZip, IsBeginning, IsAnswered, IsLegal, own, Sequential, Fault, Memory, Busy, Full, Asks, SaysAmongThreads, IsDone, told, HeadId, Seated, IsSeatOf, history_of, number_of, calls_per_seat, Caller, AreNew, HasMet, IsMet, WasMet, Ran, own_at, done_at, HasBeginnings, IsShared, OwnDone, section_of, Section, begins_through, begins_whole, own-append}
 use Rattle.std.proofs.lemmas.List.{append-nil, length-append, length-map, get_or-map, nil_from_length}
 use Rattle.camp_clients.proofs.SectionSteps.{section_grows, section_map, section_own_at, says, own_at_front, own_at_none}
-pub use Rattle.camp_clients.proofs.Gathering.{all_first, all_rest, gathered_alone, ok_holds, ok_map, zip_all, zip_at, zip_length, zip_push}
+pub use Rattle.camp_clients.proofs.Gathering.{all_first, all_rest, ok_holds, ok_map, zip_all, zip_at, zip_length, zip_push}
 use Rattle.camp_clients.proofs.Histories.{append_nil_right}
 
 module _ {A B : Type 0} (R S : A → B → Type 0) (each : (x : A) (y : B) → R x y → S x y) where
@@ -62,114 +62,138 @@ module _ {State Call Reply : Type 0} (object : Sequential State Call Reply) (sea
     within = beginnings.within;
   }
 
--- from a new client to the end of the run
-module _ {State Call Reply Client : Type 0} (object : Sequential State Call Reply) (sight : Sight Client Call (Result Reply Fault)) (tries per_seat : ℕ)
-    (sections : List (List Call)) (opened history : List (ℕ × Call)) where
-  module _ (c0 c1 c2 c3 : Client) (fresh : sight.seen c0 ≡ []) (m1 : HasMet sight opened c0 c1) (ran : Ran object sight tries per_seat sections c1 c2)
-      (met : IsMet sight history c2 c3) where
-    asked : Section (Asks object (caller_of tries per_seat (sight.number c0))) (sight.seen c1) (section_of sections (sight.number c0)) (sight.answers c2) (sight.seen c2)
-    asked = subst (λ n. Section (Asks object (caller_of tries per_seat n)) (sight.seen c1) (section_of sections n) (sight.answers c2) (sight.seen c2)) m1.number ran.section
+-- who asks at a seat of this number
+abbrev pub caller_of : HeadId → ℕ → Caller
+caller_of head number = record { seat = number; tries = head.tries; per_seat = calls_per_seat head; alone = false }
 
-    same_answers : sight.answers c2 ≡ sight.answers c3
-    same_answers = sym met.answers
-
-    none_own : own (sight.number c0) (sight.seen c1) ≡ []
-    none_own = m1.own_stays ∙ ap (own (sight.number c0)) fresh
-
-    none_between : own (sight.number c0) m1.knows.rest ≡ []
-    none_between = append_nil_right (own (sight.number c0) opened) (own (sight.number c0) m1.knows.rest)
-        (sym (own-append (sight.number c0) opened m1.knows.rest) ∙ ap (own (sight.number c0)) m1.knows.makes ∙ none_own)
-
-    client_fronts : HasBeginnings object (sight.number c0) tries opened (section_of sections (sight.number c0)) (sight.answers c3) history
-    client_fronts = subst (λ answers. HasBeginnings object (sight.number c0) tries opened (section_of sections (sight.number c0)) answers history) same_answers
-        (fronts_earlier object (sight.number c0) tries opened (sight.seen c1) m1.knows none_between (section_of sections (sight.number c0)) (sight.answers c2) history
-        (begins_through m1.knows
-        (begins_through (section_grows object (caller_of tries per_seat (sight.number c0)) (sight.seen c1) _ _ (sight.seen c2) asked) met.known))
-        (record {
-          last = sight.seen c2;
-          beginnings = section_map (Asks object (caller_of tries per_seat (sight.number c0))) (SaysAmongThreads object (sight.number c0) tries)
-              (says object (caller_of tries per_seat (sight.number c0))) (sight.seen c1) _ _ (sight.seen c2) asked;
-          within = met.known;
-        }))
-
-    all_own : own (sight.number c0) history ≡ own (sight.number c0) (sight.seen c2)
-    all_own = subst (λ n. own n history ≡ own n (sight.seen c2)) (ran.number ∙ m1.number) met.own_known
-
-    client_own : own_at (sight.number c0) 0 history ≡ done_at (told object) (section_of sections (sight.number c0)) (sight.answers c3)
-    client_own =
-        own_at_front (sight.number c0) (sight.seen c2) history met.known all_own
-        ∙ section_own_at object (caller_of tries per_seat (sight.number c0)) (sight.seen c1) (section_of sections (sight.number c0)) (sight.answers c2) (sight.seen c2) asked
-        ∙ ap (λ xs. xs ++ done_at (told object) (section_of sections (sight.number c0)) (sight.answers c2)) (own_at_none (sight.number c0) 0 (sight.seen c1) none_own)
-        ∙ ap (done_at (told object) (section_of sections (sight.number c0))) same_answers
-
-  -- what the run says of a client's seat
+-- from a new seat to the end of the run
+module _ {State Call Reply : Type 0} (object : Sequential State Call Reply) (head : HeadId) (sections : List (List Call)) (opened history : List (ℕ × Call)) where
+  -- what the run says of a client's section
   pub record Holds (seat : ℕ) (answers : List (Result Reply Fault)) : Type 0 where
-    pub beginnings : HasBeginnings object seat tries opened (section_of sections seat) answers history
+    pub beginnings : HasBeginnings object seat head.tries opened (section_of sections seat) answers history
     pub own_done : own_at seat 0 history ≡ done_at (told object) (section_of sections seat) answers
 
-  pub clients_hold : (l0 l1 l2 l3 : List Client) → AreNew sight l0 → AllZip (HasMet sight opened) l0 l1 → AllZip (Ran object sight tries per_seat sections) l1 l2
-      → AllZip (IsMet sight history) l2 l3
-      → (k : ℕ) (d : Client) → k < length l0 → Holds (k + 1) (sight.answers (get_or l3 k d))
-  clients_hold l0 l1 l2 l3 fresh one two three k d below =
-      let R2 : Client → Client → Type 0 = Then (Ran object sight tries per_seat sections) (IsMet sight history) in
-      let R1 : Client → Client → Type 0 = Then (HasMet sight opened) R2 in
-      let z2 = zip_then (Ran object sight tries per_seat sections) (IsMet sight history) l1 l2 l3 two three in
-      let z1 = zip_then (HasMet sight opened) R2 l0 l1 l3 one z2 in
-      let at = zip_at R1 l0 l3 k d d below z1 in
-      let new = fresh k d below in
-      let c0 = get_or l0 k d in
-      let c3 = get_or l3 k d in
-      let beginnings = client_fronts c0 at.0 at.2.0 c3 new.2 at.1 at.2.1 at.2.2 in
-      let own_done = client_own c0 at.0 at.2.0 c3 new.2 at.1 at.2.1 at.2.2 in
-      record {
-        beginnings = subst (λ n. HasBeginnings object n tries opened (section_of sections n) (sight.answers c3) history) new.1 beginnings;
-        own_done = subst (λ n. own_at n 0 history ≡ done_at (told object) (section_of sections n) (sight.answers c3)) new.1 own_done;
-      }
+  module _ (s0 s1 s2 : Seated Call) (answers : List (Result Reply Fault)) (fresh : history_of s0 ≡ []) (m1 : HasMet head opened s0 s1)
+      (ran : Ran object head sections s1 s2 answers) (met : IsMet history s2) where
+    asked : Section (Asks object (caller_of head (number_of s0))) (history_of s1) (section_of sections (number_of s0)) answers (history_of s2)
+    asked = subst (λ n. Section (Asks object (caller_of head n)) (history_of s1) (section_of sections n) answers (history_of s2)) m1.number ran.section
 
--- clients that were met stay so where the history stays, or there are none
-pub met_still : {Client Call Answer : Type 0} (sight : Sight Client Call Answer) (h more : List (ℕ × Call)) (count from to : ℕ) → IsBeginning h more
-    → from ≡ length h → to ≡ length more → (before after : List Client) → count ≡ length after → (count ≡ 0) ⊎ (from ≡ to)
-    → AllZip (IsMet sight h) before after → AllZip (IsMet sight more) before after
-met_still sight h more count from to grows is_from is_to before after is_count (inr same) met =
-    subst (λ history. AllZip (IsMet sight history) before after) (begins_whole h more grows (omega (arith, is_from, is_to, same))) met
-met_still sight h more count from to grows is_from is_to [] [] is_count (inl none) met = tt
-met_still sight h more count from to grows is_from is_to (b ∷ before) [] is_count (inl none) met = absurd met
-met_still sight h more count from to grows is_from is_to before (a ∷ after) is_count (inl none) met = absurd (omega (arith, is_count, none))
+    none_own : own (number_of s0) (history_of s1) ≡ []
+    none_own = m1.own_stays ∙ ap (own (number_of s0)) fresh
 
--- where the history grows, it begins with what was seen still
-pub seen_still : {Client Call Answer : Type 0} (sight : Sight Client Call Answer) (h more : List (ℕ × Call)) → IsBeginning h more
-    → (before after : List Client) → AllZip (IsSeen sight h) before after → AllZip (IsSeen sight more) before after
-seen_still sight h more grows before after seen =
-    zip_map (IsSeen sight h) (IsSeen sight more) (λ b a is. record { is_seat = is.is_seat; number = is.number; answers = is.answers; seen = is.seen; known = begins_through is.known grows }) before after seen
+    none_between : own (number_of s0) m1.knows.rest ≡ []
+    none_between = append_nil_right (own (number_of s0) opened) (own (number_of s0) m1.knows.rest)
+        (sym (own-append (number_of s0) opened m1.knows.rest) ∙ ap (own (number_of s0)) m1.knows.makes ∙ none_own)
 
--- a client that meets the seat once more, and sees no further call of its own, has none in the history beyond those
--- that it had seen
-module _ {Client Call Answer : Type 0} (sight : Sight Client Call Answer) (history : List (ℕ × Call)) where
-  met_again : (before mid after : Client) → IsSeen sight history before mid → HasMet sight history mid after → IsMet sight history before after
+    all_own : own (number_of s0) history ≡ own (number_of s0) (history_of s2)
+    all_own = subst (λ n. own n history ≡ own n (history_of s2)) (ran.number ∙ m1.number) met.own_known
+
+    client_holds : Holds (number_of s0) answers
+    client_holds = record {
+      beginnings = fronts_earlier object (number_of s0) head.tries opened (history_of s1) m1.knows none_between (section_of sections (number_of s0)) answers history
+          (begins_through m1.knows
+          (begins_through (section_grows object (caller_of head (number_of s0)) (history_of s1) _ _ (history_of s2) asked) met.known))
+          (record {
+            last = history_of s2;
+            beginnings = section_map (Asks object (caller_of head (number_of s0))) (SaysAmongThreads object (number_of s0) head.tries)
+                (says object (caller_of head (number_of s0))) (history_of s1) _ _ (history_of s2) asked;
+            within = met.known;
+          });
+      own_done =
+          own_at_front (number_of s0) (history_of s2) history met.known all_own
+          ∙ section_own_at object (caller_of head (number_of s0)) (history_of s1) (section_of sections (number_of s0)) answers (history_of s2) asked
+          ∙ ap (λ xs. xs ++ done_at (told object) (section_of sections (number_of s0)) answers) (own_at_none (number_of s0) 0 (history_of s1) none_own);
+    }
+
+  module _ {Z : Type 0} where
+    pub clients_hold : (l0 l1 : List (Seated Call)) (l2 : List (Seated Call × Vec (Result Reply Fault) Z)) → AreNew head l0 → AllZip (HasMet head opened) l0 l1
+        → AllZip (λ seat one. Ran object head sections seat one.0 one.1.items) l1 l2
+        → All (λ one. IsMet history one.0) l2
+        → (k : ℕ) (d : Seated Call × Vec (Result Reply Fault) Z) → k < length l0 → Holds (k + 1) (get_or l2 k d).1.items
+    clients_hold l0 l1 l2 fresh one two met k d below =
+        let R : Seated Call → Seated Call × Vec (Result Reply Fault) Z → Type 0 = λ seat one. Ran object head sections seat one.0 one.1.items in
+        let zip = zip_then (HasMet head opened) R l0 l1 l2 one two in
+        let at = zip_at (Then (HasMet head opened) R) l0 l2 k d.0 d below zip in
+        let new = fresh k d.0 below in
+        let s2 = get_or l2 k d in
+        let long = zip_length (Then (HasMet head opened) R) l0 l2 zip in
+        subst (λ n. Holds n s2.1.items) new.1
+        (client_holds (get_or l0 k d.0) at.0 s2.0 s2.1.items new.2 at.1 at.2 (met k d (omega (arith, long))))
+
+module _ {A B : Type 0} (f : A → B) (P : B → Type 0) where
+  pub all_map : (xs : List A) → All (λ x. P (f x)) xs → All P (map f xs)
+  all_map [] all k d below = absurd (omega arith)
+  all_map (x ∷ xs) all zero d below = all 0 x (omega arith)
+  all_map (x ∷ xs) all (suc k) d below = all_map xs (λ k d below. all (suc k) d (omega arith)) k d (omega arith)
+
+  pub all_mapped : (xs : List A) → All P (map f xs) → All (λ x. P (f x)) xs
+  all_mapped xs all k d below = subst P (get_or-map f xs k d (f d) below) (all k (f d) (omega (arith, length-map xs f)))
+
+-- where the history grows, all of a seat was known still
+pub still_met : {Call : Type 0} (head : HeadId) (least : ℕ) (h more : List (ℕ × Call)) → IsBeginning h more
+    → (before after : List (Seated Call)) → AllZip (WasMet head least h) before after → AllZip (WasMet head least more) before after
+still_met head least h more grows before after met =
+    zip_map (WasMet head least h) (WasMet head least more)
+    (λ b a was. record {
+      is_seat = was.is_seat;
+      number = was.number;
+      seen = was.seen;
+      earlier = was.earlier;
+      met = was.met;
+      long = was.long;
+      since = begins_through was.since grows;
+    }) before after met
+
+-- one seat more was met, of which the first tells how many calls the history has at least
+pub one_met : {Call : Type 0} (head : HeadId) (least now : ℕ) (h more : List (ℕ × Call)) (before after : List (Seated Call)) (b a : Seated Call)
+    → IsBeginning h more → AllZip (WasMet head least h) before after → (length after ≡ 0) ⊎ (now ≡ least) → WasMet head now more b a
+    → AllZip (WasMet head now more) (before ++ b ∷ []) (after ++ a ∷ [])
+one_met head least now h more before after b a grows met (inr same) one =
+    zip_push (WasMet head now more) before after b a
+    (subst (λ n. AllZip (WasMet head n more) before after) (sym same) (still_met head least h more grows before after met)) one
+one_met head least now h more [] [] b a grows met (inl none) one = (one, tt)
+one_met head least now h more (x ∷ before) [] b a grows met (inl none) one = absurd met
+one_met head least now h more before (y ∷ after) b a grows met (inl none) one = absurd (omega (arith, none))
+
+module _ {A B : Type 0} (R : A → B → Type 0) (P : A → Type 0) (each : (x : A) (y : B) → R x y → P x) where
+  pub zip_firsts : (xs : List A) (ys : List B) → AllZip R xs ys → All P xs
+  zip_firsts [] ys all k d below = absurd (omega arith)
+  zip_firsts (a ∷ xs) [] all k d below = absurd all
+  zip_firsts (a ∷ xs) (b ∷ ys) all zero d below = each a b all.0
+  zip_firsts (a ∷ xs) (b ∷ ys) all (suc k) d below = zip_firsts xs ys all.1 k d (omega arith)
+
+module _ {Call : Type 0} (head : HeadId) (least : ℕ) (history : List (ℕ × Call)) where
+  -- where the history is no longer than it was then, all of each seat is known
+  pub all_met : (before after : List (Seated Call)) → length history ≤ least → AllZip (WasMet head least history) before after → All (IsMet history) before
+  all_met before after short met =
+      zip_firsts (WasMet head least history) (IsMet history)
+      (λ b a was. subst (λ h. IsMet h b) (begins_whole was.earlier history was.since (omega (arith, was.long, short))) was.met) before after met
+
+  -- a seat that meets the opening's once more, and sees no further call of its own, has none in the history beyond
+  -- those that it had seen
+  met_again : (before mid after : Seated Call) → WasMet head least history before mid → HasMet head history mid after → IsMet history before
   met_again before mid after first last =
-      let number = sight.number before in
-      let stays : own number (sight.seen after) ≡ own number (sight.seen before) =
-      subst (λ n. own n (sight.seen after) ≡ own n (sight.seen mid)) first.number last.own_stays ∙ ap (own number) first.seen in
-      let whole : own number (sight.seen after) ≡ own number history ++ own number last.knows.rest =
+      let number = number_of before in
+      let known = begins_through first.met.known first.since in
+      let stays : own number (history_of after) ≡ own number (history_of before) =
+      subst (λ n. own n (history_of after) ≡ own n (history_of mid)) first.number last.own_stays ∙ ap (own number) first.seen in
+      let whole : own number (history_of after) ≡ own number history ++ own number last.knows.rest =
       ap (own number) (sym last.knows.makes) ∙ own-append number history last.knows.rest in
-      let part : own number history ≡ own number (sight.seen before) ++ own number first.known.rest =
-      ap (own number) (sym first.known.makes) ∙ own-append number (sight.seen before) first.known.rest in
+      let part : own number history ≡ own number (history_of before) ++ own number known.rest =
+      ap (own number) (sym known.makes) ∙ own-append number (history_of before) known.rest in
       let one = ap length (sym stays ∙ whole) in
       let other = ap length part in
-      let none : own number first.known.rest ≡ [] = nil_from_length (own number first.known.rest)
-      (omega (arith, one, other, length-append (own number history) (own number last.knows.rest), length-append (own number (sight.seen before)) (own number first.known.rest))) in
+      let none : own number known.rest ≡ [] = nil_from_length (own number known.rest)
+      (omega (arith, one, other, length-append (own number history) (own number last.knows.rest), length-append (own number (history_of before)) (own number known.rest))) in
       record {
-        is_seat = last.is_seat;
-        number = last.number ∙ first.number;
-        answers = last.answers ∙ first.answers;
-        known = first.known;
-        own_known = part ∙ ap (λ rest. own number (sight.seen before) ++ rest) none ∙ append-nil (own number (sight.seen before));
+        known = known;
+        own_known = part ∙ ap (λ rest. own number (history_of before) ++ rest) none ∙ append-nil (own number (history_of before));
       }
 
-  pub all_met_again : (before mid after : List Client) → AllZip (IsSeen sight history) before mid → AllZip (HasMet sight history) mid after → AllZip (IsMet sight history) before after
+  pub all_met_again : (before mid after : List (Seated Call)) → AllZip (WasMet head least history) before mid → AllZip (HasMet head history) mid after → All (IsMet history) before
   all_met_again before mid after first last =
-      zip_map (Then (IsSeen sight history) (HasMet sight history)) (IsMet sight history) (λ b a both. met_again b both.0 a both.1 both.2) before after
-      (zip_then (IsSeen sight history) (HasMet sight history) before mid after first last)
+      zip_firsts (Then (WasMet head least history) (HasMet head history)) (IsMet history) (λ b a both. met_again b both.0 a both.1 both.2) before after
+      (zip_then (WasMet head least history) (HasMet head history) before mid after first last)
 
 -- the results of calls that were granted
 module _ {X Y E : Type 0} (R : X → Y → Type 0) where
@@ -195,58 +219,61 @@ none_other seats sections seen history as_many same below =
     subst (λ n. All (λ entry. entry.0 < n) history) as_many (subst (All (λ entry. entry.0 < seats)) same below)
 
 -- a whole run, put together
-module _ {State Call Reply Client : Type 0} (object : Sequential State Call Reply) (sight : Sight Client Call (Result Reply Fault)) (tries per_seat : ℕ)
-    (sections : List (List Call)) (opened history : List (ℕ × Call)) (opening : List (Result Reply Fault)) (clients : List Client) (d : Client)
-    (as_many : length clients + 1 ≡ length sections)
-    (holds : (k : ℕ) (d : Client) → k < length clients → Holds object sight tries per_seat sections opened history (k + 1) (sight.answers (get_or clients k d)))
-    (ran : Section (Asks object (caller_of tries per_seat 0)) [] (section_of sections 0) opening opened)
+module _ {State Call Reply Z : Type 0} (object : Sequential State Call Reply) (head : HeadId)
+    (sections : List (List Call)) (opened history : List (ℕ × Call)) (opening : List (Result Reply Fault)) (clients : List (Seated Call × Vec (Result Reply Fault) Z))
+    (d : Seated Call × Vec (Result Reply Fault) Z) (as_many : length clients + 1 ≡ length sections)
+    (holds : (k : ℕ) (d : Seated Call × Vec (Result Reply Fault) Z) → k < length clients → Holds object head sections opened history (k + 1) (get_or clients k d).1.items)
+    (ran : Section (Asks object (caller_of head 0)) [] (section_of sections 0) opening opened)
     (beginning : IsBeginning opened history) (same : own 0 history ≡ own 0 opened) where
-  all : List (List (Result Reply Fault))
-  all = opening ∷ map sight.answers clients
+  answers_of : Seated Call × Vec (Result Reply Fault) Z → List (Result Reply Fault)
+  answers_of one = one.1.items
 
-  at_client : (k : ℕ) → k < length clients → Holds object sight tries per_seat sections opened history (suc k) (section_of all (suc k))
-  unfolding all
-  at_client k below = rw (get_or-map sight.answers clients k d [] below, ← add-one k) (holds k d below)
+  all : List (List (Result Reply Fault))
+  all = opening ∷ map answers_of clients
+
+  at_client : (k : ℕ) → k < length clients → Holds object head sections opened history (suc k) (section_of all (suc k))
+  unfolding all answers_of
+  at_client k below = rw (get_or-map answers_of clients k d [] below, ← add-one k) (holds k d below)
 
   own_done : OwnDone (told object) sections all history
   unfolding all
   own_done zero below = own_at_front 0 opened history beginning same
-      ∙ section_own_at object (caller_of tries per_seat 0) [] (section_of sections 0) opening opened ran
+      ∙ section_own_at object (caller_of head 0) [] (section_of sections 0) opening opened ran
   own_done (suc k) below = (at_client k (omega arith)).own_done
 
-  at_clients : (seat : ℕ) → 0 < seat → seat < length sections → HasBeginnings object seat tries opened (section_of sections seat) (section_of all seat) history
+  at_clients : (seat : ℕ) → 0 < seat → seat < length sections → HasBeginnings object seat head.tries opened (section_of sections seat) (section_of all seat) history
   at_clients zero some below = absurd (omega arith)
   at_clients (suc k) some below = (at_client k (omega arith)).beginnings
 
   pub shared_run : IsLegal object history → All (λ entry. entry.0 < length sections) history
-      → IsShared object tries sections (opening ∷ map sight.answers clients) history
-  unfolding all
+      → IsShared object head.tries sections (opening ∷ map (λ one. one.1.items) clients) history
+  unfolding all answers_of
   shared_run legal no_other = record {
     legal = legal;
-    as_many = omega (arith, length-map clients sight.answers);
+    as_many = omega (arith, length-map clients answers_of);
     exactly = record { own_done = own_done; no_other = no_other };
     opening = record {
       last = opened;
-      beginnings = section_map (Asks object (caller_of tries per_seat 0)) (SaysAmongThreads object 0 tries) (says object (caller_of tries per_seat 0)) [] _ _ opened ran;
+      beginnings = section_map (Asks object (caller_of head 0)) (SaysAmongThreads object 0 head.tries) (says object (caller_of head 0)) [] _ _ opened ran;
       within = beginning;
     };
     clients = at_clients;
   }
 
--- a new client that met the opening's seat can begin
-pub record CanBegin {Client Call Answer : Type 0} (sight : Sight Client Call Answer) (k : ℕ) (client : Client) : Type 0 where
-  pub is_seat : sight.is_seat client
-  pub number : sight.number client ≡ k + 1
-  pub none_own : own (sight.number client) (sight.seen client) ≡ []
+-- a new seat that met the opening's can begin
+pub record CanBegin {Call : Type 0} (head : HeadId) (k : ℕ) (seat : Seated Call) : Type 0 where
+  pub is_seat : IsSeatOf head seat
+  pub number : number_of seat ≡ k + 1
+  pub none_own : own (number_of seat) (history_of seat) ≡ []
 
-pub can_begin : {Client Call Answer : Type 0} (sight : Sight Client Call Answer) (opened : List (ℕ × Call)) (l0 l1 : List Client)
-    → AreNew sight l0 → AllZip (HasMet sight opened) l0 l1 → (k : ℕ) (d : Client) → k < length l1 → CanBegin sight k (get_or l1 k d)
-can_begin sight opened l0 l1 fresh met k d below =
-    let short : k < length l0 = omega (arith, zip_length (HasMet sight opened) l0 l1 met) in
-    let m = zip_at (HasMet sight opened) l0 l1 k d d short met in
+pub can_begin : {Call : Type 0} (head : HeadId) (opened : List (ℕ × Call)) (l0 l1 : List (Seated Call))
+    → AreNew head l0 → AllZip (HasMet head opened) l0 l1 → (k : ℕ) (d : Seated Call) → k < length l1 → CanBegin head k (get_or l1 k d)
+can_begin head opened l0 l1 fresh met k d below =
+    let short : k < length l0 = omega (arith, zip_length (HasMet head opened) l0 l1 met) in
+    let m = zip_at (HasMet head opened) l0 l1 k d d short met in
     let new = fresh k d short in
     record {
       is_seat = m.is_seat;
       number = m.number ∙ new.1;
-      none_own = rw m.number (m.own_stays ∙ ap (own (sight.number (get_or l0 k d))) new.2);
+      none_own = rw m.number (m.own_stays ∙ ap (own (number_of (get_or l0 k d))) new.2);
     }

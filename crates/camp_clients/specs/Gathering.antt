@@ -1,5 +1,5 @@
 -- Words for the answers that threads bring back.
-use Rattle.std.specs.Prelude.{◌≡◌, List, ◌++◌, Result, Ok}
+use Rattle.std.specs.Prelude.{◌≡◌, List, ◌∷◌, ◌++◌, map, Result, Ok}
 use Rattle.std.specs.List.{AllZip}
 
 -- what was there first, and then what each thread brought
@@ -8,3 +8,11 @@ pub record Gathers {Own Fault : Type 0}
   pub others : List Own
   pub begins : all ≡ first ++ others
   pub brought : AllZip (λ one own. one ≡ Ok own) made others
+
+-- the seats that threads bring, and the answers: the opening's, and then theirs
+pub record ArePutApart {Seat Own Fault : Type 0}
+    (opening : Own) (made : List (Result (Seat × Own) Fault)) (seats : List Seat) (all : List Own) : Type 0 where
+  pub pairs : List (Seat × Own)
+  pub brought : AllZip (λ one pair. one ≡ Ok pair) made pairs
+  pub firsts : seats ≡ map (λ pair. pair.0) pairs
+  pub seconds : all ≡ opening ∷ map (λ pair. pair.1) pairs

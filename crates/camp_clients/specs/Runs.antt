@@ -86,9 +86,3 @@ pub record IsShared {State Call Reply : Type 0} (object : Sequential State Call 
   pub opening : HasBeginnings object 0 tries [] (section_of sections 0) (section_of answers 0) history
   pub clients : (seat : ℕ) → 0 < seat → seat < length sections →
       HasBeginnings object seat tries opening.last (section_of sections seat) (section_of answers seat) history
-
--- the answers of a run over a head, whose history is not told
-pub record HasShared {State Call Reply : Type 0} (object : Sequential State Call Reply) (tries : ℕ)
-    (sections : List (List Call)) (answers : List (List (Result Reply Fault))) : Type 0 where
-  pub history : List (ℕ × Call)
-  pub shared : IsShared object tries sections answers history

@@ -6,12 +6,13 @@ mod faults;
 mod heads;
 mod laws;
 mod locks;
+mod meetings;
 mod one_by_one;
 mod sections;
 
 pub use comparisons::{MAX_SECTIONS, has_exactly};
 pub use faults::LockFault;
-pub use heads::{HeadRun, shared, shared_answers};
+pub use heads::{HeadPlan, HeadRun, shared};
 pub use laws::{done_was_accepted, locked_is_serial, opening_is_alone, shared_is_serial};
 pub use locks::locked;
 pub use one_by_one::{BookRun, serial};

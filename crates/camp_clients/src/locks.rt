@@ -82,7 +82,7 @@ fn ask_locked<R: Wait, State: Object>(
 {
     let mut answers = Vec::with_capacity(alloc, calls.len())?;
     for call in calls {
-        answers.push(unless_memory(ask_once::<R, State>(rt, lock, seat, call))?)?;
+        answers.push_reserved(unless_memory(ask_once::<R, State>(rt, lock, seat, call))?);
     }
     Ok(answers)
 }

@@ -26,7 +26,7 @@ pub fn serial<State: Object>(
     let mut book = Book::new(alloc)?;
     let mut answers = Vec::with_capacity(alloc, sections.len())?;
     for (seat, calls) in sections.iter().enumerate() {
-        answers.push(at_seat::<State>(alloc, &mut book, seat as u32, calls)?)?;
+        answers.push_reserved(at_seat::<State>(alloc, &mut book, seat as u32, calls)?);
     }
     Ok(BookRun { answers, book })
 }

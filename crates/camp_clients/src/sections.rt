@@ -2,7 +2,7 @@ ghost use Rattle.std.specs.Prelude.{◌≡◌, ◌+◌, ◌≤◌, false, length
 ghost use Rattle.camp_object.specs.declared.faults.Fault.TheVariants as fault;
 ghost use Rattle.camp_object.specs.Histories.{IsBeginning, own};
 ghost use Rattle.camp_clients.specs.Answers.{Asks, HasMemory};
-ghost use Rattle.camp_clients.specs.Gathering.{Gathers};
+ghost use Rattle.camp_clients.specs.Gathering.{ArePutApart, Gathers};
 ghost use Rattle.camp_clients.specs.Sections.{Section};
 
 use camp_object::{Desk, Fault, Object};
@@ -28,7 +28,7 @@ pub fn ask_all<State: Object, D: Desk<State>>(
 {
     let mut answers = Vec::with_capacity(alloc, calls.len())?;
     for call in calls {
-        answers.push(unless_memory(desk.ask(call))?)?;
+        answers.push_reserved(unless_memory(desk.ask(call))?);
     }
     Ok(answers)
 }
@@ -56,7 +56,27 @@ pub(crate) fn gather<X: Drop>(
     let mut all = first;
     all.reserve(made.len())?;
     for own in made {
-        all.push(own?)?;
+        all.push_reserved(own?);
     }
     Ok(all)
+}
+
+/// The seats that threads bring back, and the answers: the opening's, and behind them those of each thread.
+/// Or want of memory, where a thread wanted it.
+pub(crate) fn put_apart<Seat: Drop, X: Drop>(
+    alloc: Global,
+    opening: X,
+    made: Vec<Result<(Seat, X), AllocError>>,
+) -> Result<(Vec<Seat>, Vec<X>), AllocError>
+    ensures { IfOk result (λ all. ArePutApart opening made.items all.0.items all.1.items) }
+{
+    let mut seats = Vec::with_capacity(alloc, made.len())?;
+    let mut all = Vec::with_capacity(alloc, made.len() + 1)?;
+    all.push_reserved(opening);
+    for one in made {
+        let (seat, answers) = one?;
+        seats.push_reserved(seat);
+        all.push_reserved(answers);
+    }
+    Ok((seats, all))
 }

@@ -1,5 +1,5 @@
 -- Lemmas on what a seat sees.
-use Rattle.camp_history.proofs.Words.{◌≡◌, ◌≢◌, ℕ, ◌<◌, ◌≤◌, List, [], ◌∷◌, ◌++◌, length, map, All, Some, refl, sym, ◌∙◌, ap, subst, arith, length-append, All-push, All-same, append_assoc, length-map, Sequential, IsLawfulObject, IsBeginning, replay, own, Decides, Entry, Seated, asked, told, Begins, most_listed, history_of, Mark, entry_of, DecidesAt, SeesNext, SeesMore, own_other, count-replay, begins_self, begins_through, Based, All-weaker, Known, Leads, ComesNext}
+use Rattle.camp_history.proofs.Words.{◌≡◌, ℕ, ◌<◌, ◌≤◌, List, [], ◌∷◌, ◌++◌, length, map, All, Some, refl, sym, ◌∙◌, ap, subst, arith, length-append, All-push, All-same, append_assoc, length-map, Sequential, IsLawfulObject, IsBeginning, replay, own, Decides, Entry, Seated, asked, told, Begins, most_listed, history_of, Mark, entry_of, DecidesAt, GetsOn, SeesMore, with_mark, HeadId, IsSeatOf, Shows, Where, Ok, Err, OnOk, OnErr, Result, entries_of, own_other, count-replay, begins_self, begins_through, Based, All-weaker, Known, Leads, ComesNext}
 use Rattle.camp_object.specs.declared.objects.Decided.{Decided}
 use Rattle.camp_row.specs.declared.trails.Next.{Next}
 pub use Rattle.camp_history.proofs.Marked.{length-own, map_more}
@@ -40,17 +40,45 @@ sees_same old new now more known marks = record {
   own_stays = ap (λ marks. own old.known.number (map asked marks)) marks ∙ more.own_stays;
 }
 
--- the entry that comes next is of another seat
-pub sees_next_more : {Call : Type 0} {old new : Seated Call} (next : Next) → ComesNext old.known next → SeesNext old next.entry new → SeesMore old new
-sees_next_more {old = old} {new = new} next comes sees =
-    let other : sees.mark.seat ≢ old.known.number = λ same. comes.other (ap (λ entry. entry.seat) (sym sees.is) ∙ same) in
-    let grows : history_of new ≡ history_of old ++ asked sees.mark ∷ [] = history_more old.marks new.marks sees.mark sees.marks in
-    record {
-      number = ap (λ known. known.number) sees.known;
-      row = ap (λ known. known.row) sees.known;
-      more = record { rest = asked sees.mark ∷ []; makes = sym grows };
-      own_stays = ap (own old.known.number) grows ∙ own_other old.known.number sees.mark.seat (history_of old) sees.mark.call.value other;
-    }
+pub gets_on_self : {Call : Type 0} (head : HeadId) (seat : Seated Call) → IsSeatOf head seat → GetsOn head seat seat
+gets_on_self head seat of = record { of = of; more = sees_more_self seat; ahead = refl }
+
+pub gets_on_more : {Call : Type 0} {head : HeadId} {one two three : Seated Call} → GetsOn head one two → GetsOn head two three → GetsOn head one three
+gets_on_more first second = record { of = second.of; more = sees_more_more first.more second.more; ahead = second.ahead ∙ first.ahead }
+
+-- a seat that saw the call that comes next, which is of another seat, got on; and so did one that stayed as it was
+pub got_on : {Call E : Type 0} (head : HeadId) (old new : Seated Call) (next : Next) (call : Where Call) (answer : Result (Unit {0}) E)
+    → IsSeatOf head old → ComesNext old.known next → Shows head.store call
+    → OnOk answer (new ≡ with_mark old (record { seat = next.entry.seat; call = call })) → OnErr answer (new ≡ old) → GetsOn head old new
+got_on head old new next call (Err fault) of comes shows ok err = subst (GetsOn head old) (sym err) (gets_on_self head old of)
+got_on {Call} head old new next call (Ok done) of comes shows ok err =
+    let mark : Mark Call = record { seat = next.entry.seat; call = call } in
+    let grows : map asked (old.marks ++ mark ∷ []) ≡ history_of old ++ asked mark ∷ [] = map_more asked old.marks mark in
+    let on : GetsOn head old (with_mark old mark) = record {
+      of = record { row = of.row; stored = All-push (λ mark. Shows head.store mark.call) old.marks mark of.stored shows; bases = of.bases };
+      more = record {
+        number = refl;
+        row = refl;
+        more = record { rest = asked mark ∷ []; makes = sym grows };
+        own_stays = ap (own old.known.number) grows ∙ own_other old.known.number next.entry.seat (history_of old) call.value comes.other;
+      };
+      ahead = refl;
+    } in
+    subst (GetsOn head old) (sym ok) on
+
+-- and what it knows then
+pub known_then : {Call E : Type 0} (old new : Seated Call) (next : Next) (call : Where Call) (answer : Result (Unit {0}) E) → call.index ≡ next.entry.place
+    → OnOk answer (new ≡ with_mark old (record { seat = next.entry.seat; call = call }))
+    → OnOk answer (new.known ≡ record old.known { seen = old.known.seen ++ next.entry ∷ [] })
+known_then old new next call (Err fault) place ok = tt
+known_then old new next call (Ok done) place ok =
+    ap (λ seat. seat.known) ok ∙ ap (λ place. record old.known { seen = old.known.seen ++ record { seat = next.entry.seat; place = place } ∷ [] }) place
+
+-- a seat whose pass has seen the whole chain has a mark for each entry of it
+pub all_seen : {Call E : Type 0} (seat : Seated Call) (answer : Result (Unit {0}) E) → entries_of seat ≡ seat.known.seen
+    → OnOk answer (seat.known.seen ≡ seat.known.ahead) → OnOk answer (entries_of seat ≡ seat.known.ahead)
+all_seen seat (Err fault) places all = tt
+all_seen seat (Ok done) places all = places ∙ all
 
 -- the trail leads on from the entry that was seen
 pub leads_on : (old new : Known) (entry : Entry) (trail : List ℕ) → new ≡ record old { seen = old.seen ++ entry ∷ [] } → Leads old (old.seen ++ entry ∷ []) trail → Leads new new.seen trail

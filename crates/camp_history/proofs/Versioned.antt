@@ -1,5 +1,5 @@
 -- Lemmas on versions: how they are tied to a store, and how one goes on from what a seat has seen.
-use Rattle.camp_history.proofs.Words.{Entry, HeadId, IsBeginning, IsIn, IsSeatOf, IsSound, Known, Leads, Seated, asked, entry_of, entries_of, begins_shorter, history_of, ids, ids_of, length-beginning, own, told, news, based, bases_in, Begins, Based, IsBaseAt, Share, GoesOn, Adopts, made_of, Mark, SeesMore, ◌≡◌, ℕ, zero, suc, ◌+◌, ◌-◌, ◌<◌, ◌≤◌, List, [], ◌∷◌, ◌++◌, length, map, take, drop, splice, slice_get, slice_index_or, All, Result, Ok, Err, OnOk, OnErr, Option, None, Some, IfSome, MatchOption, refl, sym, ◌∙◌, ap, subst, arith, append-nil, append_assoc, length-append, length-map, map-append, take-append-drop, take_at, take_rest, drop_at, drop-drop, drop-map, same_Some, take_all, drop_all, begins_self, Bool, true, false, if◌then◌else◌, All-append, All-drop, All-map, All-push, All-same, All-weaker, Shelves, Shows, Where, turns}
+use Rattle.camp_history.proofs.Words.{Entry, HeadId, IsBeginning, IsIn, IsSeatOf, IsSound, Known, Leads, Seated, asked, entry_of, entries_of, begins_shorter, history_of, ids, ids_of, length-beginning, own, told, news, based, bases_in, Begins, Based, IsBaseAt, Share, GoesOn, Adopts, made_of, Mark, SeesMore, ◌≡◌, ℕ, zero, suc, ◌+◌, ◌-◌, ◌<◌, ◌≤◌, List, [], ◌∷◌, ◌++◌, length, map, take, drop, splice, slice_get, slice_index_or, All, Option, None, Some, IfSome, MatchOption, refl, sym, ◌∙◌, ap, subst, arith, append-nil, append_assoc, length-append, length-map, map-append, take-append-drop, take_at, take_rest, drop_at, drop-drop, drop-map, same_Some, take_all, drop_all, begins_self, Bool, true, false, if◌then◌else◌, All-append, All-drop, All-map, All-push, All-same, All-weaker, Shelves, Shows, Where, turns}
 use Rattle.std.proofs.lemmas.List.{get_or-map}
 use Rattle.std.proofs.Math.Seq.{drop-append-add}
 use Rattle.std.proofs.lemmas.Simd.{map-map}
@@ -7,7 +7,7 @@ use Rattle.boxcar.specs.Slot.{Named}
 use Rattle.camp_row.specs.Chains as chain
 use Rattle.camp_row.proofs.Cells.{turns_front}
 use Rattle.camp_row.proofs.TrailSteps.{length-cells_back}
-use Rattle.camp_history.proofs.Seeing.{sees_more_self, length-own, map_more}
+use Rattle.camp_history.proofs.Seeing.{length-own, map_more}
 use Rattle.camp_history.proofs.Together.{own_front}
 use Rattle.camp_history.proofs.Compared.{get_append}
 use Rattle.camp_history.specs.declared.versions.Base.{Base}
@@ -223,11 +223,6 @@ adopts_more old new version places sound goes adopts =
       own_stays = own_front number (history_of old) (history_of new) grows (omega arith);
     }
 
-pub adopting_more : {Call E : Type 0} (old new : Seated Call) (version : List (Mark Call)) (answer : Result (Unit {0}) E) → entries_of old ≡ old.known.seen → IsSound old.known → GoesOn old version
-    → OnOk answer (Adopts old version new) → OnErr answer (new ≡ old) → SeesMore old new
-adopting_more old new version (Ok done) places sound goes adopts same = adopts_more old new version places sound goes adopts
-adopting_more old new version (Err fault) places sound goes adopts same = subst (SeesMore old) (sym same) (sees_more_self old)
-
 -- and is one of the head
 pub seat_adopted : {Call : Type 0} (head : HeadId) (old new : Seated Call) (version : List (Mark Call)) → IsSeatOf head old → All (λ mark. Shows head.store mark.call) version → Adopts old version new → IsSeatOf head new
 seat_adopted {Call} head old new version of stored adopts = record {
@@ -235,11 +230,6 @@ seat_adopted {Call} head old new version of stored adopts = record {
   stored = All-same (λ (mark : Mark Call). Shows head.store mark.call) new.marks version adopts.marks stored;
   bases = All-same (IsBaseAt head.slots) new.bases old.bases adopts.bases of.bases;
 }
-
-pub adopting_of : {Call E : Type 0} (head : HeadId) (old new : Seated Call) (version : List (Mark Call)) (answer : Result (Unit {0}) E) → IsSeatOf head old → All (λ mark. Shows head.store mark.call) version
-    → OnOk answer (Adopts old version new) → OnErr answer (new ≡ old) → IsSeatOf head new
-adopting_of head old new version (Ok done) of stored takes same = seat_adopted head old new version of stored takes
-adopting_of head old new version (Err fault) of stored takes same = subst (IsSeatOf head) (sym same) of
 
 pub made_stored : {Call : Type 0} (head : HeadId) (seat : Seated Call) (call : Where Call) → IsSeatOf head seat → Shows head.store call → All (λ mark. Shows head.store mark.call) (made_of seat call)
 made_stored {Call} head seat call of shows =

@@ -4,11 +4,12 @@ pub use Rattle.std.proofs.Common.{All, Bool, Err, IfErr, IfSome, IsErrAnd, IsOk,
 pub use Rattle.std.proofs.lemmas.Grind.{common_steps, elements}
 pub use Rattle.std.proofs.lemmas.List.{append-nil, append_assoc, drop-drop, drop-map, drop_all, drop_at, length-append, length-map, map-append, nil_from_length, take-append-drop, take_all, take_at, take_more, take_rest}
 pub use Rattle.std.proofs.lemmas.List.Elements.{All-append, All-drop, All-map, All-push, All-rest, All-same, All-weaker}
+pub use Rattle.std.proofs.lemmas.Result.{IfOk-weaker}
 pub use Rattle.std.proofs.lemmas.Option.{get_or_from_slice_get, same_Some, slice_get-map, slice_get_within}
 pub use Rattle.std.specs.List.{range_with_len, splice}
 pub use Rattle.boxcar.specs.Table.{Shelves, Shows, Where}
 pub use Rattle.camp_history.specs.Inside.SeatFields.{marks_in, seated}
-pub use Rattle.camp_history.specs.Inside.Steps.{Attempts, DecidesAt, Decision, FindsMore, LosesOne, Publishes, SeesMore, SeesNext, entries_of}
+pub use Rattle.camp_history.specs.Inside.Steps.{Attempts, DecidesAt, Decision, FindsMore, GetsOn, LosesOne, Publishes, SeesMore, entries_of, with_mark}
 pub use Rattle.camp_history.specs.Seats.{Based, HeadId, IsBaseAt, IsSeatOf, Seated, asked, caller_at, entry_of, history_of, most_listed, told, unseen}
 pub use Rattle.camp_history.specs.Versions.{Adopts, Begins, GoesOn, IsFound, IsIn, IsMadeFrom, Share, based, bases_in, ids, ids_of, made_of, news}
 pub use Rattle.camp_history.specs.declared.marks.Mark.{Mark}

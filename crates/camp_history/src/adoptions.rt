@@ -1,5 +1,5 @@
 //! How a seat that is behind adopts a version.
-ghost use Rattle.std.specs.Prelude.{◌≡◌, ℕ, ◌<◌, ◌≤◌, ◌+◌, length, map, drop, slice_get, slice_index_or, All, Some, IfOk, IfSome, OnOk, OnErr, IsTrue};
+ghost use Rattle.std.specs.Prelude.{◌≡◌, ℕ, ◌<◌, ◌≤◌, ◌+◌, length, map, drop, slice_get, slice_index_or, All, Some, IfOk, IfSome, IsTrue};
 ghost use Rattle.boxcar.specs.Table.{Shows};
 ghost use Rattle.camp_history.specs.Versions.{ids, Adopts, Begins, GoesOn, Share};
 
@@ -66,17 +66,11 @@ impl<State: Object> Seat<State> {
     }
 
     /// Adopts a version.
-    fn adopt(
-        &mut self,
-        row: &Row,
-        trail: &mut Trail,
-        version: &Version<State>,
-    ) -> Result<(), AllocError>
+    fn adopt(&mut self, row: &Row, trail: &mut Trail, version: Version<State>)
         requires row { self.old.known.row ≡ row.now }
         requires leads { Leads self.old.known self.old.known.seen trail.old }
-        requires goes_on { GoesOn self.old version.now }
-        ensures ok { OnOk result (Adopts self.old version.now self.new) }
-        ensures err { OnErr result (self.new ≡ self.old) }
+        requires goes_on { GoesOn self.old version }
+        ensures adopts { Adopts self.old version self.new }
         ensures leads { Leads self.new.known self.new.known.seen trail.new }
     {
         let count = version.len() - (self.earlier.len() + self.tail.len());
@@ -84,12 +78,11 @@ impl<State: Object> Seat<State> {
             earlier,
             tail,
             state,
-        } = version.share()?;
+        } = version;
         row.advance_by(&mut self.pass, trail, count);
         self.earlier = earlier;
         self.tail = tail;
         self.state = state;
-        Ok(())
     }
 }
 
@@ -109,11 +102,10 @@ impl<State: Object> camp_share::Share for Version<State> {
 }
 
 impl<State: Object> Head<State> {
-    ghost use Rattle.camp_object.specs.Histories.{IsLegal};
     ghost use Rattle.camp_row.specs.Known.{Leads};
-    ghost use Rattle.camp_history.specs.Seats.{IsBaseAt, IsSeatOf, history_of, told};
+    ghost use Rattle.camp_history.specs.Seats.{IsBaseAt, IsSeatOf, told};
     ghost use Rattle.camp_history.specs.Versions.{IsFound, IsMadeFrom, based};
-    ghost use Rattle.camp_history.specs.Inside.Steps.{entries_of, SeesMore};
+    ghost use Rattle.camp_history.specs.Inside.Steps.{GetsOn};
 
     /// The slot of a number.
     pub(crate) fn slot(&self, number: usize) -> Option<&Slot<State>>
@@ -373,13 +365,11 @@ impl<State: Object> Head<State> {
         requires is { version.now ≡ base.now.version.value }
         requires stored { All (λ mark. Shows self.now.store mark.call) version.now }
         requires goes_on { GoesOn seat.old version.now }
-        ensures of { IsSeatOf self.now seat.new }
-        ensures more { SeesMore seat.old seat.new }
-        ensures ahead { seat.new.known.ahead ≡ seat.old.known.ahead }
+        ensures gets_on { GetsOn self.now seat.old seat.new }
         ensures leads { Leads seat.new.known seat.new.known.seen trail.new }
     {
         seat.is_whole();
-        seat.adopt(&self.row, trail, version)?;
+        seat.adopt(&self.row, trail, version.share()?);
         self.note(seat, base.again());
         seat.adopted = seat.adopted.saturating_add(1);
         Ok(())
@@ -395,9 +385,7 @@ impl<State: Object> Head<State> {
         requires of { IsSeatOf self.now seat.old }
         requires leads { Leads seat.old.known seat.old.known.seen trail.old }
         requires made { IsMadeFrom self.now.slots origin.now }
-        ensures of { IsSeatOf self.now seat.new }
-        ensures more { SeesMore seat.old seat.new }
-        ensures ahead { seat.new.known.ahead ≡ seat.old.known.ahead }
+        ensures gets_on { GetsOn self.now seat.old seat.new }
         ensures leads { Leads seat.new.known seat.new.known.seen trail.new }
     {
         let Some(version) = self.version_of(&origin.version) else {
@@ -412,12 +400,14 @@ impl<State: Object> Head<State> {
     }
 
     /// A seat that is behind tries the versions that it finds, the longest first, until it has adopted one.
-    fn adopt_longest(&self, seat: &mut Seat<State>, trail: &mut Trail) -> Result<(), AllocError>
+    pub(crate) fn adopt_longest(
+        &self,
+        seat: &mut Seat<State>,
+        trail: &mut Trail,
+    ) -> Result<(), AllocError>
         requires of { IsSeatOf self.now seat.old }
         requires leads { Leads seat.old.known seat.old.known.seen trail.old }
-        ensures of { IsSeatOf self.now seat.new }
-        ensures more { SeesMore seat.old seat.new }
-        ensures ahead { seat.new.known.ahead ≡ seat.old.known.ahead }
+        ensures gets_on { GetsOn self.now seat.old seat.new }
         ensures leads { Leads seat.new.known seat.new.known.seen trail.new }
     {
         let seen = seat.position();
@@ -431,22 +421,6 @@ impl<State: Object> Head<State> {
         Ok(())
     }
 
-    /// A seat that is behind adopts the longest version that it can.
-    pub(crate) fn adopt(&self, seat: &mut Seat<State>, trail: &mut Trail) -> Result<(), AllocError>
-        requires of { IsSeatOf self.now seat.old }
-        requires leads { Leads seat.old.known seat.old.known.seen trail.old }
-        ensures of { IsSeatOf self.now seat.new }
-        ensures more { SeesMore seat.old seat.new }
-        ensures ahead { seat.new.known.ahead ≡ seat.old.known.ahead }
-        ensures leads { Leads seat.new.known seat.new.known.seen trail.new }
-        ensures places { entries_of seat.new ≡ seat.new.known.seen }
-        ensures legal { IsLegal State.object (history_of seat.new) }
-    {
-        let answer = self.adopt_longest(seat, trail);
-        seat.is_whole();
-        answer
-    }
-
     /// A seat that is behind another adopts all that this one has seen and decided.
     pub(crate) fn adopt_from(
         &self,
@@ -455,9 +429,7 @@ impl<State: Object> Head<State> {
     ) -> Result<(), AllocError>
         requires of { IsSeatOf self.now seat.old }
         requires other { IsSeatOf self.now other.now }
-        ensures of { IsSeatOf self.now seat.new }
-        ensures more { SeesMore seat.old seat.new }
-        ensures ahead { seat.new.known.ahead ≡ seat.old.known.ahead }
+        ensures gets_on { GetsOn self.now seat.old seat.new }
     {
         seat.is_whole();
         if other.position() <= seat.position() {
@@ -469,6 +441,7 @@ impl<State: Object> Head<State> {
         if !self.goes_on(seat, &trail, &version, from) {
             return Ok(());
         }
-        seat.adopt(&self.row, &mut trail, &version)
+        seat.adopt(&self.row, &mut trail, version);
+        Ok(())
     }
 }

@@ -1,4 +1,4 @@
-ghost use Rattle.std.specs.Prelude.{◌≡◌, ◌≤◌, ◌↔◌, [], map, All, IfOk, IfErr, IsOk, IsTrue};
+ghost use Rattle.std.specs.Prelude.{◌≡◌, ◌<◌, ◌≤◌, ◌↔◌, [], map, All, IfOk, IfErr, IsOk, IsTrue};
 ghost use Rattle.camp_history.specs.Inside.HeadFields.{slots_handed_on, slots_kept};
 ghost use Rattle.camp_history.specs.Opening.{IsInRange};
 ghost use Rattle.camp_history.specs.Seats.{unseen};
@@ -76,7 +76,7 @@ fn seats_of<State: Object>(alloc: Global, passes: Vec<Pass>) -> Result<Vec<Seat<
 {
     let mut seats = Vec::with_capacity(alloc, passes.len())?;
     for pass in passes {
-        seats.push(seat_of(alloc, pass)?)?;
+        seats.push_reserved(seat_of(alloc, pass)?);
     }
     Ok(seats)
 }
@@ -119,19 +119,28 @@ impl<State: Object> Head<State> {
         }
         let (row, passes) = Row::new(alloc, seats, per_seat)?;
         let all = seats_of(alloc, passes)?;
+        let head = Head::over(alloc, row, tries, every)?;
+        Ok((head, all))
+    }
+
+    /// A head over a row, with no calls yet.
+    fn over(alloc: Global, row: Row, tries: u32, every: u32) -> Result<Head<State>, AllocError>
+        requires { 0 < tries }
+        ensures { IfOk result (λ head. (head.row ≡ row) × (head.tries ≡ tries)) }
+    {
         let calls = boxcar::Vec::new(alloc)?;
-        let count = slot_count(seats, per_seat, every) + handing_count(seats, every);
+        let count = slot_count(row.seats(), row.per_seat(), every)
+            + handing_count(row.seats(), every);
         let versions = slots_of(alloc, &calls, count)?;
         let origins = origins_of(alloc, &versions)?;
-        let head = Head {
+        Ok(Head {
             row,
             calls,
             tries,
             every,
             versions,
             origins,
-        };
-        Ok((head, all))
+        })
     }
 
     /// A copy of a call, which may then be asked at any seat. The only fault is want of memory.
@@ -161,11 +170,19 @@ impl<State: Object> Head<State> {
         ensures empty { history_of seat.now ≡ [] → IsOk result }
         ensures only_memory { IfErr result (λ fault. fault ≡ Memory) }
     {
-        let mut history = Vec::new(*seat.tail.allocator());
+        Ok(self.copies(seat)?)
+    }
+
+    fn copies(&self, seat: &Seat<State>) -> Result<Vec<(u32, State::Call)>, AllocError>
+        requires { IsSeatOf self.now seat.now }
+        ensures history { IfOk result (λ history. history.items ≡ history_of seat.now) }
+        ensures empty { history_of seat.now ≡ [] → IsOk result }
+    {
+        let mut history = Vec::with_capacity(*seat.tail.allocator(), seat.position() as usize)?;
         let mut marks = seat.marks_from(0);
         while let Some(mark) = marks.next() {
             let call = State::copy(self.calls.value(&mark.call))?;
-            history.push((mark.seat, call))?;
+            history.push_reserved((mark.seat, call));
         }
         Ok(history)
     }

@@ -69,7 +69,7 @@ pub(crate) fn share_all<Call>(
 {
     let mut copies = Vec::with_capacity(alloc, marks.len().saturating_add(1))?;
     for mark in marks {
-        copies.push(mark.share()?)?;
+        copies.push_reserved(mark.share()?);
     }
     Ok(copies)
 }

@@ -1,5 +1,6 @@
 //! How versions are made, put into their slots, and handed on.
-ghost use Rattle.std.specs.Prelude.{◌≡◌, ◌≤◌, ℕ, ◌++◌, ◌∷◌, [], Some, IfOk, IfErr, IfSome, MatchOption};
+ghost use Rattle.std.specs.Prelude.{◌≡◌, ◌≤◌, ℕ, ◌++◌, ◌∷◌, [], All, Some, IfOk, IfErr, IfSome, MatchOption};
+ghost use Rattle.boxcar.specs.Table.{Shows};
 ghost use Rattle.camp_object.specs.declared.faults.Fault.TheVariants.{Memory};
 ghost use Rattle.camp_history.specs.Inside.HeadFields.{IsSlotFor};
 ghost use Rattle.camp_history.specs.Versions.{made_of, Begins};
@@ -112,21 +113,38 @@ impl<State: Object> Head<State> {
         ensures base { IfSome result (λ base. IsBaseAt self.now.slots (based base)) }
         ensures is { IfSome result (λ base. base.version.value ≡ version) }
     {
-        let slot = self.slot(number)?;
-        let origin = self.origin_slot(number)?;
-        let from = self.last_noted(seat);
-        let Ok(shown) = slot.set_written(version) else {
-            return None;
-        };
-        let base = Base {
-            slot: number,
-            version: shown,
-        };
-        let _told = origin.set(Origin {
-            version: base.again(),
-            from,
-        });
+        let base = self.show_at(number, version)?;
+        self.tell_origin(&base, seat);
         Some(base)
+    }
+
+    /// Puts a version into the slot of a number, if there is none yet.
+    fn show_at(&self, number: usize, version: Version<State>) -> Option<Base<State>>
+        requires { All (λ mark. Shows self.now.store mark.call) version }
+        ensures base { IfSome result (λ base. IsBaseAt self.now.slots (based base)) }
+        ensures is { IfSome result (λ base. base.version.value ≡ version) }
+    {
+        match self.slot(number)?.set_written(version) {
+            Ok(version) => Some(Base {
+                slot: number,
+                version,
+            }),
+            Err(_) => None,
+        }
+    }
+
+    /// Tells what the version of a slot was made from: the one that its maker noted last.
+    fn tell_origin(&self, base: &Base<State>, seat: &Seat<State>)
+        requires seat { IsSeatOf self.now seat.now }
+        requires base { IsBaseAt self.now.slots (based base.now) }
+        requires is { base.now.version.value ≡ seat.now.marks }
+    {
+        if let Some(slot) = self.origin_slot(base.slot) {
+            let _told = slot.set(Origin {
+                version: base.again(),
+                from: self.last_noted(seat),
+            });
+        }
     }
 
     /// Hands on what a seat has seen and decided, for seats that are behind: a seat that asks no more

@@ -10,7 +10,7 @@ use std::alloc::AllocError;
 impl<State: Object> Head<State> {
     ghost use Rattle.camp_history.specs.Meeting.{Meets};
     ghost use Rattle.camp_history.specs.Seats.{IsSeatOf, history_of};
-    ghost use Rattle.camp_history.specs.Inside.Steps.{entries_of, SeesMore};
+    ghost use Rattle.camp_history.specs.Inside.Steps.{entries_of, GetsOn};
     ghost use Rattle.camp_history.specs.Versions.{Share};
 
     /// Brings two seats together, and lets the first see all that the second has seen.
@@ -40,9 +40,7 @@ impl<State: Object> Head<State> {
     fn follow_other(&self, seat: &mut Seat<State>, other: &Seat<State>) -> Result<(), AllocError>
         requires of { IsSeatOf self.now seat.old }
         requires other { IsSeatOf self.now other.now }
-        ensures of { IsSeatOf self.now seat.new }
-        ensures more { SeesMore seat.old seat.new }
-        ensures ahead { seat.new.known.ahead ≡ seat.old.known.ahead }
+        ensures gets_on { GetsOn self.now seat.old seat.new }
         ensures whole { OnOk result (entries_of seat.new ≡ seat.new.known.ahead) }
     {
         self.adopt_from(seat, other)?;

@@ -40,7 +40,7 @@ pub(crate) fn origins_of<State: Object>(
     let mut origins = Vec::with_capacity(alloc, slots.len())?;
     for _ in 0..slots.len() {
         let tag = Tag::of::<Vec<Slot<State>>, SlotIds>(slots);
-        origins.push(OnceSlot::new(&tag))?;
+        origins.push_reserved(OnceSlot::new(&tag));
     }
     Ok(origins)
 }

@@ -83,7 +83,7 @@ pub(crate) fn slots_of<State: Object>(
     let mut slots = Vec::with_capacity(alloc, count)?;
     for _ in 0..count {
         let tag = Tag::of::<boxcar::Vec<State::Call>, StoreIds>(calls);
-        slots.push(OnceSlot::new(&tag))?;
+        slots.push_reserved(OnceSlot::new(&tag));
     }
     Ok(slots)
 }

@@ -1,5 +1,5 @@
 //! How a seat moves along the row.
-ghost use Rattle.std.specs.Prelude.{◌≡◌, ◌<◌, ◌+◌, ◌++◌, [], ◌∷◌, length, slice_get, All, Some, IfOk, OnOk, OnErr, MatchOption, MatchResult, MatchBool};
+ghost use Rattle.std.specs.Prelude.{◌≡◌, ℕ, ◌<◌, ◌+◌, ◌++◌, [], ◌∷◌, length, slice_get, All, Some, IfOk, OnOk, OnErr, MatchOption, MatchResult, MatchBool};
 ghost use Rattle.boxcar.specs.Table.{Shows};
 ghost use Rattle.camp_object.specs.declared.faults.Fault.TheVariants.{Memory};
 ghost use Rattle.camp_row.specs.Chains.{turns};
@@ -12,7 +12,7 @@ use crate::seats::Seat;
 use boxcar::Pushed;
 use camp_object::{Decided, Fault, Object};
 use camp_row::{Next, Pass, Row, Trail};
-use camp_share::Shared;
+use camp_share::{Shared, SharedList};
 use std::alloc::AllocError;
 
 /// No head has more calls.
@@ -33,7 +33,7 @@ impl<State: Object> Seat<State> {
     ghost use Rattle.camp_object.specs.Histories.{replay, IsLegal, own};
     ghost use Rattle.camp_row.specs.Known.{FindsChain, Leads, ComesNext, IsSound};
     ghost use Rattle.camp_history.specs.Seats.{history_of};
-    ghost use Rattle.camp_history.specs.Inside.Steps.{entries_of, DecidesAt, Publishes, FindsMore};
+    ghost use Rattle.camp_history.specs.Inside.Steps.{entries_of, with_mark, DecidesAt, Publishes, FindsMore};
 
     /// What holds of every seat. It does nothing at run: a caller's proof reads its clauses.
     pub(crate) fn is_whole(&self)
@@ -85,16 +85,23 @@ impl<State: Object> Seat<State> {
         }
     }
 
+    /// All that it has seen, as a list that copies share.
+    fn listed(&self) -> Result<Shared<SharedList<Mark<State::Call>>>, AllocError>
+        ensures { IfOk result (λ list. list ≡ self.now.marks) }
+    {
+        let len = self.earlier.len();
+        let longer = self.earlier.spliced(len, len, &self.tail)?;
+        Shared::new(*self.tail.allocator(), longer)
+    }
+
     /// Moves the last calls into the list that copies share, once there are so many.
     fn settle(&mut self, most: usize) -> Result<(), AllocError>
         ensures { self.new ≡ self.old }
     {
-        let len = self.earlier.len();
-        if self.tail.len() < most || self.tail.len() + len > MOST_LISTED {
+        if self.tail.len() < most || self.tail.len() + self.earlier.len() > MOST_LISTED {
             return Ok(());
         }
-        let longer = self.earlier.spliced(len, len, &self.tail)?;
-        self.earlier = Shared::new(*self.tail.allocator(), longer)?;
+        self.earlier = self.listed()?;
         self.tail.clear();
         Ok(())
     }
@@ -130,6 +137,42 @@ impl<State: Object> Seat<State> {
         self.state.decide(call)
     }
 
+    /// The state behind a call that comes next, whoever asked it.
+    fn state_behind(&self, call: &State::Call) -> Result<Shared<State>, AllocError>
+        ensures { IfOk result (λ next. (seat : ℕ) → replay State.object (history_of self.now ++ (seat, call.now) ∷ []) ≡ Some next) }
+    {
+        let Decided::Next(next) = self.decide(call)? else {
+            return Err(AllocError);
+        };
+        Shared::new(*self.tail.allocator(), next)
+    }
+
+    /// Sees the entry that comes next, with its call and the state behind it.
+    fn step(
+        &mut self,
+        row: &Row,
+        next: Next,
+        call: Pushed<State::Call>,
+        state: Shared<State>,
+    ) -> Result<(), AllocError>
+        requires row { self.old.known.row ≡ row.now }
+        requires next { ComesNext self.old.known next }
+        requires place { call.index ≡ next.entry.place }
+        requires state { replay State.object (history_of self.old ++ (next.entry.seat, call.value) ∷ []) ≡ Some state }
+        ensures ok { OnOk result (self.new ≡ with_mark self.old (record { seat = next.entry.seat; call = call })) }
+        ensures err { OnErr result (self.new ≡ self.old) }
+    {
+        self.tail.reserve(1)?;
+        let mark = Mark {
+            seat: next.entry.seat,
+            call,
+        };
+        row.advance(&mut self.pass, next);
+        self.tail.push_reserved(mark);
+        self.state = state;
+        Ok(())
+    }
+
     /// Publishes a call. All that has to grow does so before the exchange.
     pub(crate) fn publish<G: Gate>(
         &mut self,
@@ -162,52 +205,47 @@ impl<State: Object> Head<State> {
     ghost use Rattle.camp_object.specs.Histories.{IsLegal};
     ghost use Rattle.camp_row.specs.Known.{ComesNext};
     ghost use Rattle.camp_history.specs.Seats.{IsSeatOf, history_of};
-    ghost use Rattle.camp_history.specs.Inside.Steps.{entries_of, SeesNext, SeesMore};
+    ghost use Rattle.camp_history.specs.Inside.Steps.{entries_of, GetsOn, SeesMore};
 
     /// Sees the entry that comes next. A published call is found, and accepted in its turn.
     fn see(&self, seat: &mut Seat<State>, next: Next) -> Result<(), AllocError>
         requires of { IsSeatOf self.now seat.old }
         requires next { ComesNext seat.old.known next }
-        ensures of { IsSeatOf self.now seat.new }
-        ensures ok { OnOk result (SeesNext seat.old next.entry seat.new) }
-        ensures err { OnErr result (seat.new ≡ seat.old) }
-        ensures legal { OnOk result (IsLegal State.object (history_of seat.new)) }
+        ensures gets_on { GetsOn self.now seat.old seat.new }
+        ensures known { OnOk result (seat.new.known ≡ record seat.old.known { seen = seat.old.known.seen ++ next.entry ∷ [] }) }
     {
-        seat.tail.reserve(1)?;
-        let entry = next.entry;
-        let Some(call) = self.calls.witness(entry.place) else {
+        let Some(call) = self.calls.witness(next.entry.place) else {
             return Err(AllocError);
         };
-        let Decided::Next(state) = seat.state.decide(self.calls.value(&call))? else {
-            return Err(AllocError);
-        };
-        let next_state = Shared::new(*seat.tail.allocator(), state)?;
-        self.row.advance(&mut seat.pass, next);
-        seat.tail.push_reserved(Mark {
-            seat: entry.seat,
-            call,
-        });
-        seat.state = next_state;
-        Ok(())
+        let state = seat.state_behind(self.calls.value(&call))?;
+        seat.step(&self.row, next, call, state)
     }
 
-    /// Sees all of the chain that was found.
-    pub(crate) fn follow(&self, seat: &mut Seat<State>) -> Result<(), AllocError>
+    /// Sees all of the chain that was found: what it can adopt at once, and the rest entry by entry.
+    fn see_all(&self, seat: &mut Seat<State>) -> Result<(), AllocError>
         requires { IsSeatOf self.now seat.old }
-        ensures of { IsSeatOf self.now seat.new }
-        ensures more { SeesMore seat.old seat.new }
-        ensures ahead { seat.new.known.ahead ≡ seat.old.known.ahead }
-        ensures whole { OnOk result (entries_of seat.new ≡ seat.new.known.ahead) }
-        ensures legal { IsLegal State.object (history_of seat.new) }
+        ensures gets_on { GetsOn self.now seat.old seat.new }
+        ensures all { OnOk result (seat.new.known.seen ≡ seat.new.known.ahead) }
     {
-        seat.is_whole();
         let mut trail = seat.walk(&self.row)?;
-        self.adopt(seat, &mut trail)?;
+        self.adopt_longest(seat, &mut trail)?;
         while let Some(next) = seat.next(&self.row, &mut trail) {
             self.see(seat, next)?;
         }
         let most = self.most_own(seat);
         seat.settle(most)
+    }
+
+    /// Sees all of the chain that was found.
+    pub(crate) fn follow(&self, seat: &mut Seat<State>) -> Result<(), AllocError>
+        requires { IsSeatOf self.now seat.old }
+        ensures gets_on { GetsOn self.now seat.old seat.new }
+        ensures whole { OnOk result (entries_of seat.new ≡ seat.new.known.ahead) }
+        ensures legal { IsLegal State.object (history_of seat.new) }
+    {
+        let answer = self.see_all(seat);
+        seat.is_whole();
+        answer
     }
 
     /// Sees all of the chain as it is now.

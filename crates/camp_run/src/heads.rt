@@ -8,7 +8,7 @@ ghost use Rattle.camp_run.specs.Runs.{HasNoOutput, HasOutput, IsNotForeign, Runs
 use crate::RunFault;
 use crate::inputs::read_input;
 use crate::outputs::{text_of, write_output};
-use camp_clients::{shared, shared_answers};
+use camp_clients::{HeadPlan, shared};
 use camp_head::Gate;
 use camp_repo::State;
 use std::alloc::Global;
@@ -57,11 +57,16 @@ fn head_output<T: Threads + Wait + Sync, R: Read, G: Gate + Sync>(
     ensures not_foreign { IfErr result IsNotForeign }
 {
     let script = read_input(alloc, reader)?;
-    let sections = script.sections();
+    let plan = HeadPlan {
+        rt,
+        sections: script.sections(),
+        tries,
+        every: EVERY,
+        gate,
+    };
+    let run = shared::<T, State, G>(alloc, &plan)?;
     if !history {
-        let answers = shared_answers::<T, State, G>(rt, alloc, sections, tries, EVERY, gate)?;
-        return Ok(text_of(alloc, &answers, &[], false)?);
+        return Ok(text_of(alloc, &run.answers, &[], false)?);
     }
-    let run = shared::<T, State, G>(rt, alloc, sections, tries, EVERY, gate)?;
-    Ok(text_of(alloc, &run.answers, &run.history, true)?)
+    Ok(text_of(alloc, &run.answers, &run.history()?, true)?)
 }

@@ -10,7 +10,7 @@ use Rattle.camp_object.specs.declared.objects.Decided.TheVariants.{Next, Answer}
 use Rattle.camp_row.specs.Chains.{IsShorter}
 use Rattle.camp_row.specs.declared.entries.Entry.{Entry}
 use Rattle.boxcar.specs.Table.{Where}
-use Rattle.camp_history.specs.Seats.{HeadId, Seated, entry_of, history_of, caller_at}
+use Rattle.camp_history.specs.Seats.{HeadId, Seated, IsSeatOf, entry_of, history_of, caller_at}
 use Rattle.camp_history.specs.declared.marks.Mark.{Mark}
 
 -- the entries of a seat's marks
@@ -36,13 +36,13 @@ Decision object head seat call (Ok (Answer reply)) =
 Decision object head seat call (Err fault) =
     Ask object (caller_at head seat) (history_of seat) call (Err fault) (history_of seat)
 
--- a seat sees the entry that comes next
-pub record SeesNext {Call : Type 0} (old : Seated Call) (entry : Entry) (new : Seated Call) : Type 0 where
-  pub mark : Mark Call
-  pub is : entry_of mark ≡ entry
-  pub marks : new.marks ≡ old.marks ++ mark ∷ []
-  pub bases : new.bases ≡ old.bases
-  pub known : new.known ≡ record old.known { seen = old.known.seen ++ entry ∷ [] }
+-- a seat that has seen one call more
+abbrev pub with_mark : {Call : Type 0} → Seated Call → Mark Call → Seated Call
+with_mark seat mark = record {
+  known = record seat.known { seen = seat.known.seen ++ entry_of mark ∷ [] };
+  marks = seat.marks ++ mark ∷ [];
+  bases = seat.bases;
+}
 
 -- a seat sees more: its pass is to the same seat of the row, and no call that it sees newly is its own
 pub record SeesMore {Call : Type 0} (old new : Seated Call) : Type 0 where
@@ -50,6 +50,12 @@ pub record SeesMore {Call : Type 0} (old new : Seated Call) : Type 0 where
   pub row : new.known.row ≡ old.known.row
   pub more : IsBeginning (history_of old) (history_of new)
   pub own_stays : own old.known.number (history_of new) ≡ own old.known.number (history_of old)
+
+-- a seat of a head sees more of the chain that was found
+pub record GetsOn {Call : Type 0} (head : HeadId) (old new : Seated Call) : Type 0 where
+  pub of : IsSeatOf head new
+  pub more : SeesMore old new
+  pub ahead : new.known.ahead ≡ old.known.ahead
 
 -- the seat published its call, which is the last that it has seen now
 pub record Publishes {Call : Type 0} (old : Seated Call) (call : Where Call) (new : Seated Call) : Type 0 where

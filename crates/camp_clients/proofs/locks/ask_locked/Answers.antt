@@ -4,10 +4,15 @@ use Rattle.camp_clients.proofs.locks.ask_locked.Goals as goal
 
 pub loop-call-preserved : goal.loop-call-preserved
 loop-call-preserved g c =
+    let inv = c.loop-call.invariant in
     let kept = c.in_ok-unless_memory.ensures in
-    rw (c.in_ok-push.ensures.items, kept.0)
-    (zip_more (SaysSomewhere g.State.Object.object) c.args.calls.now c.loop-call.call-index c.call-item.result c.loop-call-test.true c.call-item.is
-    c.loop-call.answers.items c.ask_once.result c.loop-call.invariant (c.ask_once.ensures kept.1))
+    record {
+      says = rw (c.push_reserved.ensures.items, kept.0)
+          (zip_more (SaysSomewhere g.State.Object.object) c.args.calls.now c.loop-call.call-index c.call-item.result c.loop-call-test.true c.call-item.is
+          c.loop-call.answers.items c.ask_once.result inv.says (c.ask_once.ensures kept.1));
+      so_far = omega (arith, inv.so_far, c.push_reserved.ensures.len);
+      space = omega (arith, inv.space, c.push_reserved.ensures.capacity);
+    }
 
 pub returns : goal.returns
 returns g c = grind (arith, common_steps)

@@ -5,14 +5,19 @@ use Rattle.camp_clients.proofs.one_by_one.serial.Goals as goal
 
 pub loop-seat-preserved : goal.loop-seat-preserved
 loop-seat-preserved g c =
-    rw (
-      lists_more c.args.sections.now c.loop-seat.seat c.index-sections-seat.result c.loop-seat-test.true c.index-sections-seat.is,
-      c.in_ok-push.ensures.items,
-      lists_push c.loop-seat.answers.items c.in_ok-at_seat.field-0,
-    )
-    (one_by_one_push g.State.Object.object 0 [] (lists_of (take c.loop-seat.seat c.args.sections.now)) (lists_of c.loop-seat.answers.items) c.loop-seat.book
-    c.index-sections-seat.result.items c.in_ok-at_seat.field-0.items c.at_seat.new.book c.loop-seat.invariant
-    (rw (zero-add, length-lists_of, length-take-le c.loop-seat.seat c.args.sections.now (omega arith), ← c.deref.ensures.value) c.in_ok-at_seat.ensures))
+    let inv = c.loop-seat.invariant in
+    record {
+      so_far = rw (
+        lists_more c.args.sections.now c.loop-seat.seat c.index-sections-seat.result c.loop-seat-test.true c.index-sections-seat.is,
+        c.push_reserved.ensures.items,
+        lists_push c.loop-seat.answers.items c.in_ok-at_seat.field-0,
+      )
+          (one_by_one_push g.State.Object.object 0 [] (lists_of (take c.loop-seat.seat c.args.sections.now)) (lists_of c.loop-seat.answers.items) c.loop-seat.book
+          c.index-sections-seat.result.items c.in_ok-at_seat.field-0.items c.at_seat.new.book inv.so_far
+          (rw (zero-add, length-lists_of, length-take-le c.loop-seat.seat c.args.sections.now (omega arith), ← c.deref.ensures.value) c.in_ok-at_seat.ensures));
+      answered = omega (arith, inv.answered, c.push_reserved.ensures.len);
+      space = omega (arith, inv.space, c.push_reserved.ensures.capacity);
+    }
 
 pub returns : goal.returns
 returns g c = grind (arith, common_steps)

@@ -6,10 +6,6 @@ pub returns-in_err-unless_memory-clause-grows : goal.returns-in_err-unless_memor
 returns-in_err-unless_memory-clause-grows g c =
     begins_through (section_grows g.State.Object.object _ _ _ _ _ c.loop-call.invariant.section) c.ask.ensures.asks.grows
 
-pub returns-in_err-push-clause-grows : goal.returns-in_err-push-clause-grows
-returns-in_err-push-clause-grows g c =
-    begins_through (section_grows g.State.Object.object _ _ _ _ _ c.loop-call.invariant.section) c.ask.ensures.asks.grows
-
 pub loop-call-preserved : goal.loop-call-preserved
 loop-call-preserved g c =
     let inv = c.loop-call.invariant in
@@ -18,13 +14,15 @@ loop-call-preserved g c =
     record {
       keeps = g.met.D.Desk.transitive _ _ _ inv.keeps c.ask.ensures.keeps;
       caller = c.ask.ensures.caller ∙ inv.caller;
-      section = rw (c.in_ok-push.ensures.items, kept.0)
+      section = rw (c.push_reserved.ensures.items, kept.0)
           (section_more g.State.Object.object g.met.State.Object.lawful (g.D.Desk.caller c.args.desk.now) (g.D.Desk.seen c.args.desk.now) c.args.calls.now
           c.loop-call.call-index c.loop-call-test.true (g.D.Desk.seen c.loop-call.desk) c.call-item.result c.call-item.is c.ask.result (g.D.Desk.seen c.ask.new.self)
           kept.1 asks inv.room c.loop-call.answers.items inv.section);
       room = room_more g.State.Object.object g.met.State.Object.lawful (g.D.Desk.caller c.args.desk.now) (g.D.Desk.seen c.args.desk.now) c.args.calls.now
           c.loop-call.call-index c.loop-call-test.true (g.D.Desk.seen c.loop-call.desk) c.call-item.result c.call-item.is c.ask.result (g.D.Desk.seen c.ask.new.self)
           kept.1 asks inv.room;
+      so_far = omega (arith, inv.so_far, c.push_reserved.ensures.len);
+      space = omega (arith, inv.space, c.push_reserved.ensures.capacity);
     }
 
 pub returns-clause-grows : goal.returns-clause-grows

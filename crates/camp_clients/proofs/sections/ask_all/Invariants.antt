@@ -1,4 +1,4 @@
-use Rattle.camp_clients.proofs.Words.{◌≡◌, ◌+◌, ◌≤◌, false, length, count_by, drop, take, own, Asks, Section}
+use Rattle.camp_clients.proofs.Words.{◌≡◌, ◌+◌, ◌≤◌, false, length, count_by, drop, take, own, Asks, Section, vec_capacity, vec_len}
 use Rattle.camp_clients.proofs.sections.ask_all.Given as goal
 
 abbrev pub invariant-loop-call : goal.invariant-loop-call
@@ -11,4 +11,6 @@ invariant-loop-call g l = record {
       → length (own (g.D.Desk.caller l.initial.desk).seat (g.D.Desk.seen l.desk))
       + count_by g.State.Object.object.is_writing (drop l.call-index l.calls)
       ≤ (g.D.Desk.caller l.initial.desk).per_seat;
+  so_far : vec_len l.answers ≡ l.call-index;
+  space : length l.calls ≤ vec_capacity l.answers;
 }

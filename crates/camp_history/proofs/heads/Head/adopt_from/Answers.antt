@@ -1,5 +1,6 @@
-use Rattle.camp_history.proofs.Words.{◌≡◌, All, refl, sym, ◌∙◌, subst, All-same, Shows, IsSound, IsSeatOf, GoesOn, Share, SeesMore, entries_of}
-use Rattle.camp_history.proofs.Versioned.{adopting_more, adopting_of}
+use Rattle.camp_history.proofs.Words.{◌≡◌, All, refl, sym, ◌∙◌, ap, subst, All-same, Shows, GetsOn, GoesOn, Share, Adopts}
+use Rattle.camp_history.proofs.Seeing.{gets_on_self}
+use Rattle.camp_history.proofs.Versioned.{adopts_more, seat_adopted}
 use Rattle.camp_history.proofs.heads.Head.adopt_from.Goals as goal
 
 pub goes_on-requires-clause-version : goal.goes_on-requires-clause-version
@@ -10,24 +11,25 @@ pub goes_on-requires-clause-from : goal.goes_on-requires-clause-from
 goes_on-requires-clause-from g c =
     subst (λ marks. Share c.walk.new.self.marks marks c.shared-from.result) (sym c.in_ok-version.ensures) c.shared-from.ensures
 
-pub returns-clause-of : goal.returns-clause-of
-returns-clause-of g c =
-    let head = c.args.self.now in
-    let other = c.args.other.now in
-    let old = c.goes_on.new.seat in
-    let version = c.in_ok-version.version in
-    let stored : All (λ mark. Shows head.store mark.call) version = All-same (λ mark. Shows head.store mark.call) version other.marks c.in_ok-version.ensures c.requires.other.stored in
-    let same : old ≡ c.args.seat.now = c.goes_on.ensures.same ∙ c.walk.ensures.same in
-    adopting_of head old c.adopt.new.self version c.adopt.result (subst (IsSeatOf head) (sym same) c.requires.of) stored c.adopt.ensures.ok c.adopt.ensures.err
+pub returns-in_err-trail : goal.returns-in_err-trail
+returns-in_err-trail g c = record { gets_on = subst (GetsOn c.args.self.now c.args.seat.now) (sym c.walk.ensures.same) (gets_on_self c.args.self.now c.args.seat.now c.requires.of) }
 
-pub returns-clause-more : goal.returns-clause-more
-returns-clause-more g c =
-    let old = c.goes_on.new.seat in
+pub returns-in_err-version : goal.returns-in_err-version
+returns-in_err-version g c = record { gets_on = subst (GetsOn c.args.self.now c.args.seat.now) (sym c.walk.ensures.same) (gets_on_self c.args.self.now c.args.seat.now c.requires.of) }
+
+pub returns : goal.returns
+returns g c =
+    let head = c.args.self.now in
+    let old = c.args.seat.now in
     let new = c.adopt.new.self in
     let version = c.in_ok-version.version in
-    let same : old ≡ c.args.seat.now = c.goes_on.ensures.same ∙ c.walk.ensures.same in
-    let goes : GoesOn old version = subst (λ seat. GoesOn seat version) (sym c.goes_on.ensures.same) (c.if-not-goes_on.ensures.goes_on refl) in
-    let places : entries_of old ≡ old.known.seen = subst (λ seat. entries_of seat ≡ seat.known.seen) (sym same) c.is_whole.ensures.places in
-    let sound : IsSound old.known = subst (λ seat. IsSound seat.known) (sym same) c.is_whole.ensures.sound in
-    let more : SeesMore old new = adopting_more old new version c.adopt.result places sound goes c.adopt.ensures.ok c.adopt.ensures.err in
-    subst (λ seat. SeesMore seat new) same more
+    let same : c.goes_on.new.seat ≡ old = c.goes_on.ensures.same ∙ c.walk.ensures.same in
+    let goes : GoesOn old version = subst (λ seat. GoesOn seat version) c.walk.ensures.same (c.if-not-goes_on.ensures.goes_on refl) in
+    let took : Adopts old version new = subst (λ seat. Adopts seat version new) same c.adopt.ensures.adopts in
+    let stored : All (λ mark. Shows head.store mark.call) version = All-same (λ mark. Shows head.store mark.call) version c.args.other.now.marks c.in_ok-version.ensures c.requires.other.stored in
+    let on : GetsOn head old new = record {
+      of = seat_adopted head old new version c.requires.of stored took;
+      more = adopts_more old new version c.is_whole.ensures.places c.is_whole.ensures.sound goes took;
+      ahead = ap (λ known. known.ahead) took.known;
+    } in
+    record { gets_on = on }

@@ -1,12 +1,10 @@
-use Rattle.camp_history.proofs.Words.{◌≡◌, Leads, IsSeatOf, SeesMore}
+use Rattle.camp_history.proofs.Words.{GetsOn, Leads}
 use Rattle.camp_history.proofs.heads.Head.adopt_longest.Given as goal
 
 abbrev pub invariant-loop-origin : goal.invariant-loop-origin
 invariant-loop-origin g l = record {
-  of : IsSeatOf l.self l.seat;
+  gets_on : GetsOn l.self l.fn.seat l.seat;
   leads : Leads l.seat.known l.seat.known.seen l.trail;
-  more : SeesMore l.fn.seat l.seat;
-  ahead : l.seat.known.ahead ≡ l.fn.seat.known.ahead;
 }
 
 abbrev pub decreases-loop-origin : goal.decreases-loop-origin

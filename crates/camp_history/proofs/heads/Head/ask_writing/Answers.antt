@@ -25,15 +25,15 @@ loop-lost-preserved g c =
     let past = c.loop-lost.invariant in
     let one : LosesOne object head old c.args.call.now.value lost = rw c.in-Ok-None.field-0-is at c.in-Ok-None.ensures.attempts in
     let follows = c.in_ok-follow-in-Ok-None.ensures in
-    let more : SeesMore start new = sees_more_more past.more (sees_more_more (finds_sees one.finds) follows.more) in
+    let more : SeesMore start new = sees_more_more past.more (sees_more_more (finds_sees one.finds) follows.gets_on.more) in
     let mine : own old.known.number (history_of old) ≡ own start.known.number (history_of start) =
     ap (λ number. own number (history_of old)) past.more.number ∙ past.more.own_stays
     in
     record {
-      of = follows.of;
+      of = follows.gets_on.of;
       more = more;
       legal = follows.legal;
-      loses = loses_again object head c.args.call.now.value c.loop-lost.lost start old lost new past.loses one follows.more (follows.whole ∙ follows.ahead);
+      loses = loses_again object head c.args.call.now.value c.loop-lost.lost start old lost new past.loses one follows.gets_on.more (follows.whole ∙ follows.gets_on.ahead);
       room = λ _. rw (← mine) one.has_room;
     }
 

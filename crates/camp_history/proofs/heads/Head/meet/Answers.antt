@@ -13,13 +13,13 @@ returns-in-Ok-clause-meets g c =
     let follows = c.in-Ok.ensures in
     let compared = c.compare.ensures in
     let places = c.is_whole-2.ensures.places in
-    met_seats a b met a' b' finds.self_finds finds.self_marks finds.other_finds finds.other_marks follows.more compared.a_shorter compared.b_shorter (Ok tt)
-    (all_of_b a b met a' b' finds.self_finds finds.self_marks finds.other_finds finds.other_marks follows.more compared.a_shorter compared.b_shorter places finds.one_chain follows.ahead follows.whole)
-    (just_those_of_b a b met a' b' finds.self_finds finds.self_marks finds.other_finds finds.other_marks follows.more compared.a_shorter compared.b_shorter places finds.one_chain follows.ahead follows.whole)
+    met_seats a b met a' b' finds.self_finds finds.self_marks finds.other_finds finds.other_marks follows.gets_on.more compared.a_shorter compared.b_shorter (Ok tt)
+    (all_of_b a b met a' b' finds.self_finds finds.self_marks finds.other_finds finds.other_marks follows.gets_on.more compared.a_shorter compared.b_shorter places finds.one_chain follows.gets_on.ahead follows.whole)
+    (just_those_of_b a b met a' b' finds.self_finds finds.self_marks finds.other_finds finds.other_marks follows.gets_on.more compared.a_shorter compared.b_shorter places finds.one_chain follows.gets_on.ahead follows.whole)
     tt
 
 pub returns-in-Err-clause-meets : goal.returns-in-Err-clause-meets
 returns-in-Err-clause-meets g c =
     let finds = c.meet-b.ensures in
     let compared = c.compare.ensures in
-    met_seats c.args.a c.args.b c.meet-b.new.self c.follow_other-answer.new.seat c.meet-b.result finds.self_finds finds.self_marks finds.other_finds finds.other_marks c.in-Err.ensures.more compared.a_shorter compared.b_shorter (Err Memory) tt tt refl
+    met_seats c.args.a c.args.b c.meet-b.new.self c.follow_other-answer.new.seat c.meet-b.result finds.self_finds finds.self_marks finds.other_finds finds.other_marks c.in-Err.ensures.gets_on.more compared.a_shorter compared.b_shorter (Err Memory) tt tt refl

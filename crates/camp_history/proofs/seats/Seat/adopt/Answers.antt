@@ -5,8 +5,8 @@ use Rattle.camp_history.proofs.seats.Seat.adopt.Given.{Over}
 use Rattle.camp_history.proofs.seats.Seat.adopt.Goals.{After-len-3}
 use Rattle.camp_history.proofs.seats.Seat.adopt.Goals as goal
 
-goes : (g : Over) (c : After-len-3 g) → GoesOn (seated c.self.inside) c.args.version.now
-goes g c = subst (λ seat. GoesOn seat c.args.version.now) (sym c.self.view_is) c.requires.goes_on
+goes : (g : Over) (c : After-len-3 g) → GoesOn (seated c.self.inside) c.args.version
+goes g c = subst (λ seat. GoesOn seat c.args.version) (sym c.self.view_is) c.requires.goes_on
 
 -- how many calls the seat has seen
 seen : (g : Over) (c : After-len-3 g) → c.len-2.result + c.len-3.result ≡ length (marks_in c.self.inside)
@@ -15,49 +15,49 @@ seen g c =
     let tail : c.len-3.result ≡ length c.self.inside.tail.items = c.len-3.ensures ∙ c.self.inside.tail.ok.0 in
     omega (arith, earlier, tail, length-append c.self.inside.earlier c.self.inside.tail.items)
 
-count : (g : Over) (c : After-len-3 g) → c.len.result - (c.len-2.result + c.len-3.result) ≡ length (news (seated c.self.inside) c.args.version.now)
+count : (g : Over) (c : After-len-3 g) → c.len.result - (c.len-2.result + c.len-3.result) ≡ length (news (seated c.self.inside) c.args.version)
 count g c =
-    let long : c.len.result ≡ length c.args.version.now = c.len.ensures in
-    omega (arith, long, seen g c, news_length (seated c.self.inside) c.args.version.now (goes g c))
+    let long : c.len.result ≡ length c.args.version = c.len.ensures in
+    omega (arith, long, seen g c, news_length (seated c.self.inside) c.args.version (goes g c))
 
 pub overflow_sub-count : goal.overflow_sub-count
 overflow_sub-count g c =
     let here = (goal.at.overflow_sub-count g c).After-len-3 in
-    let long : c.len.result ≡ length c.args.version.now = c.len.ensures in
-    omega (arith, long, seen g here, begins_within (marks_in c.self.inside) c.args.version.now (goes g here).begins)
+    let long : c.len.result ≡ length c.args.version = c.len.ensures in
+    omega (arith, long, seen g here, begins_within (marks_in c.self.inside) c.args.version (goes g here).begins)
 
 pub advance_by-requires-clause-count : goal.advance_by-requires-clause-count
 advance_by-requires-clause-count g c =
     let here = (goal.at.advance_by-requires-clause-count g c).After-len-3 in
     let seat = seated c.self.inside in
     let leads : Leads seat.known seat.known.seen c.args.trail.now = subst (λ seat. Leads seat.known seat.known.seen c.args.trail.now) (sym c.self.view_is) c.requires.leads in
-    let more = news seat c.args.version.now in
+    let more = news seat c.args.version in
     omega (arith, count g here, news_within seat.known c.args.trail.now (map entry_of more) leads (goes g here).ahead, length-map more entry_of)
 
 pub invariant_of-self : goal.invariant_of-self
 invariant_of-self g c =
     let here = (goal.at.invariant_of-self g c).After-len-3 in
     let seat = seated c.self.inside in
-    let version = c.args.version.now in
-    let is : version ≡ c.earlier.inside.earlier ++ c.earlier.inside.tail.items = sym (c.earlier.view_is ∙ c.in_ok-earlier.ensures) in
+    let version = c.args.version in
+    let is : version ≡ c.version.inside.earlier ++ c.version.inside.tail.items = sym c.version.view_is in
     let known = c.advance_by.new.pass in
     let number = c.len.result - (c.len-2.result + c.len-3.result) in
     record {
       places = subst (λ marks. map entry_of marks ≡ known.seen) is (adopted_places seat version (goes g here) known number (count g here) c.advance_by.ensures.seen c.self.invariant.places);
       below = subst (λ marks. All (λ mark. mark.seat < known.row.seats) marks) is (adopted_below seat version (goes g here) known number (count g here) c.advance_by.ensures.seen c.self.invariant.below);
-      replays = c.earlier.invariant.1;
+      replays = c.version.invariant.1;
       begins = subst (λ marks. All (λ base. Begins base.marks marks) (bases_in c.self.inside.bases.items)) is (bases_begin seat.marks version (bases_in c.self.inside.bases.items) (goes g here).begins c.self.invariant.begins);
-      few = c.earlier.invariant.0;
+      few = c.version.invariant.0;
     }
 
-pub returns-clause-ok : goal.returns-clause-ok
-returns-clause-ok g c =
-    let here = (goal.at.returns-clause-ok g c).After-len-3 in
+pub returns-clause-adopts : goal.returns-clause-adopts
+returns-clause-adopts g c =
+    let here = (goal.at.returns-clause-adopts g c).After-len-3 in
     let seat = seated c.self.inside in
-    let version = c.args.version.now in
+    let version = c.args.version in
     let now : Seated g.row.State-Call.Denot =
-    record { known = c.advance_by.new.pass; marks = c.earlier.inside.earlier ++ c.earlier.inside.tail.items; bases = bases_in c.self.inside.bases.items } in
+    record { known = c.advance_by.new.pass; marks = c.version.inside.earlier ++ c.version.inside.tail.items; bases = bases_in c.self.inside.bases.items } in
     let number = c.len.result - (c.len-2.result + c.len-3.result) in
     let adopts : Adopts seat version now =
-    record { marks = c.earlier.view_is ∙ c.in_ok-earlier.ensures; bases = refl; known = adopted_known seat version (goes g here) c.advance_by.new.pass number (count g here) c.advance_by.ensures.seen } in
+    record { marks = c.version.view_is; bases = refl; known = adopted_known seat version (goes g here) c.advance_by.new.pass number (count g here) c.advance_by.ensures.seen } in
     subst (λ seat. Adopts seat version now) c.self.view_is adopts

@@ -1,14 +1,15 @@
-use Rattle.camp_history.proofs.Words.{◌≡◌, ◌∷◌, [], ◌++◌, ◌∙◌, sym, ap, map, All-rest, All-same, Shows, Mark, asked, append_assoc}
+use Rattle.camp_history.proofs.Words.{◌≡◌, ◌∷◌, [], ◌++◌, ◌∙◌, sym, ap, map, length, length-map, arith, All-rest, All-same, Shows, Mark, asked, append_assoc}
 use Rattle.camp_history.proofs.Versioned.{left_first}
-use Rattle.camp_history.proofs.heads.Head.history.Goals as goal
+use Rattle.camp_history.proofs.heads.Head.copies.Goals as goal
 
 pub loop-mark-init : goal.loop-mark-init
 loop-mark-init g c =
     let marks = c.args.seat.now.marks in
     let whole : c.marks_from-marks.result ≡ marks = c.marks_from-marks.ensures in
     record {
-      so_far = ap (λ items. items ++ map asked c.marks_from-marks.result) c.new-history.ensures.items ∙ ap (map asked) whole;
+      so_far = ap (λ items. items ++ map asked c.marks_from-marks.result) c.in_ok-history.ensures.items ∙ ap (map asked) whole;
       stored = All-same (λ mark. Shows c.args.self.now.store mark.call) c.marks_from-marks.result marks whole c.requires.stored;
+      room = omega (arith, ap length whole, length-map c.args.seat.now.marks asked, c.in_ok-history.ensures.len, c.in_ok-history.ensures.capacity, c.position.ensures.exact);
     }
 
 pub value-requires : goal.value-requires
@@ -25,7 +26,7 @@ loop-mark-preserved g c =
     let items = c.loop-mark.history.items in
     let first : c.loop-mark.marks ≡ mark ∷ left = c.in-Some.ensures in
     let call : c.in_ok-call.call ≡ mark.call.value = c.in_ok-call.ensures ∙ c.value.ensures in
-    let pushed : c.push.new.self.items ≡ items ++ asked mark ∷ [] = c.in_ok-push.ensures.items ∙ ap (λ call. items ++ (mark.seat, call) ∷ []) call in
+    let pushed : c.push_reserved.new.self.items ≡ items ++ asked mark ∷ [] = c.push_reserved.ensures.items ∙ ap (λ call. items ++ (mark.seat, call) ∷ []) call in
     record {
       so_far =
           ap (λ list. list ++ map asked left) pushed
@@ -33,4 +34,5 @@ loop-mark-preserved g c =
           ∙ ap (λ list. items ++ map asked list) (sym first)
           ∙ past.so_far;
       stored = All-rest (λ mark. Shows c.args.self.now.store mark.call) mark left c.loop-mark.marks first past.stored;
+      room = omega (arith, ap length first, past.room, c.push_reserved.ensures.len, c.push_reserved.ensures.capacity);
     }

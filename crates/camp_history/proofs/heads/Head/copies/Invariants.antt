@@ -1,10 +1,11 @@
-use Rattle.camp_history.proofs.Words.{◌≡◌, ◌++◌, length, map, All, Shows, asked}
-use Rattle.camp_history.proofs.heads.Head.history.Given as goal
+use Rattle.camp_history.proofs.Words.{◌≡◌, ◌++◌, ◌+◌, ◌≤◌, length, map, All, Shows, asked, vec_capacity, vec_len}
+use Rattle.camp_history.proofs.heads.Head.copies.Given as goal
 
 abbrev pub invariant-loop-mark : goal.invariant-loop-mark
 invariant-loop-mark g l = record {
   so_far : l.history.items ++ map asked l.marks ≡ map asked l.seat.marks;
   stored : All (λ mark. Shows l.self.store mark.call) l.marks;
+  room : length l.marks + vec_len l.history ≤ vec_capacity l.history;
 }
 
 abbrev pub decreases-loop-mark : goal.decreases-loop-mark
