@@ -3,7 +3,6 @@ use crate::entries::entry_len;
 use crate::plays::{Stage, is_play};
 use crate::tables::{Table, split_call};
 use crate::values::calls;
-use crate::values::calls::CallLine;
 use crate::wants::{Wants, allocate};
 use bstr::ByteSlice;
 use camp_notation::NotationError;
@@ -101,10 +100,7 @@ fn play<R: Threads + Wait + Sync>(
 /// The result of a line, where it is a call.
 fn answer(table: &mut Table, line: &[u8], wants: &mut Wants) -> Answer {
     match split_call(line) {
-        Some((name, text)) => {
-            let call = CallLine { table, name, text };
-            Ok(Some(wants.again(|| calls::answer(call))?))
-        }
+        Some((name, text)) => Ok(Some(wants.again(|| calls::answer(table, name, text))?)),
         None => {
             wants.again(|| table.learn(line))?;
             Ok(None)

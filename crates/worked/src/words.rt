@@ -17,5 +17,18 @@ pub(crate) fn str_of(word: &[u8]) -> &str {
 
 /// The number that a word tells.
 pub(crate) fn number_of(word: &[u8]) -> Option<u32> {
-    str::from_utf8(word).ok()?.parse::<u32>().ok()
+    match str::from_utf8(word) {
+        Ok(digits) => digits.parse::<u32>().ok(),
+        Err(_) => None,
+    }
+}
+
+/// What a word stands for, where it is one of these.
+pub(crate) fn meaning_of<T: Copy>(words: &[(&str, T)], word: &[u8]) -> Option<T> {
+    for (known, meaning) in words {
+        if known.as_bytes() == word {
+            return Some(*meaning);
+        }
+    }
+    None
 }
