@@ -1,5 +1,7 @@
 //! Tables: the words of a line.
 use bstr::ByteSlice;
+use std::alloc::{AllocError, Global};
+use std::fmt::Display;
 use std::str;
 
 /// The first word of a line, and what stands behind it.
@@ -8,11 +10,6 @@ pub(crate) fn split_word(line: &[u8]) -> (&[u8], &[u8]) {
         Some((word, rest)) => (word, rest),
         None => (line, b""),
     }
-}
-
-/// A word as text; one that is none stands for no word.
-pub(crate) fn str_of(word: &[u8]) -> &str {
-    str::from_utf8(word).unwrap_or("")
 }
 
 /// The number that a word tells.
@@ -31,4 +28,19 @@ pub(crate) fn meaning_of<T: Copy>(words: &[(&str, T)], word: &[u8]) -> Option<T>
         }
     }
     None
+}
+
+/// The words that a value is shown in.
+pub(crate) fn words_of<T: Display>(alloc: Global, value: &T) -> Result<String, AllocError> {
+    format!(in alloc; "{value}")
+}
+
+/// Lines as one text.
+pub(crate) fn joined(alloc: Global, lines: &[&[u8]]) -> Result<Vec<u8>, AllocError> {
+    let mut text = Vec::new(alloc);
+    for line in lines {
+        text.extend_from_slice(line)?;
+        text.push(b'\n')?;
+    }
+    Ok(text)
 }

@@ -1,7 +1,8 @@
 //! Values: the calls on names, paths and lines, and the words of faults.
 use crate::tables::Table;
 use crate::values::calls::Call;
-use crate::values::results::{Outcome, told, words_of};
+use crate::values::results::{Outcome, told};
+use crate::words::words_of;
 use camp_base::{Apply, BaseFault, Line, Name, Path};
 use camp_clients::LockFault;
 use camp_head::HeadFault;

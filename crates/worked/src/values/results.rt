@@ -1,6 +1,7 @@
 //! Values: how results are shown, and read back.
 use crate::tables::Table;
 use crate::values::numbers::{Numbers, numbers_text};
+use crate::words::words_of;
 use camp_base::{Apply, Tree};
 use camp_catch::{Arranged, Catch};
 use camp_ctx::{Contexted, CtxSet};
@@ -11,8 +12,7 @@ use camp_notation::{
 use camp_prim::Named;
 use camp_seq::Seq;
 use camp_share::Shared;
-use std::alloc::{AllocError, Global};
-use std::fmt::Display;
+use std::alloc::AllocError;
 
 /// The result of a call, or in which words it is refused.
 pub(crate) type Outcome = Result<String, NotationError>;
@@ -182,11 +182,6 @@ pub(crate) fn told(text: Result<String, AllocError>) -> Outcome {
         Ok(text) => Ok(text),
         Err(_) => Err(NotationError::Memory),
     }
-}
-
-/// The words that a value is shown in.
-pub(crate) fn words_of<T: Display>(alloc: Global, value: &T) -> Result<String, AllocError> {
-    format!(in alloc; "{value}")
 }
 
 /// The tree that a change leaves, or in which words it is refused. A change that is refused and yet
