@@ -46,6 +46,13 @@ impl<T: Drop> From<AllocFailed<T>> for PlayFault {
     }
 }
 
+/// A buffer is not made where memory is wanted.
+impl From<io::Error> for PlayFault {
+    fn from(_error: io::Error) -> PlayFault {
+        PlayFault::Memory
+    }
+}
+
 impl From<Fault> for PlayFault {
     fn from(fault: Fault) -> PlayFault {
         match fault {

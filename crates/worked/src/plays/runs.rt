@@ -10,7 +10,7 @@ use crate::words::{joined, meaning_of, split_word};
 use bstr::ByteSlice;
 use camp_run::{run_book, run_head, run_locked};
 use std::alloc::{AllocError, Global};
-use std::io::BufReader;
+use std::io::{BufReader, Read, Write};
 use std::sync::Wait;
 use std::thread::Threads;
 
@@ -155,25 +155,7 @@ impl Run {
         writer: &mut Writer,
     ) -> Result<(), PlayFault> {
         let mut reader = Reader::new(&self.commands, self.manner.sizes);
-        let history = matches!(self.manner.told, Told::Answers);
-        match self.manner.means {
-            Means::Book => ran(run_book(alloc, &mut reader, writer, history)),
-            Means::Locked => ran(run_locked(rt, alloc, &mut reader, writer, history)),
-            Means::Head(tries) => {
-                if tries == 0 || tries > 1_000 {
-                    return Err(PlayFault::Wrong("1 to 1000 tries"));
-                }
-                ran(run_head(rt, alloc, &mut reader, writer, history, tries, &self.delays))
-            }
-            Means::Talk => match BufReader::new(alloc, &mut reader) {
-                Ok(reader) => hold(alloc, reader, writer),
-                Err(_) => Err(PlayFault::Memory),
-            },
-            Means::Frames => match BufReader::new(alloc, &mut reader) {
-                Ok(reader) => hold_framed(alloc, reader, writer),
-                Err(_) => Err(PlayFault::Memory),
-            },
-        }
+        answer(rt, alloc, self.manner, &self.delays, &mut reader, writer)
     }
 
     /// Appends what is told of a run that has ended so. One that wants memory, as its writer may, is played again.
@@ -204,6 +186,29 @@ impl Run {
             Ok(()) if !self.delays.are_kept() => Err(PlayFault::Wrong("a seat gave up")),
             ended => ended,
         }
+    }
+}
+
+fn answer<T: Threads + Wait + Sync, R: Read, W: Write>(
+    rt: &T,
+    alloc: Global,
+    manner: Manner,
+    delays: &Delays,
+    reader: &mut R,
+    writer: &mut W,
+) -> Result<(), PlayFault> {
+    let history = matches!(manner.told, Told::Answers);
+    match manner.means {
+        Means::Book => ran(run_book(alloc, reader, writer, history)),
+        Means::Locked => ran(run_locked(rt, alloc, reader, writer, history)),
+        Means::Head(tries) => {
+            if tries == 0 || tries > 1_000 {
+                return Err(PlayFault::Wrong("1 to 1000 tries"));
+            }
+            ran(run_head(rt, alloc, reader, writer, history, tries, delays))
+        }
+        Means::Talk => hold(alloc, BufReader::new(alloc, reader)?, writer),
+        Means::Frames => hold_framed(alloc, BufReader::new(alloc, reader)?, writer),
     }
 }
 
