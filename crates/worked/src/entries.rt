@@ -1,7 +1,48 @@
-//! Tables: how many lines an entry has.
+//! Tables: what an entry asks for, and how many lines it has.
 ghost use Rattle.std.specs.Prelude.{◌≤◌, ◌<◌, length};
 
+use crate::words::{meaning_of, split_word};
 use bstr::ByteSlice;
+
+/// What an entry asks of a book, of a head or of a run.
+#[derive(Clone, Copy)]
+pub(crate) enum Play {
+    Adopted,
+    Book,
+    Command,
+    Ends,
+    HandOn,
+    Head,
+    History,
+    Meet,
+    NoMerge,
+    Run,
+    Seen,
+}
+
+/// The words that such an entry begins with. A command begins with the number of a seat, too.
+const PLAYS: &[(&str, Play)] = &[
+    ("adopted", Play::Adopted),
+    ("book", Play::Book),
+    ("ends", Play::Ends),
+    ("hand-on", Play::HandOn),
+    ("head", Play::Head),
+    ("history", Play::History),
+    ("meet", Play::Meet),
+    ("no-merge", Play::NoMerge),
+    ("repeat", Play::Command),
+    ("run", Play::Run),
+    ("seen", Play::Seen),
+];
+
+/// What a line asks for that is none of a table of values.
+pub(crate) fn play_of(line: &[u8]) -> Option<Play> {
+    if matches!(line.first(), Some(b'0'..=b'9')) {
+        return Some(Play::Command);
+    }
+    let (word, _) = split_word(line);
+    meaning_of(PLAYS, word)
+}
 
 /// How many lines the first entry of a table has. A run and a conversation go on up to an empty line, a command
 /// with a body up to its end; any other entry is one line.
@@ -11,29 +52,12 @@ pub(crate) fn entry_len(lines: &[&[u8]]) -> usize
     ensures within { result ≤ length lines.now }
 {
     let first = lines[0];
-    if is_run(first) {
-        return len_before(lines, b"");
+    match play_of(first) {
+        Some(Play::Run | Play::Ends) => len_before(lines, b""),
+        Some(Play::Command) if first.ends_with(b" group") => len_up_to(lines, b"done"),
+        Some(Play::Command) if first.contains_str(b" edit ") => len_up_to(lines, b"end"),
+        _ => 1,
     }
-    if !is_command(first) {
-        return 1;
-    }
-    if first.ends_with(b" group") {
-        len_up_to(lines, b"done")
-    } else if first.contains_str(b" edit ") {
-        len_up_to(lines, b"end")
-    } else {
-        1
-    }
-}
-
-/// Whether a line begins a run or a conversation.
-pub(crate) fn is_run(line: &[u8]) -> bool {
-    line.starts_with(b"run ") || line.starts_with(b"ends ")
-}
-
-/// Whether a line begins a command: with the number of a seat, or with the word that repeats it.
-pub(crate) fn is_command(line: &[u8]) -> bool {
-    line.starts_with(b"repeat ") || matches!(line.first(), Some(b'0'..=b'9'))
 }
 
 fn len_before(lines: &[&[u8]], end: &[u8]) -> usize

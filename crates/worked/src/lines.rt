@@ -1,10 +1,12 @@
 //! Tables: each entry with its result below it.
-use crate::entries::entry_len;
-use crate::plays::{Stage, is_play};
+use crate::entries::{entry_len, play_of};
+use crate::plays::asking::Asked;
+use crate::plays::{Entry, Stage};
 use crate::tables::{Table, split_call};
 use crate::values::calls;
-use crate::values::calls::CallLine;
+use crate::values::results::Outcome;
 use crate::wants::{Wants, allocate};
+use crate::words::{joined, words_of};
 use bstr::ByteSlice;
 use camp_notation::NotationError;
 use camp_script::write_text;
@@ -66,7 +68,7 @@ fn print_entries<R: Threads + Wait + Sync, W: Write>(
         }
         let rest = &lines[at..];
         let length = entry_len(rest);
-        let text = play(rt, table, stage, &rest[..length], wants)?;
+        let text = entry_text(rt, table, stage, &rest[..length], wants)?;
         write_text(out, &text)?;
         at += length;
     }
@@ -81,52 +83,66 @@ fn lines_of(alloc: Global, input: &[u8]) -> Result<Vec<&[u8]>, AllocError> {
     Ok(lines)
 }
 
-/// The lines of an entry, and behind them what comes of it.
-fn play<R: Threads + Wait + Sync>(
+/// The lines of an entry, and behind them what comes of it. It is done again where it wanted memory, but for
+/// what was asked of a book or of a head by then.
+fn entry_text<R: Threads + Wait + Sync>(
     rt: &R,
     table: &mut Table,
     stage: &mut Stage,
     entry: &[&[u8]],
     wants: &mut Wants,
 ) -> Result<Vec<u8>, AllocError> {
-    match entry {
-        [line] if !is_play(line) => {
-            let answer = answer(table, line, wants);
-            wants.again(|| text_of(table.alloc(), line, &answer))
+    let mut asked = Asked::nothing();
+    match try_entry(rt, table, stage, entry, &mut asked) {
+        Ok(text) => Ok(text),
+        Err(_) => {
+            wants.note();
+            try_entry(rt, table, stage, entry, &mut asked)
         }
-        _ => stage.play(rt, table.alloc(), entry, wants),
     }
 }
 
-/// The result of a line, where it is a call.
-fn answer(table: &mut Table, line: &[u8], wants: &mut Wants) -> Answer {
+fn try_entry<R: Threads + Wait + Sync>(
+    rt: &R,
+    table: &mut Table,
+    stage: &mut Stage,
+    entry: &[&[u8]],
+    asked: &mut Asked,
+) -> Result<Vec<u8>, AllocError> {
+    let mut text = joined(table.alloc(), entry)?;
+    let done = match entry {
+        [first, body @ ..] => match play_of(first) {
+            Some(play) => stage.append(rt, Entry { play, first, body }, asked, &mut text),
+            None => append_line(table, first, &mut text),
+        },
+        [] => Ok(()),
+    };
+    match done {
+        Ok(()) => Ok(text),
+        Err(why) => Err(why),
+    }
+}
+
+/// Keeps what a line tells, or appends the result of the call that it is.
+fn append_line(table: &mut Table, line: &[u8], text: &mut Vec<u8>) -> Result<(), AllocError> {
     match split_call(line) {
-        Some((name, text)) => {
-            let call = CallLine { table, name, text };
-            Ok(Some(wants.again(|| calls::answer(call))?))
-        }
-        None => {
-            wants.again(|| table.learn(line))?;
-            Ok(None)
-        }
+        Some((name, arguments)) => append_outcome(calls::answer(table, name, arguments), text),
+        None => match table.learn(line) {
+            Ok(()) => Ok(()),
+            Err(why) => append_outcome(Err(why), text),
+        },
     }
 }
 
-/// A result of a call, or in which words the line is refused.
-type Answer = Result<Option<String>, NotationError>;
-
-fn text_of(alloc: Global, line: &[u8], answer: &Answer) -> Result<Vec<u8>, AllocError> {
-    let mut text = Vec::from_slice(alloc, line)?;
-    text.push(b'\n')?;
-    match answer {
-        Ok(Some(words)) => append_result(&mut text, words)?,
-        Ok(None) => {}
-        Err(fault) => append_result(&mut text, &format!(in alloc; "{fault}")?)?,
+fn append_outcome(outcome: Outcome, text: &mut Vec<u8>) -> Result<(), AllocError> {
+    match outcome {
+        Ok(words) => append_result(&words, text),
+        Err(NotationError::Memory) => Err(AllocError),
+        Err(why) => append_result(&words_of(*text.allocator(), &why)?, text),
     }
-    Ok(text)
 }
 
-fn append_result(text: &mut Vec<u8>, words: &str) -> Result<(), AllocError> {
+fn append_result(words: &str, text: &mut Vec<u8>) -> Result<(), AllocError> {
     text.extend_from_slice(b"= ")?;
     text.extend_from_slice(words.as_bytes())?;
     text.push(b'\n')?;

@@ -1,23 +1,24 @@
 //! Books and heads: what an entry that is no call asks, of a book, a head or a run.
 
+pub(crate) mod asking;
 pub(crate) mod commands;
 pub(crate) mod ends;
 pub(crate) mod faults;
 pub(crate) mod gates;
 pub(crate) mod runs;
 pub(crate) mod seatings;
+pub(crate) mod talks;
 
-use crate::entries::{is_command, is_run};
-use crate::plays::commands::{Command, NO_COMMAND, command_of, names_of, number, read_numbers};
-use crate::plays::ends::play_ends;
-use crate::plays::faults::PlayFault;
-use crate::plays::runs::{joined, run, run_of};
+use crate::entries::Play;
+use crate::plays::asking::{Asked, append_answer};
+use crate::plays::commands::{command_of, names_of, read_numbers};
+use crate::plays::faults::{NO_COMMAND, NO_LINE, PlayFault};
+use crate::plays::runs::append_run;
 use crate::plays::seatings::Seating;
-use crate::wants::Wants;
-use crate::words::{split_word, str_of};
+use crate::words::split_word;
 use camp_head::HeadFault;
 use camp_repo::{Book, Call, Fault, Refusal, Reply, State};
-use camp_script::{answer_text, history_text};
+use camp_script::history_text;
 use std::alloc::{AllocError, Global};
 use std::sync::Wait;
 use std::thread::Threads;
@@ -29,22 +30,16 @@ pub(crate) enum Stage {
     Head(Seating),
 }
 
+/// An entry that is none of a table of values: its first line, and those below it.
+#[derive(Clone, Copy)]
+pub(crate) struct Entry<'a> {
+    pub(crate) play: Play,
+    pub(crate) first: &'a [u8],
+    pub(crate) body: &'a [&'a [u8]],
+}
+
 /// What is answered to a call.
 pub(crate) type Answer = Result<Reply, Fault>;
-
-/// Whether an entry is none of a table of values: it begins with one of these words, or is a run
-/// or a command.
-pub(crate) fn is_play(line: &[u8]) -> bool {
-    let (word, _) = split_word(line);
-    is_word(word) || is_run(line) || is_command(line)
-}
-
-fn is_word(word: &[u8]) -> bool {
-    matches!(
-        str_of(word),
-        "book" | "head" | "history" | "meet" | "seen" | "adopted" | "hand-on" | "no-merge"
-    )
-}
 
 impl Stage {
     /// A new book.
@@ -52,89 +47,40 @@ impl Stage {
         Ok(Stage::Book(Book::new(alloc)?))
     }
 
-    /// The lines of an entry, and behind them what is answered.
-    pub(crate) fn play<R: Threads + Wait + Sync>(
+    /// Appends what is answered to an entry, or why it has no answer.
+    pub(crate) fn append<R: Threads + Wait + Sync>(
         &mut self,
         rt: &R,
-        alloc: Global,
-        entry: &[&[u8]],
-        wants: &mut Wants,
-    ) -> Result<Vec<u8>, AllocError> {
-        let mut text = wants.again(|| joined(alloc, entry))?;
-        match self.answer(rt, alloc, entry, wants) {
-            Ok(told) => wants.again(|| text.extend_from_slice(&told))?,
-            Err(fault) => append_fault(alloc, &mut text, fault)?,
-        }
-        Ok(text)
-    }
-
-    /// What is answered to an entry. All but a command is done again, as a whole, where it wanted memory.
-    fn answer<R: Threads + Wait + Sync>(
-        &mut self,
-        rt: &R,
-        alloc: Global,
-        entry: &[&[u8]],
-        wants: &mut Wants,
-    ) -> Result<Vec<u8>, PlayFault> {
-        let Some((first, rest)) = entry.split_first() else {
-            return Ok(Vec::new(alloc));
+        entry: Entry<'_>,
+        asked: &mut Asked,
+        text: &mut Vec<u8>,
+    ) -> Result<(), AllocError> {
+        let done = match entry.play {
+            Play::Command => self.append_asked(rt, entry, asked, text),
+            Play::Run | Play::Ends => append_run(rt, entry, text),
+            play => self.append_line(play, entry.first, text),
         };
-        if is_command(first) {
-            return self.ask(rt, alloc, entry, wants);
-        }
-        wants.again(|| self.do_entry(rt, alloc, first, rest))
+        append_fault(done, text)
     }
 
-    /// Does what an entry says that is no command.
-    fn do_entry<R: Threads + Wait + Sync>(
+    /// Asks a command, each of its times, and appends what the last of them is answered.
+    fn append_asked<R: Wait>(
         &mut self,
         rt: &R,
-        alloc: Global,
-        first: &[u8],
-        rest: &[&[u8]],
-    ) -> Result<Vec<u8>, PlayFault> {
-        if let Some(how) = run_of(first) {
-            return run(rt, alloc, how, rest);
+        entry: Entry<'_>,
+        asked: &mut Asked,
+        text: &mut Vec<u8>,
+    ) -> Result<(), PlayFault> {
+        let command = command_of(entry.first, entry.body)?;
+        for time in asked.count()..command.count {
+            let call = command.call(*text.allocator(), time.saturating_add(1))?;
+            asked.note(self.ask(rt, command.seat, &call)?);
         }
-        match first.strip_prefix(b"ends ") {
-            Some(words) => play_ends(rt, alloc, words, rest),
-            None => self.do_line(alloc, first),
-        }
-    }
-
-    /// Asks a command, each of its times. What the last of them is answered.
-    fn ask<R: Wait>(
-        &mut self,
-        rt: &R,
-        alloc: Global,
-        entry: &[&[u8]],
-        wants: &mut Wants,
-    ) -> Result<Vec<u8>, PlayFault> {
-        let command = command_of(entry)?;
-        let mut last = Vec::new(alloc);
-        for time in 1..=command.count {
-            let answer = self.ask_once(rt, alloc, command, time, wants)?;
-            if time == command.count {
-                last = wants.again(|| told(alloc, &answer))?;
-            }
-        }
-        Ok(last)
-    }
-
-    fn ask_once<R: Wait>(
-        &mut self,
-        rt: &R,
-        alloc: Global,
-        command: Command<'_>,
-        time: u32,
-        wants: &mut Wants,
-    ) -> Result<Answer, PlayFault> {
-        let call = wants.again(|| command.call(alloc, time))?;
-        wants.again(|| self.ask_call(rt, command.seat, &call))
+        asked.append_last(text)
     }
 
     /// Asks a call. Want of memory is no answer: the call is then asked again.
-    fn ask_call<R: Wait>(&mut self, rt: &R, seat: u32, call: &Call) -> Result<Answer, PlayFault> {
+    fn ask<R: Wait>(&mut self, rt: &R, seat: u32, call: &Call) -> Result<Answer, PlayFault> {
         let answer = match self {
             Stage::Book(book) => Ok(book.ask(seat, call)),
             Stage::Head(seating) => seating.ask(rt, seat, call),
@@ -146,100 +92,96 @@ impl Stage {
     }
 
     /// Does what a line says that begins neither a command nor a run.
-    fn do_line(&mut self, alloc: Global, line: &[u8]) -> Result<Vec<u8>, PlayFault> {
-        let (word, rest) = split_word(line);
-        match str_of(word) {
-            "book" => self.begin(alloc),
-            "head" => self.open(alloc, rest),
-            "history" => self.history(alloc, rest),
-            "meet" => self.meet(alloc, rest),
-            "seen" => self.seen(alloc, rest),
-            "adopted" => self.adopted(alloc, rest),
-            "hand-on" => self.hand_on(alloc, rest),
-            "no-merge" => no_merge(alloc, rest),
-            _ => Err(NO_LINE),
+    fn append_line(
+        &mut self,
+        play: Play,
+        line: &[u8],
+        text: &mut Vec<u8>,
+    ) -> Result<(), PlayFault> {
+        let (_, words) = split_word(line);
+        match play {
+            Play::Book => self.begin(*text.allocator()),
+            Play::Head => self.open(words, text),
+            Play::NoMerge => append_no_merge(words, text),
+            play => self.append_told(play, words, text),
         }
     }
 
-    fn begin(&mut self, alloc: Global) -> Result<Vec<u8>, PlayFault> {
+    fn begin(&mut self, alloc: Global) -> Result<(), PlayFault> {
         *self = Stage::new(alloc)?;
-        Ok(Vec::new(alloc))
+        Ok(())
     }
 
-    fn open(&mut self, alloc: Global, sizes: &[u8]) -> Result<Vec<u8>, PlayFault> {
-        match Seating::new(alloc, sizes_of(sizes)?) {
+    /// A head of some sizes, and 0 in place of one that is missing.
+    fn open(&mut self, words: &[u8], text: &mut Vec<u8>) -> Result<(), PlayFault> {
+        let mut sizes = [0; 4];
+        read_numbers(words, &mut sizes)?;
+        match Seating::new(*text.allocator(), sizes) {
             Ok(seating) => {
                 *self = Stage::Head(seating);
-                Ok(Vec::new(alloc))
+                Ok(())
             }
-            Err(HeadFault::BadSize) => Ok(Vec::from_slice(alloc, b"bad size\n")?),
+            Err(HeadFault::BadSize) => Ok(text.extend_from_slice(b"bad size\n")?),
             Err(HeadFault::Memory) => Err(PlayFault::Memory),
         }
     }
 
-    fn history(&self, alloc: Global, seat: &[u8]) -> Result<Vec<u8>, PlayFault> {
+    /// What a book has accepted, or what seats tell.
+    fn append_told(
+        &mut self,
+        play: Play,
+        words: &[u8],
+        text: &mut Vec<u8>,
+    ) -> Result<(), PlayFault> {
         match self {
-            Stage::Book(book) => Ok(history_text(alloc, book.history())?),
-            Stage::Head(seating) => Ok(history_text(alloc, &seating.history(number(seat)?)?)?),
-        }
-    }
-
-    fn meet(&mut self, alloc: Global, seats: &[u8]) -> Result<Vec<u8>, PlayFault> {
-        let Stage::Head(seating) = self else {
-            return Err(NO_LINE);
-        };
-        let (first, second) = split_word(seats);
-        seating.meet(number(first)?, number(second)?)?;
-        Ok(Vec::from_slice(alloc, b"met\n")?)
-    }
-
-    fn seen(&self, alloc: Global, seat: &[u8]) -> Result<Vec<u8>, PlayFault> {
-        self.seating()?.seen_text(alloc, number(seat)?)
-    }
-
-    fn adopted(&self, alloc: Global, seat: &[u8]) -> Result<Vec<u8>, PlayFault> {
-        self.seating()?.adopted_text(alloc, number(seat)?)
-    }
-
-    fn hand_on(&self, alloc: Global, seat: &[u8]) -> Result<Vec<u8>, PlayFault> {
-        self.seating()?.hand_on(number(seat)?)?;
-        Ok(Vec::new(alloc))
-    }
-
-    fn seating(&self) -> Result<&Seating, PlayFault> {
-        match self {
-            Stage::Head(seating) => Ok(seating),
+            Stage::Book(book) if matches!(play, Play::History) => {
+                append_bytes(history_text(*text.allocator(), book.history()), text)
+            }
             Stage::Book(_) => Err(NO_LINE),
+            Stage::Head(seating) => seating.append_told(play, words, text),
         }
     }
 }
 
-const NO_LINE: PlayFault = PlayFault::Wrong("no such line");
-
-/// The sizes of a head, and 0 in place of one that is missing.
-fn sizes_of(words: &[u8]) -> Result<[u32; 4], PlayFault> {
-    let mut sizes = [0; 4];
-    read_numbers(words, &mut sizes)?;
-    Ok(sizes)
-}
-
-/// The text of the refusal of a pull whose branches don't merge: no script is known that is told it.
-fn no_merge(alloc: Global, names: &[u8]) -> Result<Vec<u8>, PlayFault> {
-    let Some((left, right)) = names_of(names) else {
+/// Appends the text of the refusal of a pull whose branches don't merge: no script is known that is told it.
+fn append_no_merge(words: &[u8], text: &mut Vec<u8>) -> Result<(), PlayFault> {
+    let Some((left, right)) = names_of(words) else {
         return Err(NO_COMMAND);
     };
-    told(alloc, &Ok(Reply::Refused(Refusal::NoMerge { left, right })))
+    append_answer(&Ok(Reply::Refused(Refusal::NoMerge { left, right })), text)
 }
 
-/// The text of what is answered, if it is not want of memory.
-fn told(alloc: Global, answer: &Answer) -> Result<Vec<u8>, PlayFault> {
-    if let Err(Fault::Memory) = answer {
-        return Err(PlayFault::Memory);
+/// Appends bytes that are made, unless memory is wanted.
+pub(crate) fn append_bytes(
+    made: Result<Vec<u8>, AllocError>,
+    text: &mut Vec<u8>,
+) -> Result<(), PlayFault> {
+    match made {
+        Ok(bytes) => Ok(text.extend_from_slice(&bytes)?),
+        Err(_) => Err(PlayFault::Memory),
     }
-    Ok(answer_text(alloc, answer)?)
 }
 
-fn append_fault(alloc: Global, text: &mut Vec<u8>, fault: PlayFault) -> Result<(), AllocError> {
-    let words = format!(in alloc; "fault: {fault}\n")?;
-    text.extend_from_slice(words.as_bytes())
+/// Appends words that are made, unless memory is wanted.
+pub(crate) fn append_words(
+    made: Result<String, AllocError>,
+    text: &mut Vec<u8>,
+) -> Result<(), PlayFault> {
+    match made {
+        Ok(words) => Ok(text.extend_from_slice(words.as_bytes())?),
+        Err(_) => Err(PlayFault::Memory),
+    }
+}
+
+fn append_fault(done: Result<(), PlayFault>, text: &mut Vec<u8>) -> Result<(), AllocError> {
+    match done {
+        Ok(()) => Ok(()),
+        Err(PlayFault::Memory) => Err(AllocError),
+        Err(fault) => {
+            let words = fault.words(*text.allocator())?;
+            text.extend_from_slice(b"fault: ")?;
+            text.extend_from_slice(words.as_bytes())?;
+            text.extend_from_slice(b"\n")
+        }
+    }
 }

@@ -1,5 +1,4 @@
 //! Tables: what the lines of a table have told so far.
-use crate::words::str_of;
 use bstr::ByteSlice;
 use camp_notation::{NotationError, read_list, read_named, read_tree};
 use camp_prim::Named;
@@ -23,13 +22,13 @@ struct Binding {
 }
 
 /// The name of the call that a line is, and the text of its arguments.
-pub(crate) fn split_call(line: &[u8]) -> Option<(&str, &[u8])> {
+pub(crate) fn split_call(line: &[u8]) -> Option<(&[u8], &[u8])> {
     if line.starts_with(b"#") {
         return None;
     }
     match line.split_once_str(b"(") {
         Some((name, rest)) if !name.contains(&b' ') => {
-            Some((str_of(name), rest.strip_suffix(b")").unwrap_or(rest)))
+            Some((name, rest.strip_suffix(b")").unwrap_or(rest)))
         }
         _ => None,
     }

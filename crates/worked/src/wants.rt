@@ -1,7 +1,5 @@
 //! Refused memory: which lines wanted it, and which allocation is refused.
-use crate::plays::faults::PlayFault;
 use crate::words::number_of;
-use camp_notation::NotationError;
 use std::alloc::{AllocError, Global};
 use std::env::{Env, FillError};
 use std::io;
@@ -23,23 +21,6 @@ impl Wants {
         self.count = self.count.saturating_add(1);
     }
 
-    /// What is made, or why it is not. It is made again where it wanted memory.
-    pub(crate) fn again<T: Drop, E: MayBeMemory, F: FnMut() -> Result<T, E>>(
-        &mut self,
-        mut make: F,
-    ) -> Result<T, E>
-        requires { F.IsAlwaysCallable make }
-    {
-        match make() {
-            Ok(made) => Ok(made),
-            Err(why) if why.is_memory() => {
-                self.note();
-                make()
-            }
-            Err(why) => Err(why),
-        }
-    }
-
     /// The exit status that tells of them.
     pub(crate) fn status(self) -> u8 {
         match self.count {
@@ -47,29 +28,6 @@ impl Wants {
             1 => 3,
             _ => 5,
         }
-    }
-}
-
-/// Why something is not made, which may be want of memory.
-pub(crate) trait MayBeMemory: Drop {
-    fn is_memory(&self) -> bool;
-}
-
-impl MayBeMemory for AllocError {
-    fn is_memory(&self) -> bool {
-        true
-    }
-}
-
-impl MayBeMemory for NotationError {
-    fn is_memory(&self) -> bool {
-        matches!(self, NotationError::Memory)
-    }
-}
-
-impl MayBeMemory for PlayFault {
-    fn is_memory(&self) -> bool {
-        matches!(self, PlayFault::Memory)
     }
 }
 

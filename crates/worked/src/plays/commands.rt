@@ -1,10 +1,11 @@
 //! Books and heads: a command of a table, with its seat and how often it is asked.
-use crate::plays::faults::PlayFault;
+use crate::plays::faults::{NO_COMMAND, PlayFault};
 use crate::words::{number_of, split_word};
 use bstr::ByteSlice;
 use camp_base::Name;
 use camp_call::{Call, Names};
-use camp_script::{Script, read_script};
+use camp_run::RunFault;
+use camp_script::{Script, ScriptFault, read_script};
 use std::alloc::{AllocError, Global};
 
 /// A command that is asked at a seat, so many times, and the lines that it is made of.
@@ -17,14 +18,11 @@ pub(crate) struct Command<'a> {
 }
 
 /// The command of an entry: `SEAT COMMAND`, or `repeat COUNT SEAT COMMAND`.
-pub(crate) fn command_of<'a>(entry: &'a [&'a [u8]]) -> Result<Command<'a>, PlayFault> {
-    let Some((first, body)) = entry.split_first() else {
-        return Err(NO_COMMAND);
-    };
-    let (count, first) = match first.strip_prefix(b"repeat ") {
-        Some(rest) => number_before(rest)?,
-        None => (1, *first),
-    };
+pub(crate) fn command_of<'a>(
+    first: &'a [u8],
+    body: &'a [&'a [u8]],
+) -> Result<Command<'a>, PlayFault> {
+    let (count, first) = count_before(first)?;
     let (seat, first) = number_before(first)?;
     Ok(Command {
         seat,
@@ -34,7 +32,13 @@ pub(crate) fn command_of<'a>(entry: &'a [&'a [u8]]) -> Result<Command<'a>, PlayF
     })
 }
 
-pub(crate) const NO_COMMAND: PlayFault = PlayFault::Wrong("no command");
+/// How often a line is repeated, and the line.
+fn count_before(line: &[u8]) -> Result<(u32, &[u8]), PlayFault> {
+    match line.strip_prefix(b"repeat ") {
+        Some(rest) => number_before(rest),
+        None => Ok((1, line)),
+    }
+}
 
 /// The number that a line begins with, and what stands behind it.
 fn number_before(line: &[u8]) -> Result<(u32, &[u8]), PlayFault> {
@@ -73,7 +77,8 @@ impl<'a> Command<'a> {
         let text = self.text(alloc, time)?;
         match read_script(alloc, &text) {
             Ok(script) => only_call(script),
-            Err(fault) => Err(PlayFault::from(fault)),
+            Err(ScriptFault::Line(fault)) => Err(PlayFault::Run(RunFault::Script(fault))),
+            Err(ScriptFault::Memory) => Err(PlayFault::Memory),
         }
     }
 
@@ -101,10 +106,7 @@ fn append_first(text: &mut Vec<u8>, line: &[u8], time: u32) -> Result<(), AllocE
 
 /// A line of a body, or `repeat COUNT LINE`, which stands for so many.
 fn append_line(text: &mut Vec<u8>, line: &[u8]) -> Result<(), PlayFault> {
-    let (count, line) = match line.strip_prefix(b"repeat ") {
-        Some(rest) => number_before(rest)?,
-        None => (1, line),
-    };
+    let (count, line) = count_before(line)?;
     for _ in 0..count {
         text.extend_from_slice(line)?;
         text.push(b'\n')?;

@@ -1,26 +1,37 @@
-//! Books and heads: why a command has no answer.
+//! Books and heads: why an entry has no answer.
+use crate::words::words_of;
 use camp_object::Fault;
 use camp_run::RunFault;
-use camp_script::ScriptFault;
 use camp_talk::{FrameFault, TalkFault};
-use std::alloc::{AllocError, AllocFailed};
+use std::alloc::{AllocError, AllocFailed, Global};
 use std::io;
-use thiserror::Error;
 
-/// Why a command has no answer.
-#[derive(Clone, Copy, Debug, Error)]
+/// Why an entry has no answer.
+#[derive(Clone, Copy)]
 pub(crate) enum PlayFault {
-    #[error("out of memory")]
     Memory,
-    /// A script was not run, or not answered.
-    #[error("{0}")]
+    /// A script was not read, or not run.
     Run(RunFault),
     /// A conversation ended with an error of its reader or writer.
-    #[error("{0}: {1}")]
     Talk(TalkFault, io::Error),
     /// Something is not as it has to be.
-    #[error("{0}")]
     Wrong(&'static str),
+}
+
+pub(crate) const NO_LINE: PlayFault = PlayFault::Wrong("no such line");
+
+pub(crate) const NO_COMMAND: PlayFault = PlayFault::Wrong("no command");
+
+impl PlayFault {
+    /// In which words it is told.
+    pub(crate) fn words(self, alloc: Global) -> Result<String, AllocError> {
+        match self {
+            PlayFault::Memory => words_of(alloc, &RunFault::Memory),
+            PlayFault::Run(fault) => words_of(alloc, &fault),
+            PlayFault::Talk(fault, error) => format!(in alloc; "{fault}: {error}"),
+            PlayFault::Wrong(words) => String::from_str(alloc, words),
+        }
+    }
 }
 
 impl From<AllocError> for PlayFault {
@@ -42,48 +53,45 @@ impl From<io::Error> for PlayFault {
     }
 }
 
-impl From<ScriptFault> for PlayFault {
-    fn from(fault: ScriptFault) -> PlayFault {
-        match fault {
-            ScriptFault::Line(fault) => PlayFault::Run(RunFault::Script(fault)),
-            ScriptFault::Memory => PlayFault::Memory,
-        }
-    }
-}
-
-impl From<RunFault> for PlayFault {
-    fn from(fault: RunFault) -> PlayFault {
-        match fault {
-            RunFault::Memory => PlayFault::Memory,
-            fault => PlayFault::Run(fault),
-        }
-    }
-}
-
-impl From<TalkFault> for PlayFault {
-    fn from(fault: TalkFault) -> PlayFault {
-        match fault {
-            TalkFault::Memory => PlayFault::Memory,
-            TalkFault::Read(error) | TalkFault::Write(error) => PlayFault::Talk(fault, error),
-            TalkFault::Internal => PlayFault::Wrong("internal fault"),
-        }
-    }
-}
-
-impl From<FrameFault> for PlayFault {
-    fn from(fault: FrameFault) -> PlayFault {
-        match fault {
-            FrameFault::Talk(fault) => PlayFault::from(fault),
-            _ => PlayFault::Wrong("no frames"),
-        }
-    }
-}
-
 impl From<Fault> for PlayFault {
     fn from(fault: Fault) -> PlayFault {
         match fault {
             Fault::Memory => PlayFault::Memory,
             _ => PlayFault::Wrong("busy or full"),
         }
+    }
+}
+
+/// How a run has ended.
+pub(crate) fn ran(ended: Result<(), RunFault>) -> Result<(), PlayFault> {
+    match ended {
+        Ok(()) => Ok(()),
+        Err(RunFault::Memory) => Err(PlayFault::Memory),
+        Err(fault) => Err(PlayFault::Run(fault)),
+    }
+}
+
+/// How a conversation has ended.
+pub(crate) fn talked(ended: Result<(), TalkFault>) -> Result<(), PlayFault> {
+    match ended {
+        Ok(()) => Ok(()),
+        Err(fault) => Err(of_talk(fault)),
+    }
+}
+
+/// How a conversation in frames has ended.
+pub(crate) fn talked_in_frames(ended: Result<(), FrameFault>) -> Result<(), PlayFault> {
+    match ended {
+        Ok(()) => Ok(()),
+        Err(FrameFault::Talk(fault)) => Err(of_talk(fault)),
+        Err(_) => Err(PlayFault::Wrong("no frames")),
+    }
+}
+
+fn of_talk(fault: TalkFault) -> PlayFault {
+    match fault {
+        TalkFault::Memory => PlayFault::Memory,
+        TalkFault::Read(error) | TalkFault::Write(error) => PlayFault::Talk(fault, error),
+        TalkFault::Internal => PlayFault::Wrong("internal fault"),
     }
 }

@@ -1,7 +1,7 @@
 //! Books and heads: gates at which the seats of a run wait for each other.
 use crate::plays::commands::number;
 use crate::plays::faults::PlayFault;
-use crate::words::{split_word, str_of};
+use crate::words::{meaning_of, split_word};
 use bstr::ByteSlice;
 use camp_run::Gate;
 use std::alloc::Global;
@@ -11,7 +11,7 @@ use std::thread;
 /// How often a seat looks before it gives up.
 const MOST_LOOKS: u32 = 100_000_000;
 
-#[derive(Clone, Copy, PartialEq, Eq)]
+#[derive(Clone, Copy, PartialEq)]
 enum Kind {
     Before,
     Exchange,
@@ -21,7 +21,7 @@ enum Kind {
 
 /// What a gate is told: of a call by its number, of an exchange by how many its call has lost, of the end of a
 /// section by 0.
-#[derive(Clone, Copy, PartialEq, Eq)]
+#[derive(Clone, Copy, PartialEq)]
 struct Moment {
     kind: Kind,
     seat: u32,
@@ -153,11 +153,12 @@ fn moment_of(words: &[u8]) -> Result<Moment, PlayFault> {
 }
 
 fn kind_of(word: &[u8]) -> Result<Kind, PlayFault> {
-    match str_of(word) {
-        "before" => Ok(Kind::Before),
-        "exchange" => Ok(Kind::Exchange),
-        "after" => Ok(Kind::After),
-        "end" => Ok(Kind::End),
-        _ => Err(NO_DELAY),
-    }
+    meaning_of(KINDS, word).ok_or(NO_DELAY)
 }
+
+const KINDS: &[(&str, Kind)] = &[
+    ("before", Kind::Before),
+    ("exchange", Kind::Exchange),
+    ("after", Kind::After),
+    ("end", Kind::End),
+];

@@ -1,148 +1,259 @@
-//! Books and heads: scripts that are run in one thread, over a lock or over a head.
-use crate::plays::faults::PlayFault;
+//! Books and heads: scripts that are run, in one thread, over a lock or over a head, and conversations.
+use crate::entries::Play;
+use crate::plays::commands::{number, read_numbers};
+use crate::plays::ends::{Reader, Sizes, Writer};
+use crate::plays::faults::{NO_COMMAND, NO_LINE, PlayFault, ran};
 use crate::plays::gates::Delays;
-use crate::words::{number_of, str_of};
+use crate::plays::talks::{hold, hold_framed};
+use crate::plays::{Entry, append_words};
+use crate::words::{joined, meaning_of, split_word};
 use bstr::ByteSlice;
-use camp_run::{RunFault, run_book, run_head, run_locked};
+use camp_run::{run_book, run_head, run_locked};
 use std::alloc::{AllocError, Global};
-use std::io::{Read, Write};
+use std::io::{BufReader, Read, Write};
 use std::sync::Wait;
 use std::thread::Threads;
 
-/// How a script is run, and whether its answers are counted.
+/// How commands are answered: they are a script that is run, or those of a conversation.
 #[derive(Clone, Copy)]
-pub(crate) struct Manner {
-    way: Way,
-    is_counted: bool,
-}
-
-#[derive(Clone, Copy)]
-pub(crate) enum Way {
+enum Means {
     /// In one thread.
     Book,
     /// In threads over a lock.
     Locked,
     /// In threads over a head, where a call is given up after so many lost exchanges.
     Head(u32),
+    /// Line by line.
+    Talk,
+    /// Request by request.
+    Frames,
 }
 
-/// The run that a line tells.
-pub(crate) fn run_of(line: &[u8]) -> Option<Manner> {
-    let line = line.strip_prefix(b"run ")?;
-    match line.strip_suffix(b" counts") {
-        Some(line) => Some(Manner {
-            way: way_of(line)?,
-            is_counted: true,
-        }),
-        None => Some(Manner {
-            way: way_of(line)?,
-            is_counted: false,
-        }),
-    }
+const MEANS: &[(&str, Means)] = &[
+    ("book", Means::Book),
+    ("locked", Means::Locked),
+    ("head", Means::Head(100)),
+    ("talk", Means::Talk),
+    ("frames", Means::Frames),
+];
+
+/// What is told of a run.
+#[derive(Clone, Copy)]
+enum Told {
+    /// What it writes, with its history.
+    Answers,
+    /// How its calls were answered.
+    Counts,
+    /// What stands there behind its reader and its writer, which may fail.
+    Ends,
 }
 
-pub(crate) fn way_of(words: &[u8]) -> Option<Way> {
-    match str_of(words) {
-        "book" => Some(Way::Book),
-        "locked" => Some(Way::Locked),
-        "head" => Some(Way::Head(100)),
-        _ => Some(Way::Head(number_of(words.strip_prefix(b"head ")?)?)),
-    }
+#[derive(Clone, Copy)]
+struct Manner {
+    means: Means,
+    told: Told,
+    sizes: Sizes,
 }
 
-/// What the script of these lines writes, behind those that say where its seats wait for each other.
-pub(crate) fn run<R: Threads + Wait + Sync>(
+/// A reader and a writer that never fail.
+const ENDLESS: Sizes = Sizes {
+    reads: u32::MAX,
+    read_size: u32::MAX,
+    writes: u32::MAX,
+    write_size: u32::MAX,
+    times: 0,
+};
+
+/// A script or commands of a conversation, and where the seats of a run wait for each other.
+#[derive(Drop)]
+struct Run {
+    manner: Manner,
+    delays: Delays,
+    commands: Vec<u8>,
+}
+
+/// Runs the script, or answers the conversation, of the lines of an entry, and appends what is told of it.
+pub(crate) fn append_run<R: Threads + Wait + Sync>(
     rt: &R,
-    alloc: Global,
-    how: Manner,
-    lines: &[&[u8]],
-) -> Result<Vec<u8>, PlayFault> {
+    entry: Entry<'_>,
+    text: &mut Vec<u8>,
+) -> Result<(), PlayFault> {
+    let run = run_of(*text.allocator(), entry)?;
+    let mut writer = run.writer(*text.allocator());
+    let ended = run.play(rt, *text.allocator(), &mut writer);
+    run.append_told(ended, &writer, text)
+}
+
+fn run_of(alloc: Global, entry: Entry<'_>) -> Result<Run, PlayFault> {
+    let manner = manner_of(entry)?;
     let mut delays = Delays::new(alloc);
-    let lines = delays.read(lines)?;
-    let script = joined(alloc, lines)?;
-    let written = output_of(rt, alloc, how, &script, &delays)?;
-    if !delays.are_kept() {
-        return Err(PlayFault::Wrong("a seat gave up"));
-    }
-    if how.is_counted {
-        Ok(counts_of(alloc, &written)?)
-    } else {
-        Ok(written)
-    }
-}
-
-/// What a script writes, with its history where its answers are not counted: it has the order of the threads. A
-/// run that wants memory, as its writer may, has written nothing.
-fn output_of<R: Threads + Wait + Sync>(
-    rt: &R,
-    alloc: Global,
-    how: Manner,
-    script: &[u8],
-    delays: &Delays,
-) -> Result<Vec<u8>, PlayFault> {
-    let mut reader = script;
-    let mut written = Vec::new(alloc);
-    match run_way(
-        rt,
-        alloc,
-        how.way,
-        !how.is_counted,
+    let lines = delays.read(entry.body)?;
+    let commands = joined(alloc, lines)?;
+    Ok(Run {
+        manner,
         delays,
-        &mut reader,
-        &mut written,
-    ) {
-        Ok(()) => Ok(written),
-        Err(PlayFault::Memory | PlayFault::Run(RunFault::Write)) if written.is_empty() => {
-            Err(PlayFault::Memory)
-        }
-        Err(PlayFault::Memory) => Err(PlayFault::Wrong("out of memory, and a text")),
-        Err(fault) => Err(fault),
+        commands,
+    })
+}
+
+/// The run that a line tells, as `run head 3 counts`, or `ends talk: 9 1 9 1 0`.
+fn manner_of(entry: Entry<'_>) -> Result<Manner, PlayFault> {
+    let (_, words) = split_word(entry.first);
+    if matches!(entry.play, Play::Ends) {
+        return failing(words);
+    }
+    let (words, told) = match words.strip_suffix(b" counts") {
+        Some(words) => (words, Told::Counts),
+        None => (words, Told::Answers),
+    };
+    Ok(Manner {
+        means: means_of(words)?,
+        told,
+        sizes: ENDLESS,
+    })
+}
+
+fn failing(words: &[u8]) -> Result<Manner, PlayFault> {
+    let Some((words, numbers)) = words.split_once_str(b": ") else {
+        return Err(NO_COMMAND);
+    };
+    let mut sizes = [0; 5];
+    read_numbers(numbers, &mut sizes)?;
+    let [reads, read_size, writes, write_size, times] = sizes;
+    Ok(Manner {
+        means: means_of(words)?,
+        told: Told::Ends,
+        sizes: Sizes {
+            reads,
+            read_size,
+            writes,
+            write_size,
+            times,
+        },
+    })
+}
+
+fn means_of(words: &[u8]) -> Result<Means, PlayFault> {
+    let (word, tries) = split_word(words);
+    match meaning_of(MEANS, word) {
+        Some(Means::Head(_)) if !tries.is_empty() => Ok(Means::Head(number(tries)?)),
+        Some(means) => Ok(means),
+        None => Err(NO_LINE),
     }
 }
 
-/// Runs a script one way.
-pub(crate) fn run_way<T: Threads + Wait + Sync, R: Read, W: Write>(
+impl Run {
+    fn writer(&self, alloc: Global) -> Writer {
+        let holds = matches!(self.manner.means, Means::Talk | Means::Frames);
+        Writer::new(alloc, self.manner.sizes, holds)
+    }
+
+    fn play<R: Threads + Wait + Sync>(
+        &self,
+        rt: &R,
+        alloc: Global,
+        writer: &mut Writer,
+    ) -> Result<(), PlayFault> {
+        let mut reader = Reader::new(&self.commands, self.manner.sizes);
+        answer(rt, alloc, self.manner, &self.delays, &mut reader, writer)
+    }
+
+    /// Appends what is told of a run that has ended so. One that wants memory, as its writer may, is played again.
+    fn append_told(
+        &self,
+        ended: Result<(), PlayFault>,
+        writer: &Writer,
+        text: &mut Vec<u8>,
+    ) -> Result<(), PlayFault> {
+        if writer.wants_memory() {
+            return Err(PlayFault::Memory);
+        }
+        match self.manner.told {
+            Told::Ends => append_ends(ended, writer.written(), text),
+            told => {
+                self.is_well(ended, writer.written())?;
+                append_written(told, writer.written(), text)
+            }
+        }
+    }
+
+    /// A run that wants memory has written nothing.
+    fn is_well(&self, ended: Result<(), PlayFault>, written: &[u8]) -> Result<(), PlayFault> {
+        match ended {
+            Err(PlayFault::Memory) if !written.is_empty() => {
+                Err(PlayFault::Wrong("out of memory, and a text"))
+            }
+            Ok(()) if !self.delays.are_kept() => Err(PlayFault::Wrong("a seat gave up")),
+            ended => ended,
+        }
+    }
+}
+
+fn answer<T: Threads + Wait + Sync, R: Read, W: Write>(
     rt: &T,
     alloc: Global,
-    way: Way,
-    history: bool,
+    manner: Manner,
     delays: &Delays,
     reader: &mut R,
     writer: &mut W,
 ) -> Result<(), PlayFault> {
-    let ended = match way {
-        Way::Book => run_book(alloc, reader, writer, history),
-        Way::Locked => run_locked(rt, alloc, reader, writer, history),
-        Way::Head(tries) => {
+    let history = matches!(manner.told, Told::Answers);
+    match manner.means {
+        Means::Book => ran(run_book(alloc, reader, writer, history)),
+        Means::Locked => ran(run_locked(rt, alloc, reader, writer, history)),
+        Means::Head(tries) => {
             if tries == 0 || tries > 1_000 {
                 return Err(PlayFault::Wrong("1 to 1000 tries"));
             }
-            run_head(rt, alloc, reader, writer, history, tries, delays)
+            ran(run_head(rt, alloc, reader, writer, history, tries, delays))
         }
-    };
-    Ok(ended?)
+        Means::Talk => hold(alloc, BufReader::new(alloc, reader)?, writer),
+        Means::Frames => hold_framed(alloc, BufReader::new(alloc, reader)?, writer),
+    }
+}
+
+/// What stands there; or how the run failed, and how many bytes stand there.
+fn append_ends(
+    ended: Result<(), PlayFault>,
+    written: &[u8],
+    text: &mut Vec<u8>,
+) -> Result<(), PlayFault> {
+    match ended {
+        Ok(()) => Ok(text.extend_from_slice(written)?),
+        Err(PlayFault::Memory) => Err(PlayFault::Memory),
+        Err(fault) => {
+            let count = written.len();
+            let words = fault.words(*text.allocator())?;
+            append_words(
+                format!(in *text.allocator(); "{words} behind {count} bytes\n"),
+                text,
+            )
+        }
+    }
+}
+
+fn append_written(told: Told, written: &[u8], text: &mut Vec<u8>) -> Result<(), PlayFault> {
+    match told {
+        Told::Counts => append_words(counts_text(*text.allocator(), written), text),
+        _ => Ok(text.extend_from_slice(written)?),
+    }
 }
 
 /// How many calls were accepted, refused and busy.
-fn counts_of(alloc: Global, answers: &[u8]) -> Result<Vec<u8>, AllocError> {
+fn counts_text(alloc: Global, answers: &[u8]) -> Result<String, AllocError> {
     let accepted = count(answers, b"ok ");
     let refused = count(answers, b"refused ");
     let busy = count(answers, b"busy ");
-    let text = format!(in alloc; "accepted {accepted} refused {refused} busy {busy}\n")?;
-    Ok(text.into_bytes())
+    format!(in alloc; "accepted {accepted} refused {refused} busy {busy}\n")
 }
 
 /// How many lines begin so.
-fn count(text: &[u8], front: &[u8]) -> usize {
-    text.lines().filter(|line| line.starts_with(front)).count()
-}
-
-/// Lines as one text.
-pub(crate) fn joined(alloc: Global, lines: &[&[u8]]) -> Result<Vec<u8>, AllocError> {
-    let mut text = Vec::new(alloc);
-    for line in lines {
-        text.extend_from_slice(line)?;
-        text.push(b'\n')?;
+fn count(text: &[u8], front: &[u8]) -> u32 {
+    let mut count = 0_u32;
+    for line in text.lines() {
+        if line.starts_with(front) {
+            count = count.saturating_add(1);
+        }
     }
-    Ok(text)
+    count
 }

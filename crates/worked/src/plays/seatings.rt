@@ -2,10 +2,13 @@
 ghost use Rattle.std.specs.Prelude.{◌<◌, All, IfOk, IfSome, length};
 ghost use Rattle.camp_history.specs.Seats.{IsSeatOf};
 
-use crate::plays::Answer;
+use crate::entries::Play;
+use crate::plays::commands::read_numbers;
 use crate::plays::faults::PlayFault;
+use crate::plays::{Answer, append_bytes, append_words};
 use camp_head::{Head, HeadFault, Seat};
 use camp_repo::Call;
+use camp_script::history_text;
 use std::alloc::Global;
 use std::sync::Wait;
 
@@ -28,29 +31,51 @@ impl Seating {
         Ok(Seating { head, seats })
     }
 
-    /// Tells how many calls a seat has seen, and how many of its own were accepted.
-    pub(crate) fn seen_text(&self, alloc: Global, number: u32) -> Result<Vec<u8>, PlayFault> {
-        let seat = self.seat(number)?;
-        let (position, accepted) = (seat.position(), seat.accepted());
-        let text = format!(in alloc; "position {position} accepted {accepted}\n")?;
-        Ok(text.into_bytes())
+    /// Does what a line says of one seat or two, and appends what is told.
+    pub(crate) fn append_told(
+        &mut self,
+        play: Play,
+        words: &[u8],
+        text: &mut Vec<u8>,
+    ) -> Result<(), PlayFault> {
+        let mut seats = [u32::MAX; 2];
+        read_numbers(words, &mut seats)?;
+        match play {
+            Play::Meet => self.append_met(seats[0], seats[1], text),
+            Play::History => self.append_history(seats[0], text),
+            Play::HandOn => self.hand_on(seats[0]),
+            Play::Adopted => self.append_adopted(seats[0], text),
+            _ => self.append_seen(seats[0], text),
+        }
     }
 
-    /// Tells how many versions a seat has adopted.
-    pub(crate) fn adopted_text(&self, alloc: Global, number: u32) -> Result<Vec<u8>, PlayFault> {
+    /// How many calls a seat has seen, and how many of its own were accepted.
+    fn append_seen(&self, number: u32, text: &mut Vec<u8>) -> Result<(), PlayFault> {
+        let seat = self.seat(number)?;
+        let (position, accepted) = (seat.position(), seat.accepted());
+        append_words(
+            format!(in *text.allocator(); "position {position} accepted {accepted}\n"),
+            text,
+        )
+    }
+
+    /// How many versions a seat has adopted.
+    fn append_adopted(&self, number: u32, text: &mut Vec<u8>) -> Result<(), PlayFault> {
         let adopted = self.seat(number)?.adopted();
-        let text = format!(in alloc; "adopted {adopted}\n")?;
-        Ok(text.into_bytes())
+        append_words(format!(in *text.allocator(); "adopted {adopted}\n"), text)
     }
 
     /// A seat hands on what it has seen.
-    pub(crate) fn hand_on(&self, number: u32) -> Result<(), PlayFault> {
+    fn hand_on(&self, number: u32) -> Result<(), PlayFault> {
         Ok(self.head.hand_on(self.seat(number)?)?)
     }
 
     /// What a seat has seen.
-    pub(crate) fn history(&self, number: u32) -> Result<Vec<(u32, Call)>, PlayFault> {
-        Ok(self.head.history(self.seat(number)?)?)
+    fn append_history(&self, number: u32, text: &mut Vec<u8>) -> Result<(), PlayFault> {
+        match self.head.history(self.seat(number)?) {
+            Ok(history) => append_bytes(history_text(*text.allocator(), &history), text),
+            Err(fault) => Err(PlayFault::from(fault)),
+        }
     }
 
     fn seat(&self, number: u32) -> Result<&Seat, PlayFault>
@@ -79,8 +104,13 @@ impl Seating {
         Ok(answer)
     }
 
+    fn append_met(&mut self, first: u32, second: u32, text: &mut Vec<u8>) -> Result<(), PlayFault> {
+        self.meet(first, second)?;
+        Ok(text.extend_from_slice(b"met\n")?)
+    }
+
     /// The first seat meets the second.
-    pub(crate) fn meet(&mut self, first: u32, second: u32) -> Result<(), PlayFault> {
+    fn meet(&mut self, first: u32, second: u32) -> Result<(), PlayFault> {
         if first == second || find(&self.seats, first).is_none() {
             return Err(NO_SEAT);
         }
@@ -96,7 +126,12 @@ impl Seating {
 fn find(seats: &[Seat], number: u32) -> Option<usize>
     ensures { IfSome result (λ at. at < length seats.now) }
 {
-    seats.iter().position(|seat| seat.number() == number)
+    for (at, seat) in seats.iter().enumerate() {
+        if seat.number() == number {
+            return Some(at);
+        }
+    }
+    None
 }
 
 fn take(head: &Head, seats: &mut Vec<Seat>, number: u32) -> Result<Seat, PlayFault>

@@ -1,93 +1,176 @@
-//! Values: the calls, looked for among those on one kind of value after the other.
+//! Values: the calls: their names, what they are asked on, and where their results come from.
 use crate::tables::Table;
-use crate::values::arguments::{Argument, Arguments, One, Three, Two};
-use crate::values::results::{Answer, Outcome, word};
+use crate::values::arguments::{Kind, Value, read_values};
+use crate::values::results::{Outcome, word};
 use crate::values::splits::split;
 use crate::values::{bases, catches, contexts, lists, primitives, shares, trees};
-use camp_notation::NotationError;
+use crate::words::meaning_of;
 
-/// A line that is a call. Its arguments may name what stands in the table.
+/// A call, by its name.
 #[derive(Clone, Copy)]
-pub(crate) struct CallLine<'a> {
-    pub(crate) table: &'a Table,
-    pub(crate) name: &'a str,
-    pub(crate) text: &'a [u8],
+pub(crate) enum Call {
+    Add,
+    AddFile,
+    AddOne,
+    AddToSet,
+    Align,
+    Apply,
+    ApplyAll,
+    Arrange,
+    CleanMerge,
+    Commute,
+    Conflict,
+    Copy,
+    Faults,
+    File,
+    Front,
+    Insert,
+    Inserted,
+    Invert,
+    InvertAll,
+    IsEmpty,
+    Line,
+    Merge,
+    MergeBehindCommon,
+    MergeLists,
+    Name,
+    Norm,
+    PassBy,
+    Past,
+    PastAll,
+    Path,
+    Pushed,
+    Read,
+    RemoveFile,
+    Replaced,
+    Shared,
+    Sole,
+    Splice,
+    Spliced,
+    Split,
+    Without,
 }
 
-/// The result of a call, which is looked for among the calls on one kind of value after the other.
-pub(crate) fn answer(line: CallLine<'_>) -> Outcome {
-    if let Some(outcome) = bases::answer(line) {
-        return outcome;
+/// The calls by their names, each with the kinds of its arguments.
+const CALLS: &[(&str, (Call, &[Kind]))] = &[
+    ("name", (Call::Name, &[Kind::Word])),
+    ("path", (Call::Path, &[Kind::Word])),
+    ("line", (Call::Line, &[Kind::Word])),
+    ("faults", (Call::Faults, &[])),
+    ("is_empty", (Call::IsEmpty, &[Kind::Tree])),
+    ("file", (Call::File, &[Kind::Tree, Kind::Path])),
+    ("copy_tree", (Call::Copy, &[Kind::Tree])),
+    ("add_file", (Call::AddFile, &[Kind::Tree, Kind::Path])),
+    ("remove_file", (Call::RemoveFile, &[Kind::Tree, Kind::Path])),
+    (
+        "splice",
+        (
+            Call::Splice,
+            &[
+                Kind::Tree,
+                Kind::Path,
+                Kind::Count,
+                Kind::Lines,
+                Kind::Lines,
+            ],
+        ),
+    ),
+    ("read", (Call::Read, &[Kind::Named])),
+    ("copy", (Call::Copy, &[Kind::Named])),
+    ("invert", (Call::Invert, &[Kind::Named])),
+    ("apply", (Call::Apply, &[Kind::Named, Kind::Tree])),
+    (
+        "commute",
+        (Call::Commute, &[Kind::NamedOrCatch, Kind::NamedOrCatch]),
+    ),
+    ("past", (Call::Past, &[Kind::Named, Kind::List])),
+    ("past_all", (Call::PastAll, &[Kind::List, Kind::List])),
+    ("front", (Call::Front, &[Kind::List, Kind::Label])),
+    ("split", (Call::Split, &[Kind::List, Kind::Labels])),
+    ("norm", (Call::Norm, &[Kind::List])),
+    ("invert_all", (Call::InvertAll, &[Kind::List])),
+    ("clean_merge", (Call::CleanMerge, &[Kind::List, Kind::List])),
+    ("apply_all", (Call::ApplyAll, &[Kind::List, Kind::Tree])),
+    ("read_contexted", (Call::Copy, &[Kind::Contexted])),
+    ("add_one", (Call::AddOne, &[Kind::Named, Kind::Contexted])),
+    ("add", (Call::Add, &[Kind::List, Kind::Contexted])),
+    ("pass_by", (Call::PassBy, &[Kind::List, Kind::Contexted])),
+    (
+        "conflict",
+        (Call::Conflict, &[Kind::Contexted, Kind::Contexted]),
+    ),
+    (
+        "merge_behind_common",
+        (Call::MergeBehindCommon, &[Kind::List, Kind::List]),
+    ),
+    ("read_set", (Call::Copy, &[Kind::Set])),
+    ("sole", (Call::Sole, &[Kind::Set])),
+    ("insert", (Call::Insert, &[Kind::Set, Kind::Contexted])),
+    ("without", (Call::Without, &[Kind::Set, Kind::Label])),
+    ("add_to_set", (Call::AddToSet, &[Kind::List, Kind::Set])),
+    ("read_catch", (Call::Copy, &[Kind::Catch])),
+    ("merge", (Call::Merge, &[Kind::Catch, Kind::Catch])),
+    ("read_catches", (Call::Read, &[Kind::Catches])),
+    ("arrange", (Call::Arrange, &[Kind::Catches, Kind::Labels])),
+    ("align", (Call::Align, &[Kind::Catches, Kind::Labels])),
+    (
+        "merge_lists",
+        (Call::MergeLists, &[Kind::Catches, Kind::Catches]),
+    ),
+    ("list_shared", (Call::Shared, &[Kind::Numbers])),
+    ("list_pushed", (Call::Pushed, &[Kind::Numbers, Kind::Count])),
+    (
+        "list_inserted",
+        (Call::Inserted, &[Kind::Numbers, Kind::Count, Kind::Count]),
+    ),
+    (
+        "list_replaced",
+        (Call::Replaced, &[Kind::Numbers, Kind::Count, Kind::Count]),
+    ),
+    (
+        "list_without",
+        (Call::Without, &[Kind::Numbers, Kind::Count]),
+    ),
+    (
+        "list_spliced",
+        (
+            Call::Spliced,
+            &[Kind::Numbers, Kind::Count, Kind::Count, Kind::Numbers],
+        ),
+    ),
+];
+
+/// The result of a call, by its name and the text of its arguments.
+pub(crate) fn answer(table: &Table, name: &[u8], text: &[u8]) -> Outcome {
+    match meaning_of(CALLS, name) {
+        Some((call, kinds)) => answer_text(table, call, kinds, text),
+        None => no_such_call(table),
     }
-    if let Some(outcome) = trees::answer(line) {
-        return outcome;
-    }
-    if let Some(outcome) = primitives::answer(line) {
-        return outcome;
-    }
-    if let Some(outcome) = lists::answer(line) {
-        return outcome;
-    }
-    if let Some(outcome) = contexts::answer(line) {
-        return outcome;
-    }
-    if let Some(outcome) = catches::answer(line) {
-        return outcome;
-    }
-    if let Some(outcome) = shares::answer(line) {
-        return outcome;
-    }
-    word(line.table, "no such call")
 }
 
-impl<'a> CallLine<'a> {
-    /// Whether the first argument is written as a catch.
-    pub(crate) fn is_of_catches(self) -> bool {
-        matches!(self.text.first(), Some(b'[' | b'('))
-    }
+fn answer_text(table: &Table, call: Call, kinds: &[Kind], text: &[u8]) -> Outcome {
+    let texts = split(table.alloc(), text)?;
+    let values = read_values(table, kinds, &texts)?;
+    answer_values(table, call, &values)
+}
 
-    /// The result of a call, whose arguments are read from the line.
-    pub(crate) fn ask<A: Arguments, F: FnOnce(&Table, &A) -> Outcome>(self, call: F) -> Outcome
-        requires { F.IsAlwaysCallable call }
-    {
-        let on = self.read::<A>()?;
-        call(self.table, &on)
+/// The result of a call, which is looked for by the kind of its first argument.
+fn answer_values(table: &Table, call: Call, values: &[Value]) -> Outcome {
+    match values {
+        [] => bases::faults(table),
+        [Value::Word(bytes)] => bases::answer(table, call, bytes),
+        [Value::Tree(tree), behind @ ..] => trees::answer(table, call, tree, behind),
+        [Value::Named(p), behind @ ..] => primitives::answer(table, call, p, behind),
+        [Value::List(list), behind @ ..] => lists::answer(table, call, list, behind),
+        [Value::Contexted(x), behind @ ..] => contexts::answer(table, call, x, behind),
+        [Value::Set(set), behind @ ..] => contexts::answer_set(table, call, set, behind),
+        [Value::Catch(j), behind @ ..] => catches::answer(table, call, j, behind),
+        [Value::Catches(list), behind @ ..] => catches::answer_list(table, call, list, behind),
+        [Value::Numbers(list), behind @ ..] => shares::answer(table, call, list, behind),
+        _ => no_such_call(table),
     }
+}
 
-    /// The result of a call with one argument.
-    pub(crate) fn one<A: Argument, R: Answer, F: FnOnce(&A) -> R>(self, call: F) -> Outcome
-        requires { F.IsAlwaysCallable call }
-    {
-        self.ask(|table: &Table, on: &One<A>| call(&on.first).outcome(table))
-    }
-
-    /// The result of a call with two arguments.
-    pub(crate) fn two<A: Argument, B: Argument, R: Answer, F: FnOnce(&A, &B) -> R>(
-        self,
-        call: F,
-    ) -> Outcome
-        requires { F.IsAlwaysCallable call }
-    {
-        self.ask(|table: &Table, on: &Two<A, B>| { call(&on.first, &on.rest.first).outcome(table) })
-    }
-
-    /// The result of a call with three arguments.
-    pub(crate) fn three<
-        A: Argument,
-        B: Argument,
-        C: Argument,
-        R: Answer,
-        F: FnOnce(&A, &B, &C) -> R,
-    >(self, call: F) -> Outcome
-        requires { F.IsAlwaysCallable call }
-    {
-        self.ask(|table: &Table, on: &Three<A, B, C>| {
-            call(&on.first, &on.rest.first, &on.rest.rest.first).outcome(table)
-        })
-    }
-
-    fn read<A: Arguments>(self) -> Result<A, NotationError> {
-        let texts = split(self.table.alloc(), self.text)?;
-        A::read(self.table, &texts)
-    }
+pub(crate) fn no_such_call(table: &Table) -> Outcome {
+    word(table, "no such call")
 }

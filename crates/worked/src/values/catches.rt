@@ -1,96 +1,100 @@
 //! Values: the calls on catches, and on lists of them.
 use crate::tables::Table;
-use crate::values::arguments::{Then, Two};
-use crate::values::calls::CallLine;
-use crate::values::results::{Answer, Outcome, Shown, joined, key_text, show};
+use crate::values::arguments::Value;
+use crate::values::calls::{Call, no_such_call};
+use crate::values::results::{Outcome, Shown, show, tell, told};
 use camp_base::Name;
-use camp_catch::{
-    Arranged, Catch, NoMerge, Stuck, Unmade, align, arrange, commute, merge, merge_lists,
-};
-use camp_notation::NotationError;
+use camp_catch::{Catch, NoMerge, Stuck, Unmade, align, arrange, commute, merge, merge_lists};
+use camp_notation::{NotationError, label_text};
 use camp_prim::{Key, Label};
 use camp_share::{Shared, SharedMap};
 use std::alloc::AllocError;
 
-/// The result of a call on catches or on lists of them.
-pub(crate) fn answer(line: CallLine<'_>) -> Option<Outcome> {
-    let outcome = match line.name {
-        "read_catch" => line.one(Catch::try_clone),
-        "commute" => line.ask(commuted),
-        "merge" => line.ask(merged),
-        "read_catches" => line.ask(read),
-        "arrange" => line.ask(arranged),
-        "align" => line.ask(aligned),
-        "merge_lists" => line.ask(lists_merged),
-        _ => return None,
-    };
-    Some(outcome)
+/// The result of a call on a catch.
+pub(crate) fn answer(table: &Table, call: Call, j: &Catch, behind: &[Value]) -> Outcome {
+    match behind {
+        [] => tell(table, j.try_clone()),
+        [Value::Catch(k)] => match call {
+            Call::Merge => tell(table, merge(table.alloc(), j, k)),
+            _ => tell(table, commute(table.alloc(), j, k)),
+        },
+        _ => no_such_call(table),
+    }
 }
 
-fn commuted(table: &Table, on: &Two<Catch, Catch>) -> Outcome {
-    commute(table.alloc(), &on.first, &on.rest.first).outcome(table)
+/// The result of a call on a list of catches.
+pub(crate) fn answer_list(
+    table: &Table,
+    call: Call,
+    list: &Vec<Shared<Catch>>,
+    behind: &[Value],
+) -> Outcome {
+    match behind {
+        [] => show(table, list),
+        [Value::Labels(labels)] => match call {
+            Call::Align => aligned(table, list, labels),
+            _ => arranged(table, list, labels),
+        },
+        [Value::Catches(other)] => tell_list(table, merge_lists(table.alloc(), list, other)),
+        _ => no_such_call(table),
+    }
 }
 
-fn merged(table: &Table, on: &Two<Catch, Catch>) -> Outcome {
-    merge(table.alloc(), &on.first, &on.rest.first).outcome(table)
+fn arranged(table: &Table, list: &[Shared<Catch>], labels: &[Label]) -> Outcome {
+    let names = names(table, labels)?;
+    tell_list(table, arrange(table.alloc(), list, &names))
 }
 
-type Catches = Vec<Shared<Catch>>;
-
-fn read(table: &Table, on: &Then<Catches, Vec<Label>>) -> Outcome {
-    on.first.shown(table)
+fn aligned(table: &Table, list: &[Shared<Catch>], labels: &[Label]) -> Outcome {
+    let order = keys(table, labels)?;
+    tell_list(table, align(table.alloc(), list, &order))
 }
 
-/// A list of catches, and the labels that stand behind it.
-fn arranged(table: &Table, on: &Then<Catches, Vec<Label>>) -> Outcome {
-    let names = names(table, &on.rest)?;
-    match arrange(table.alloc(), &on.first, &names) {
-        Ok(arranged) => arranged_text(table, &arranged),
-        Err(Unmade::Blocked(stuck)) => Ok(stuck_on(table, stuck)?),
+/// What is made of a list, or what stands in its way.
+fn tell_list<T: Shown + Drop, O: Obstacle>(table: &Table, made: Result<T, Unmade<O>>) -> Outcome {
+    match made {
+        Ok(list) => show(table, &list),
+        Err(Unmade::Blocked(obstacle)) => told(obstacle.words(table)),
         Err(Unmade::Memory) => Err(NotationError::Memory),
     }
 }
 
-fn arranged_text(table: &Table, arranged: &Arranged) -> Outcome {
-    let first = arranged.first.shown(table)?;
-    match arranged.rest.shown(table) {
-        Ok(rest) => joined(first, &rest),
-        Err(why) => Err(why),
+/// What stands in the way of a list.
+trait Obstacle: Copy {
+    fn words(self, table: &Table) -> Result<String, AllocError>;
+}
+
+impl Obstacle for Stuck {
+    fn words(self, table: &Table) -> Result<String, AllocError> {
+        words_of_keys(table, &[("stuck ", self.patch), (" on ", self.on)])
     }
 }
 
-fn stuck_on(table: &Table, stuck: Stuck) -> Result<String, AllocError> {
-    let patch = key_text(table, stuck.patch)?;
-    let on = key_text(table, stuck.on)?;
-    format!(in table.alloc(); "stuck {patch} on {on}")
-}
-
-fn aligned(table: &Table, on: &Then<Catches, Vec<Label>>) -> Outcome {
-    let order = keys(table, &on.rest)?;
-    match align(table.alloc(), &on.first, &order) {
-        Ok(aligned) => show(table, &aligned),
-        Err(Unmade::Blocked(key)) => Ok(stuck(table, key)?),
-        Err(Unmade::Memory) => Err(NotationError::Memory),
+impl Obstacle for Key {
+    fn words(self, table: &Table) -> Result<String, AllocError> {
+        words_of_keys(table, &[("stuck ", self)])
     }
 }
 
-fn stuck(table: &Table, key: Key) -> Result<String, AllocError> {
-    let key = key_text(table, key)?;
-    format!(in table.alloc(); "stuck {key}")
-}
-
-fn lists_merged(table: &Table, on: &Two<Catches, Catches>) -> Outcome {
-    match merge_lists(table.alloc(), &on.first, &on.rest.first) {
-        Ok(merged) => show(table, &merged),
-        Err(Unmade::Blocked(pair)) => Ok(no_merge(table, pair)?),
-        Err(Unmade::Memory) => Err(NotationError::Memory),
+impl Obstacle for NoMerge {
+    fn words(self, table: &Table) -> Result<String, AllocError> {
+        words_of_keys(table, &[("no merge of ", self.left), (" and ", self.right)])
     }
 }
 
-fn no_merge(table: &Table, pair: NoMerge) -> Result<String, AllocError> {
-    let left = key_text(table, pair.left)?;
-    let right = key_text(table, pair.right)?;
-    format!(in table.alloc(); "no merge of {left} and {right}")
+/// Words, each with an absolute label behind it: a label without a caret.
+fn words_of_keys(table: &Table, words: &[(&str, Key)]) -> Result<String, AllocError> {
+    let mut text = String::new(table.alloc());
+    for (word, key) in words {
+        let label = Label {
+            name: key.name,
+            place: key.place,
+            inverse: false,
+        };
+        text.push_str(word)?;
+        text.push_str(&label_text(table.alloc(), label)?)?;
+    }
+    Ok(text)
 }
 
 fn names(table: &Table, labels: &[Label]) -> Result<SharedMap<Name, ()>, AllocError> {

@@ -1,41 +1,35 @@
 //! Values: the calls on contexted patches, and on sets of them.
 use crate::tables::Table;
-use crate::values::arguments::Two;
-use crate::values::calls::CallLine;
-use crate::values::results::{Answer, Outcome, Shown};
-use camp_ctx::{Contexted, CtxSet, conflict, merge_behind_common};
-use camp_prim::Label;
-use camp_seq::Seq;
-use std::alloc::AllocError;
+use crate::values::arguments::Value;
+use crate::values::calls::{Call, no_such_call};
+use crate::values::results::{Outcome, tell, word};
+use camp_ctx::{Contexted, CtxSet, conflict};
 
-/// The result of a call on contexted patches or on sets of them. An absolute label is written as a label
-/// without a caret.
-pub(crate) fn answer(line: CallLine<'_>) -> Option<Outcome> {
-    let outcome = match line.name {
-        "read_contexted" => line.one(Contexted::try_clone),
-        "add_one" => line.two(Contexted::add_one),
-        "add" => line.two(Contexted::add),
-        "pass_by" => line.two(Contexted::past),
-        "conflict" => line.two(|x: &Contexted, y: &Contexted| conflict(x, y)),
-        "merge_behind_common" => line.ask(merged),
-        "read_set" => line.one(CtxSet::try_clone),
-        "sole" => line.one(sole),
-        "insert" => line.two(CtxSet::insert),
-        "without" => line.two(without),
-        "add_to_set" => line.two(CtxSet::add),
-        _ => return None,
-    };
-    Some(outcome)
+/// The result of a call on a contexted patch.
+pub(crate) fn answer(table: &Table, _call: Call, x: &Contexted, behind: &[Value]) -> Outcome {
+    match behind {
+        [] => tell(table, x.try_clone()),
+        [Value::Contexted(y)] => tell(table, conflict(x, y)),
+        _ => no_such_call(table),
+    }
 }
 
-fn merged(table: &Table, on: &Two<Seq, Seq>) -> Outcome {
-    merge_behind_common(table.alloc(), &on.first, &on.rest.first).outcome(table)
+/// The result of a call on a set. An absolute label is written as a label without a caret.
+pub(crate) fn answer_set(table: &Table, call: Call, set: &CtxSet, behind: &[Value]) -> Outcome {
+    match behind {
+        [] => match call {
+            Call::Sole => sole(table, set),
+            _ => tell(table, set.try_clone()),
+        },
+        [Value::Contexted(x)] => tell(table, set.insert(x)),
+        [Value::Label(label)] => tell(table, set.without(&label.key())),
+        _ => no_such_call(table),
+    }
 }
 
-fn sole(set: &CtxSet) -> Option<Result<Contexted, AllocError>> {
-    set.sole().map(|member| member.try_clone())
-}
-
-fn without(set: &CtxSet, label: &Label) -> Result<CtxSet, AllocError> {
-    set.without(&label.key())
+fn sole(table: &Table, set: &CtxSet) -> Outcome {
+    match set.sole() {
+        Some(member) => tell(table, member.try_clone()),
+        None => word(table, "none"),
+    }
 }

@@ -1,35 +1,50 @@
 //! Values: the calls on lists of primitives.
 use crate::tables::Table;
-use crate::values::arguments::{Then, Two};
-use crate::values::calls::CallLine;
-use crate::values::results::{Answer, Outcome, changed};
+use crate::values::arguments::Value;
+use crate::values::calls::{Call, no_such_call};
+use crate::values::results::{Outcome, changed, tell};
 use camp_base::Tree;
-use camp_prim::{Label, Named};
-use camp_seq::{Seq, apply_all, clean_merge, front, invert_all, norm, past, past_all, split};
+use camp_ctx::{Contexted, CtxSet, merge_behind_common};
+use camp_seq::{Seq, apply_all, clean_merge, front, invert_all, norm, past_all, split};
 
-/// The result of a call on lists of primitives.
-pub(crate) fn answer(line: CallLine<'_>) -> Option<Outcome> {
-    let outcome = match line.name {
-        "past" => line.two(|p: &Named, list: &Seq| past(p, list)),
-        "past_all" => line.two(|left: &Seq, right: &Seq| past_all(left, right)),
-        "front" => line.two(|list: &Seq, label: &Label| front(list, label)),
-        "split" => line.ask(split_by),
-        "norm" => line.one(|list: &Seq| norm(list)),
-        "invert_all" => line.one(|list: &Seq| invert_all(list)),
-        "clean_merge" => line.two(|left: &Seq, right: &Seq| clean_merge(left, right)),
-        "apply_all" => line.ask(applied),
-        _ => return None,
-    };
-    Some(outcome)
+/// The result of a call on a list of primitives.
+pub(crate) fn answer(table: &Table, call: Call, list: &Seq, behind: &[Value]) -> Outcome {
+    match behind {
+        [] => alone(table, call, list),
+        [Value::List(right)] => beside(table, call, list, right),
+        [Value::Label(label)] => tell(table, front(list, label)),
+        [Value::Labels(labels)] => tell(table, split(list, labels)),
+        [Value::Tree(tree)] => applied(table, list, tree),
+        [Value::Contexted(x)] => before_one(table, call, list, x),
+        [Value::Set(set)] => tell(table, CtxSet::add(list, set)),
+        _ => no_such_call(table),
+    }
 }
 
-fn split_by(table: &Table, on: &Then<Seq, Vec<Label>>) -> Outcome {
-    split(&on.first, &on.rest).outcome(table)
+fn alone(table: &Table, call: Call, list: &Seq) -> Outcome {
+    match call {
+        Call::InvertAll => tell(table, invert_all(list)),
+        _ => tell(table, norm(list)),
+    }
 }
 
-fn applied(table: &Table, on: &Two<Seq, Tree>) -> Outcome {
-    let before = &on.rest.first;
+fn beside(table: &Table, call: Call, left: &Seq, right: &Seq) -> Outcome {
+    match call {
+        Call::PastAll => tell(table, past_all(left, right)),
+        Call::CleanMerge => tell(table, clean_merge(left, right)),
+        _ => tell(table, merge_behind_common(table.alloc(), left, right)),
+    }
+}
+
+fn before_one(table: &Table, call: Call, list: &Seq, x: &Contexted) -> Outcome {
+    match call {
+        Call::Add => tell(table, Contexted::add(list, x)),
+        _ => tell(table, Contexted::past(list, x)),
+    }
+}
+
+fn applied(table: &Table, list: &Seq, before: &Tree) -> Outcome {
     let mut tree = before.try_clone()?;
-    let answer = apply_all(&on.first, &mut tree);
+    let answer = apply_all(list, &mut tree);
     changed(table, before, tree, answer)
 }

@@ -1,36 +1,43 @@
 //! Values: the calls on primitives.
 use crate::tables::Table;
-use crate::values::arguments::{One, Two};
-use crate::values::calls::CallLine;
-use crate::values::results::{Outcome, changed, show};
+use crate::values::arguments::Value;
+use crate::values::calls::{Call, no_such_call};
+use crate::values::results::{Outcome, changed, show, tell};
 use camp_base::Tree;
+use camp_ctx::Contexted;
 use camp_prim::{Named, commute};
+use camp_seq::past;
 use std::alloc::AllocError;
 
-/// The result of a call on primitives. `commute` is of catches too, where its arguments begin as these do.
-pub(crate) fn answer(line: CallLine<'_>) -> Option<Outcome> {
-    let outcome = match line.name {
-        "read" => line.ask(read),
-        "copy" => line.one(Named::try_clone),
-        "invert" => line.one(invert),
-        "apply" => line.ask(apply),
-        "commute" if !line.is_of_catches() => { line.two(|p: &Named, q: &Named| commute(p, q)) }
-        _ => return None,
-    };
-    Some(outcome)
+/// The result of a call on a primitive.
+pub(crate) fn answer(table: &Table, call: Call, p: &Named, behind: &[Value]) -> Outcome {
+    match behind {
+        [] => alone(table, call, p),
+        [Value::Named(q)] => tell(table, commute(p, q)),
+        [Value::Tree(tree)] => apply(table, p, tree),
+        [Value::List(list)] => tell(table, past(p, list)),
+        [Value::Contexted(x)] => tell(table, Contexted::add_one(p, x)),
+        _ => no_such_call(table),
+    }
 }
 
-fn read(table: &Table, on: &One<Named>) -> Outcome {
-    show(table, &on.first)
+fn alone(table: &Table, call: Call, p: &Named) -> Outcome {
+    match call {
+        Call::Copy => tell(table, p.try_clone()),
+        Call::Invert => tell(table, invert(p)),
+        _ => show(table, p),
+    }
 }
 
 fn invert(p: &Named) -> Result<Named, AllocError> {
-    p.try_clone().map(|copy| copy.invert())
+    match p.try_clone() {
+        Ok(copy) => Ok(copy.invert()),
+        Err(why) => Err(why),
+    }
 }
 
-fn apply(table: &Table, on: &Two<Named, Tree>) -> Outcome {
-    let before = &on.rest.first;
+fn apply(table: &Table, p: &Named, before: &Tree) -> Outcome {
     let mut tree = before.try_clone()?;
-    let answer = on.first.apply(&mut tree);
+    let answer = p.apply(&mut tree);
     changed(table, before, tree, answer)
 }

@@ -1,14 +1,15 @@
 //! Values: how results are shown, and read back.
 use crate::tables::Table;
 use crate::values::numbers::{Numbers, numbers_text};
+use crate::words::words_of;
 use camp_base::{Apply, Tree};
-use camp_catch::Catch;
+use camp_catch::{Arranged, Catch};
 use camp_ctx::{Contexted, CtxSet};
 use camp_notation::{
-    NotationError, catch_text, catches_text, contexted_text, label_text, list_text, named_text,
-    read_catch, read_catches, read_contexted, read_set, set_text, tree_text,
+    NotationError, catch_text, catches_text, contexted_text, list_text, named_text, read_catch,
+    read_catches, read_contexted, read_set, set_text, tree_text,
 };
-use camp_prim::{Key, Label, Named};
+use camp_prim::Named;
 use camp_seq::Seq;
 use camp_share::Shared;
 use std::alloc::AllocError;
@@ -25,19 +26,19 @@ pub(crate) trait Shown {
 
 impl Shown for Named {
     fn shown(&self, table: &Table) -> Outcome {
-        Ok(named_text(table.alloc(), table.known(), self)?)
+        told(named_text(table.alloc(), table.known(), self))
     }
 }
 
 impl Shown for Seq {
     fn shown(&self, table: &Table) -> Outcome {
-        Ok(list_text(table.alloc(), table.known(), self)?)
+        told(list_text(table.alloc(), table.known(), self))
     }
 }
 
 impl Shown for Tree {
     fn shown(&self, table: &Table) -> Outcome {
-        Ok(tree_text(table.alloc(), self)?)
+        told(tree_text(table.alloc(), self))
     }
 }
 
@@ -45,7 +46,7 @@ impl Shown for Contexted {
     fn shown(&self, table: &Table) -> Outcome {
         let text = contexted_text(table.alloc(), table.known(), self)?;
         match read_contexted(table.alloc(), table.known(), text.as_bytes()) {
-            Ok(read) => told(text, read.is_same(self)),
+            Ok(read) => read_back(text, read.is_same(self)),
             Err(why) => Err(why),
         }
     }
@@ -55,7 +56,7 @@ impl Shown for CtxSet {
     fn shown(&self, table: &Table) -> Outcome {
         let text = set_text(table.alloc(), table.known(), self)?;
         match read_set(table.alloc(), table.known(), text.as_bytes()) {
-            Ok(read) => told(text, read.is_same(self)),
+            Ok(read) => read_back(text, read.is_same(self)),
             Err(why) => Err(why),
         }
     }
@@ -65,7 +66,7 @@ impl Shown for Catch {
     fn shown(&self, table: &Table) -> Outcome {
         let text = catch_text(table.alloc(), table.known(), self)?;
         match read_catch(table.alloc(), table.known(), text.as_bytes()) {
-            Ok(read) => told(text, read.is_same(self)),
+            Ok(read) => read_back(text, read.is_same(self)),
             Err(why) => Err(why),
         }
     }
@@ -75,15 +76,21 @@ impl Shown for Vec<Shared<Catch>> {
     fn shown(&self, table: &Table) -> Outcome {
         let text = catches_text(table.alloc(), table.known(), self)?;
         match read_catches(table.alloc(), table.known(), text.as_bytes()) {
-            Ok(read) => told(text, are_same(self, &read)),
+            Ok(read) => read_back(text, are_same(self, &read)),
             Err(why) => Err(why),
         }
     }
 }
 
+impl Shown for Arranged {
+    fn shown(&self, table: &Table) -> Outcome {
+        both(table, &self.first, &self.rest)
+    }
+}
+
 impl Shown for Numbers {
     fn shown(&self, table: &Table) -> Outcome {
-        Ok(numbers_text(table.alloc(), self)?)
+        told(numbers_text(table.alloc(), self))
     }
 }
 
@@ -98,7 +105,7 @@ impl<T: Shown> Shown for Option<T> {
     fn shown(&self, table: &Table) -> Outcome {
         match self {
             Some(value) => value.shown(table),
-            None => word(table, "none"),
+            None => none(table),
         }
     }
 }
@@ -106,15 +113,19 @@ impl<T: Shown> Shown for Option<T> {
 /// Two results, one behind the other.
 impl<T: Shown, U: Shown> Shown for (T, U) {
     fn shown(&self, table: &Table) -> Outcome {
-        let first = self.0.shown(table)?;
-        match self.1.shown(table) {
-            Ok(second) => joined(first, &second),
-            Err(why) => Err(why),
-        }
+        both(table, &self.0, &self.1)
     }
 }
 
-pub(crate) fn joined(first: String, second: &str) -> Outcome {
+fn both<T: Shown, U: Shown>(table: &Table, first: &T, second: &U) -> Outcome {
+    let text = first.shown(table)?;
+    match second.shown(table) {
+        Ok(behind) => told(joined(text, &behind)),
+        Err(why) => Err(why),
+    }
+}
+
+fn joined(first: String, second: &str) -> Result<String, AllocError> {
     let mut text = first;
     text.push_str(", ")?;
     text.push_str(second)?;
@@ -131,42 +142,19 @@ fn are_same(list: &[Shared<Catch>], other: &[Shared<Catch>]) -> bool {
 }
 
 // A text, and whether it is read back as the value that it was written for.
-fn told(text: String, is_read_back: bool) -> Outcome {
+fn read_back(text: String, is_same: bool) -> Outcome {
     let mut text = text;
-    if !is_read_back {
+    if !is_same {
         text.push_str(", which is read back as another")?;
     }
     Ok(text)
 }
 
-/// What a call may answer: a value, or a value unless memory is wanted.
-pub(crate) trait Answer: Drop {
-    /// The result of the call.
-    fn outcome(self, table: &Table) -> Outcome;
-}
-
-impl Answer for bool {
-    fn outcome(self, table: &Table) -> Outcome {
-        show(table, &self)
-    }
-}
-
-/// A value, or none.
-impl<A: Answer> Answer for Option<A> {
-    fn outcome(self, table: &Table) -> Outcome {
-        match self {
-            Some(answer) => answer.outcome(table),
-            None => word(table, "none"),
-        }
-    }
-}
-
-impl<T: Shown + Drop> Answer for Result<T, AllocError> {
-    fn outcome(self, table: &Table) -> Outcome {
-        match self {
-            Ok(value) => show(table, &value),
-            Err(_) => Err(NotationError::Memory),
-        }
+/// What a call makes, unless memory is wanted.
+pub(crate) fn tell<T: Shown + Drop>(table: &Table, made: Result<T, AllocError>) -> Outcome {
+    match made {
+        Ok(value) => show(table, &value),
+        Err(_) => Err(NotationError::Memory),
     }
 }
 
@@ -181,17 +169,19 @@ pub(crate) fn show<T: Shown>(table: &Table, value: &T) -> Outcome {
 
 /// A word as it is.
 pub(crate) fn word(table: &Table, text: &str) -> Outcome {
-    Ok(String::from_str(table.alloc(), text)?)
+    told(String::from_str(table.alloc(), text))
 }
 
-/// An absolute label: a label without a caret.
-pub(crate) fn key_text(table: &Table, key: Key) -> Result<String, AllocError> {
-    let label = Label {
-        name: key.name,
-        place: key.place,
-        inverse: false,
-    };
-    label_text(table.alloc(), label)
+pub(crate) fn none(table: &Table) -> Outcome {
+    word(table, "none")
+}
+
+/// A text, unless memory is wanted.
+pub(crate) fn told(text: Result<String, AllocError>) -> Outcome {
+    match text {
+        Ok(text) => Ok(text),
+        Err(_) => Err(NotationError::Memory),
+    }
 }
 
 /// The tree that a change leaves, or in which words it is refused. A change that is refused and yet
@@ -210,8 +200,8 @@ pub(crate) fn changed(
 
 fn refused(table: &Table, why: Apply, is_kept: bool) -> Outcome {
     match why {
-        _ if !is_kept => Ok(format!(in table.alloc(); "{why}, and another tree")?),
-        Apply::DoesNotApply => Ok(format!(in table.alloc(); "{why}")?),
+        _ if !is_kept => told(format!(in table.alloc(); "{why}, and another tree")),
+        Apply::DoesNotApply => told(words_of(table.alloc(), &why)),
         Apply::Memory => Err(NotationError::Memory),
     }
 }

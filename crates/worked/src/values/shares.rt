@@ -2,65 +2,57 @@
 ghost use Rattle.std.specs.Prelude.{◌≤◌, ◌<◌, IsTrue, length};
 
 use crate::tables::Table;
-use crate::values::arguments::Four;
-use crate::values::calls::CallLine;
+use crate::values::arguments::Value;
+use crate::values::calls::{Call, no_such_call};
 use crate::values::numbers::{Number, Numbers};
-use crate::values::results::{Answer, Outcome, word};
+use crate::values::results::{Outcome, none, tell};
 use camp_share::Share;
-use std::alloc::AllocError;
 
-/// The result of a call on shared lists.
-pub(crate) fn answer(line: CallLine<'_>) -> Option<Outcome> {
-    let outcome = match line.name {
-        "list_shared" => line.one(Numbers::share),
-        "list_pushed" => line.two(pushed),
-        "list_inserted" => line.three(inserted),
-        "list_replaced" => line.three(replaced),
-        "list_without" => line.two(without),
-        "list_spliced" => line.ask(spliced),
-        _ => return None,
-    };
-    Some(outcome)
+/// The result of a call on a shared list, or none where it has no such place.
+pub(crate) fn answer(table: &Table, call: Call, list: &Numbers, behind: &[Value]) -> Outcome {
+    match behind {
+        [] => tell(table, list.share()),
+        [Value::Count(count)] => match call {
+            Call::Pushed => tell(table, list.pushed(Number(*count))),
+            _ => without(table, list, *count as usize),
+        },
+        [Value::Count(at), Value::Count(count)] => match call {
+            Call::Inserted => inserted(table, list, *at as usize, Number(*count)),
+            _ => replaced(table, list, *at as usize, Number(*count)),
+        },
+        [Value::Count(from), Value::Count(to), Value::Numbers(items)] => {
+            spliced(table, list, *from as usize, *to as usize, items)
+        }
+        _ => no_such_call(table),
+    }
 }
 
-// A change of a list, or none where it has no such place.
-type Change = Option<Result<Numbers, AllocError>>;
-
-fn pushed(list: &Numbers, number: &Number) -> Result<Numbers, AllocError> {
-    list.pushed(*number)
+fn without(table: &Table, list: &Numbers, at: usize) -> Outcome {
+    if at >= list.len() {
+        return none(table);
+    }
+    tell(table, list.without(at))
 }
 
-fn inserted(list: &Numbers, at: &u32, number: &Number) -> Change {
-    let at = *at as usize;
+fn inserted(table: &Table, list: &Numbers, at: usize, number: Number) -> Outcome {
     if at > list.len() {
-        return None;
+        return none(table);
     }
-    Some(list.inserted(at, *number))
+    tell(table, list.inserted(at, number))
 }
 
-fn replaced(list: &Numbers, at: &u32, number: &Number) -> Change {
-    let at = *at as usize;
+fn replaced(table: &Table, list: &Numbers, at: usize, number: Number) -> Outcome {
     if at >= list.len() {
-        return None;
+        return none(table);
     }
-    Some(list.replaced(at, *number))
-}
-
-fn without(list: &Numbers, at: &u32) -> Change {
-    let at = *at as usize;
-    if at >= list.len() {
-        return None;
-    }
-    Some(list.without(at))
+    tell(table, list.replaced(at, number))
 }
 
 /// A list with another one in place of a range.
-fn spliced(table: &Table, on: &Four<Numbers, u32, u32, Numbers>) -> Outcome {
-    let (list, behind) = (&on.first, &on.rest);
-    let (from, to) = (behind.first as usize, behind.rest.first as usize);
-    let items = behind.rest.rest.first.to_vec()?;
+fn spliced(table: &Table, list: &Numbers, from: usize, to: usize, items: &Numbers) -> Outcome {
+    let items = items.to_vec()?;
     if from > to || to > list.len() {
-        return word(table, "none");
+        return none(table);
     }
-    list.spliced(from, to, &items).outcome(table)
+    tell(table, list.spliced(from, to, &items))
 }

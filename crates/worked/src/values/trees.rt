@@ -1,30 +1,42 @@
 //! Values: the calls on trees.
 use crate::tables::Table;
-use crate::values::arguments::{Five, Two};
-use crate::values::calls::CallLine;
-use crate::values::results::{Outcome, changed, word};
+use crate::values::arguments::Value;
+use crate::values::calls::{Call, no_such_call};
+use crate::values::results::{Outcome, changed, show, tell, word};
 use camp_base::{Line, Path, Tree};
 use camp_notation::lines_text;
 use camp_prim::Lines;
 use camp_share::SharedList;
 use std::alloc::AllocError;
 
-/// The result of a call on trees.
-pub(crate) fn answer(line: CallLine<'_>) -> Option<Outcome> {
-    let outcome = match line.name {
-        "is_empty" => line.one(Tree::is_empty),
-        "file" => line.ask(file),
-        "copy_tree" => line.one(Tree::try_clone),
-        "add_file" => line.ask(add_file),
-        "remove_file" => line.ask(remove_file),
-        "splice" => line.ask(splice),
-        _ => return None,
-    };
-    Some(outcome)
+/// The result of a call on a tree.
+pub(crate) fn answer(table: &Table, call: Call, tree: &Tree, behind: &[Value]) -> Outcome {
+    match behind {
+        [] => match call {
+            Call::Copy => tell(table, tree.try_clone()),
+            _ => show(table, &tree.is_empty()),
+        },
+        [Value::Path(path)] => at_path(table, call, tree, path),
+        [
+            Value::Path(path),
+            Value::Count(line),
+            Value::Lines(old),
+            Value::Lines(new),
+        ] => { splice(table, tree, path, *line, old, new) }
+        _ => no_such_call(table),
+    }
 }
 
-fn file(table: &Table, on: &Two<Tree, Path>) -> Outcome {
-    match on.first.file(&on.rest.first) {
+fn at_path(table: &Table, call: Call, tree: &Tree, path: &Path) -> Outcome {
+    match call {
+        Call::AddFile => add_file(table, tree, path),
+        Call::RemoveFile => remove_file(table, tree, path),
+        _ => file(table, tree, path),
+    }
+}
+
+fn file(table: &Table, tree: &Tree, path: &Path) -> Outcome {
+    match tree.file(path) {
         Some(lines) => Ok(file_text(table, lines)?),
         None => word(table, "none"),
     }
@@ -35,24 +47,28 @@ fn file_text(table: &Table, lines: &SharedList<Line>) -> Result<String, AllocErr
     lines_text(table.alloc(), &lines)
 }
 
-fn add_file(table: &Table, on: &Two<Tree, Path>) -> Outcome {
-    let mut tree = on.first.try_clone()?;
-    let answer = tree.add_file(&on.rest.first);
-    changed(table, &on.first, tree, answer)
+fn add_file(table: &Table, before: &Tree, path: &Path) -> Outcome {
+    let mut tree = before.try_clone()?;
+    let answer = tree.add_file(path);
+    changed(table, before, tree, answer)
 }
 
-fn remove_file(table: &Table, on: &Two<Tree, Path>) -> Outcome {
-    let mut tree = on.first.try_clone()?;
-    let answer = tree.remove_file(&on.rest.first);
-    changed(table, &on.first, tree, answer)
+fn remove_file(table: &Table, before: &Tree, path: &Path) -> Outcome {
+    let mut tree = before.try_clone()?;
+    let answer = tree.remove_file(path);
+    changed(table, before, tree, answer)
 }
 
 /// Lines in place of others.
-fn splice(table: &Table, on: &Five<Tree, Path, u32, Lines, Lines>) -> Outcome {
-    let (before, behind) = (&on.first, &on.rest);
-    let (path, place) = (&behind.first, &behind.rest);
-    let (old, new) = (&place.rest.first, &place.rest.rest.first);
+fn splice(
+    table: &Table,
+    before: &Tree,
+    path: &Path,
+    line: u32,
+    old: &Lines,
+    new: &Lines,
+) -> Outcome {
     let mut tree = before.try_clone()?;
-    let answer = tree.splice(path, place.first, old.as_slice(), new.as_slice());
+    let answer = tree.splice(path, line, old.as_slice(), new.as_slice());
     changed(table, before, tree, answer)
 }

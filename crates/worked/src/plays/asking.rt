@@ -1,0 +1,48 @@
+//! Books and heads: what a command was answered so far.
+use crate::plays::faults::PlayFault;
+use crate::plays::{Answer, append_bytes};
+use camp_repo::Fault;
+use camp_script::answer_text;
+
+/// How often a command was asked so far, and what it was answered last.
+#[derive(Drop)]
+pub(crate) struct Asked {
+    count: u32,
+    last: Option<Answer>,
+}
+
+impl Asked {
+    /// Nothing was asked.
+    pub(crate) fn nothing() -> Asked {
+        Asked {
+            count: 0,
+            last: None,
+        }
+    }
+
+    pub(crate) fn count(&self) -> u32 {
+        self.count
+    }
+
+    /// The command was asked once more.
+    pub(crate) fn note(&mut self, answer: Answer) {
+        self.count = self.count.saturating_add(1);
+        self.last = Some(answer);
+    }
+
+    /// Appends what was answered last, if anything was.
+    pub(crate) fn append_last(&self, text: &mut Vec<u8>) -> Result<(), PlayFault> {
+        match &self.last {
+            Some(answer) => append_answer(answer, text),
+            None => Ok(()),
+        }
+    }
+}
+
+/// Appends the text of what is answered, if it is not want of memory.
+pub(crate) fn append_answer(answer: &Answer, text: &mut Vec<u8>) -> Result<(), PlayFault> {
+    if let Err(Fault::Memory) = answer {
+        return Err(PlayFault::Memory);
+    }
+    append_bytes(answer_text(*text.allocator(), answer), text)
+}
