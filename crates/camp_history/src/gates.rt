@@ -1,4 +1,4 @@
-/// A gate is told of the steps of calls, and may wait there; tests mostly use one. It changes no
+/// A gate is told of the steps of calls, and may wait there, as clients that take turns do. It changes no
 /// answer. That it is told of each step, and with which numbers, is only tested.
 pub trait Gate {
     /// Told before a call of a seat, with the call's number.

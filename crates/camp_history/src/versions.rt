@@ -51,7 +51,7 @@ impl<State: Object> Base<State> {
     }
 }
 
-/// A version that lies in a slot, and the one that its maker had adopted last.
+/// A version that lies in a slot, and the one that its maker had made or adopted last.
 #[derive(Drop)]
 pub struct Origin<State: Object> {
     pub(crate) version: Base<State>,
