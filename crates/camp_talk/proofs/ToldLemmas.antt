@@ -1,12 +1,15 @@
--- What questions are told.
-use Rattle.camp_talk.proofs.Words.{◌≡◌, ℕ, List, Result, Ok, Err, Vec, IfOk, ap, refl, subst, IsTold}
+-- What questions are told, and what is kept of commands.
+use Rattle.camp_talk.proofs.Words.{◌≡◌, ◌∙◌, ℕ, List, Result, Ok, Err, Vec, IfOk, ap, refl, subst, IsTold}
+use Rattle.std.specs.Prelude.{MatchResult}
 use Rattle.camp_call.specs.declared.replies.Refusal.{Refusal}
 use Rattle.camp_questions.specs.Along.{AreAlong, TellsAlong}
 use Rattle.camp_questions.specs.Answers.{AnswerOf, Tells, TellsOrWants}
 use Rattle.camp_questions.specs.declared.faults.Unanswered.{Unanswered}
 use Rattle.camp_questions.specs.declared.faults.Unanswered.TheVariants as fault
 use Rattle.camp_repo.specs.States.{Contents}
+use Rattle.camp_talk.specs.Accounts.{Account}
 use Rattle.camp_talk.specs.Inside.Said.{TellsFound}
+use Rattle.camp_talk.specs.declared.awaited.Awaited.{Awaited}
 
 module _ {A Z E : Type 0} (text_of : A → List ℕ) (ComesTo : AnswerOf A → Type 0) where
   -- what was found is told, and the question comes to that
@@ -36,3 +39,15 @@ pub along_told : {Z E : Type 0} (text_of : List (List ℕ) → List ℕ) (state 
     → IfOk said (λ text. TellsFound text_of found text.items) → IfOk said (λ text. IsTold text_of (AreAlong state from to names) text.items)
 along_told text_of state from to names found said tells =
     found_told text_of (AreAlong state from to names) found said (λ answer is. subst (TellsAlong state from to names) is tells) (λ refusal is. subst (TellsAlong state from to names) is tells)
+
+abbrev kept_with : Awaited → List ℕ → Account
+kept_with awaited told = record { told = told; awaited = awaited }
+
+-- lines that were made are kept, with the lines that are awaited
+pub account_told : {Z E F : Type 0} (made : Result (Vec ℕ Z) E) (said : Result Account F) (told : List ℕ) (awaited : Awaited)
+    → IfOk made (λ text. text.items ≡ told)
+    → IfOk said (λ account. MatchResult made (λ text. account ≡ record { told = text.items; awaited = awaited }) (λ _. ⊥))
+    → IfOk said (λ account. account ≡ record { told = told; awaited = awaited })
+account_told (Ok text) (Ok account) told awaited is kept = kept ∙ ap (kept_with awaited) is
+account_told (Err error) (Ok account) told awaited is kept = absurd kept
+account_told made (Err error) told awaited is kept = tt

@@ -1,5 +1,5 @@
 //! What a conversation keeps for `why`.
-ghost use Rattle.std.specs.Prelude.{◌≡◌, IfOk};
+ghost use Rattle.std.specs.Prelude.{◌≡◌, IfOk, MatchResult};
 ghost use Rattle.camp_talk.specs.Accounts.{closed, leaves_place, no_account, passed};
 
 use crate::awaited::Awaited;
@@ -34,11 +34,15 @@ impl Account {
         }
     }
 
-    /// Of a fault or a refusal with these lines.
-    pub(crate) fn of(told: Vec<u8>, awaited: Awaited) -> Account
-        ensures { result ≡ record { told = told.items; awaited = awaited } }
+    /// Of a fault or a refusal with these lines, unless there was no memory for them.
+    pub(crate) fn of(
+        told: Result<Vec<u8>, AllocError>,
+        awaited: Awaited,
+    ) -> Result<Account, AllocError>
+        ensures { IfOk result (λ account. MatchResult told (λ told. account ≡ record { told = told.items; awaited = awaited }) (λ _. ⊥)) }
     {
-        Account { told, awaited }
+        let told = told?;
+        Ok(Account { told, awaited })
     }
 
     pub(crate) fn told(&self) -> &[u8]
@@ -57,11 +61,7 @@ impl Account {
     pub(crate) fn passed(&self, alloc: Global, line: &[u8]) -> Result<Account, AllocError>
         ensures { IfOk result (λ account. account ≡ passed self.now line.now) }
     {
-        let told = Vec::from_slice(alloc, &self.told)?;
-        Ok(Account {
-            told,
-            awaited: self.awaited.after(line),
-        })
+        Account::of(Vec::from_slice(alloc, &self.told), self.awaited.after(line))
     }
 
     /// No line of its command may come.

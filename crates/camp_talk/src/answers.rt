@@ -16,6 +16,7 @@ use crate::accounts::leaves_place;
 use crate::questions::Asked;
 use crate::readings::Command;
 use crate::tellings::answer_question;
+use crate::told::joined;
 use crate::told_whys::{cause_of, is_failure, tell_why};
 use crate::{Account, TalkFault};
 use camp_object::Fault;
@@ -142,7 +143,8 @@ pub(crate) fn fault_text(
 {
     let mut number = Buffer::new();
     let line = number.format(u128::from(before) + u128::from(line));
-    Ok(format!(in alloc; "fault {line} {kind}\n")?.into_bytes())
+    let (line, kind) = (line.as_bytes(), kind.words().as_bytes());
+    joined(alloc, &[b"fault ", line, b" ", kind, b"\n"])
 }
 
 // Writes an answer and flushes it. Of none, nothing is flushed.

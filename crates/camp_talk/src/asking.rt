@@ -1,10 +1,10 @@
 //! What a command asks.
-ghost use Rattle.std.specs.Prelude.{◌≡◌, List, Result};
+ghost use Rattle.std.specs.Prelude.{◌≡◌, ◌∷◌, [], List, Result, codes};
 ghost use Rattle.camp_call.specs.declared.calls.Call.{Call as SaidCall};
 ghost use Rattle.camp_script.specs.Gives.{Gives};
 ghost use Rattle.camp_script.specs.Lines.{is_skipped, lines_of, words_of};
 ghost use Rattle.camp_script.specs.declared.faults.LineFault.{LineFault as SaidFault};
-ghost use Rattle.camp_talk.specs.Asking.{asked_in, asked_with, call_in, first_of, foreseen_in, is_why, why_of};
+ghost use Rattle.camp_talk.specs.Asking.{asked_with, call_in, first_of, is_why, why_of};
 
 use crate::question_words::read_question;
 use crate::questions::{Asked, Question};
@@ -34,17 +34,18 @@ pub(crate) fn read_asked(
 {
     let mut words = Words::new(first_line(bytes));
     let Some(word) = words.next() else {
-        return read_call(script?);
+        return read_call(script);
     };
     if word == b"whatif".as_slice() {
-        return read_what_if(script?);
+        return read_what_if(script);
     }
     if is_why(word) {
         return read_why(words);
     }
-    match read_question(alloc, word, words)? {
-        Some(question) => Ok(Asked::Question(question)),
-        None => read_call(script?),
+    match read_question(alloc, word, words) {
+        Ok(Some(question)) => Ok(Asked::Question(question)),
+        Ok(None) => read_call(script),
+        Err(fault) => Err(fault),
     }
 }
 
@@ -75,10 +76,10 @@ fn call_in(script: Script) -> Result<Option<Call>, ScriptFault>
     Ok(Some(calls.swap_remove(0)))
 }
 
-fn read_call(script: Script) -> Result<Asked, ScriptFault>
-    ensures { Gives result (asked_in script) }
+fn read_call(script: Result<Script, ScriptFault>) -> Result<Asked, ScriptFault>
+    ensures { (reading : Result (List (List SaidCall)) SaidFault) → Gives script reading → Gives result (asked_with [] reading) }
 {
-    match call_in(script)? {
+    match call_in(script?)? {
         Some(call) => Ok(Asked::Call(call)),
         None => Ok(Asked::Nothing),
     }
@@ -101,10 +102,10 @@ fn read_why(words: Words<'_>) -> Result<Asked, ScriptFault>
     }
 }
 
-fn read_what_if(script: Script) -> Result<Asked, ScriptFault>
-    ensures { Gives result (foreseen_in script) }
+fn read_what_if(script: Result<Script, ScriptFault>) -> Result<Asked, ScriptFault>
+    ensures { (reading : Result (List (List SaidCall)) SaidFault) → Gives script reading → Gives result (asked_with (codes "whatif" ∷ []) reading) }
 {
-    match call_in(script)? {
+    match call_in(script?)? {
         Some(call) => Ok(Asked::Question(Question::WhatIf(call))),
         None => Err(at_line(1, FaultKind::UnknownCommand)),
     }

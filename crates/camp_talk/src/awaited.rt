@@ -7,7 +7,7 @@ use camp_script::{Words, begins_edit, begins_with, behind_word};
 use camp_why::{begins_signed, call_part};
 
 /// Which lines of a command may still come that was cut off from them.
-#[derive(Clone, Copy, Debug)]
+#[derive(Clone, Copy)]
 pub(crate) enum Awaited {
     Nothing,
     /// A line with a sign, and then those of a body.

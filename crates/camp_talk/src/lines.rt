@@ -19,7 +19,7 @@ const TOO_LONG: usize = LONGEST_READ + 1;
 const CUT_LINE: usize = 4_098;
 
 /// What a reader was seen to have of a line.
-#[derive(Clone, Copy, Debug)]
+#[derive(Clone, Copy)]
 pub(crate) enum Seen {
     /// A part, and more is to come.
     Part,

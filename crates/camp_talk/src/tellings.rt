@@ -3,7 +3,7 @@ ghost use Rattle.std.specs.Prelude.{IfOk};
 ghost use Rattle.camp_talk.specs.Told.{TellsAt, TellsQuestion};
 
 use crate::Question;
-use crate::told::counted;
+use crate::told::counted_text;
 use crate::told_conflicts::{tell_marks, tell_open, tell_side};
 use crate::told_foresight::tell_foreseen;
 use crate::told_graphs::tell_graph;
@@ -63,7 +63,7 @@ pub(crate) fn answer_at(
         }
         Question::WhatIf(call) => tell_foreseen(alloc, state, call),
         Question::History => history_text(alloc, history),
-        Question::Keep => counted(alloc, "keep", &kept_text(alloc, history)?),
+        Question::Keep => counted_text(alloc, "keep", kept_text(alloc, history)),
         Question::Help(topic) => tell_help(alloc, *topic),
     }
 }

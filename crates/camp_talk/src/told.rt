@@ -1,5 +1,5 @@
 //! What answers to questions have in common.
-ghost use Rattle.std.specs.Prelude.{◌≡◌, IfOk};
+ghost use Rattle.std.specs.Prelude.{◌≡◌, ◌++◌, IfOk, MatchResult, OnOk};
 ghost use Rattle.std.specs.List.{flat_map};
 ghost use Rattle.camp_script.specs.Texts.{reply_text};
 ghost use Rattle.camp_questions.specs.declared.faults.Unanswered.TheVariants as fault;
@@ -11,16 +11,27 @@ use crate::readings::count_lines;
 use camp_questions::Unanswered;
 use camp_repo::Reply;
 use camp_script::answer_text;
+use itoa::Buffer;
 use std::alloc::{AllocError, Global};
 
 /// A text behind the word of its command and the number of its lines.
 pub(crate) fn counted(alloc: Global, word: &str, text: &[u8]) -> Result<Vec<u8>, AllocError>
     ensures { IfOk result (λ whole. whole.items ≡ counted word.now text.now) }
 {
-    let lines = count_lines(text);
-    let mut whole = format!(in alloc; "{word} {lines}\n")?.into_bytes();
-    whole.extend_from_slice(text)?;
-    Ok(whole)
+    let mut digits = Buffer::new();
+    let lines = digits.format(count_lines(text)).as_bytes();
+    joined(alloc, &[word.as_bytes(), b" ", lines, b"\n", text])
+}
+
+/// The same of a text that was made, unless there was no memory for it.
+pub(crate) fn counted_text(
+    alloc: Global,
+    word: &str,
+    text: Result<Vec<u8>, AllocError>,
+) -> Result<Vec<u8>, AllocError>
+    ensures { IfOk result (λ whole. MatchResult text (λ text. whole.items ≡ counted word.now text.items) (λ _. ⊥)) }
+{
+    counted(alloc, word, &text?)
 }
 
 /// Parts, one behind the other.
@@ -28,6 +39,30 @@ pub(crate) fn joined(alloc: Global, parts: &[&[u8]]) -> Result<Vec<u8>, AllocErr
     ensures { IfOk result (λ text. text.items ≡ flat_map (λ part. part.now) parts.now) }
 {
     parts.concat(alloc)
+}
+
+/// A text and another one behind it, unless there was no memory for one of them.
+pub(crate) fn both(
+    first: Result<Vec<u8>, AllocError>,
+    second: Result<Vec<u8>, AllocError>,
+) -> Result<Vec<u8>, AllocError>
+    ensures { IfOk result (λ whole. MatchResult first
+        (λ first. MatchResult second (λ second. whole.items ≡ first.items ++ second.items) (λ _. ⊥)) (λ _. ⊥)) }
+{
+    let mut whole = first?;
+    let second = second?;
+    whole.extend_from_slice(&second)?;
+    Ok(whole)
+}
+
+/// Appends parts, one behind the other.
+pub(crate) fn append_parts(text: &mut Vec<u8>, parts: &[&[u8]]) -> Result<(), AllocError>
+    ensures { OnOk result (text.new.items ≡ text.old.items ++ flat_map (λ part. part.now) parts.now) }
+{
+    for part in parts {
+        text.extend_from_slice(part)?;
+    }
+    Ok(())
 }
 
 /// The text of what a question without an answer is told: its refusal. Want of memory has none.

@@ -1,9 +1,10 @@
 //! What stands against a command that is refused: the branches that it names, what is there, and what is not.
-ghost use Rattle.std.specs.Prelude.{◌≡◌, ◌++◌, IfOk, Some, take};
-ghost use Rattle.camp_talk.specs.Against.{about, absent_sides, absent_text, branches_line, depends_cure, had_text, holders, holders_line, holds, lack_line, lack_text, lacked_text, lacks, more_names, most_names, names_line, new_text, no_branch_text, no_patch_text, nothing_text, other_target, place_word, record_cure, recorded_text, sides_text, target, there_text};
+ghost use Rattle.std.specs.List.{flat_map};
+ghost use Rattle.std.specs.Prelude.{◌≡◌, ◌++◌, IfOk, OnOk, Some, codes, take};
+ghost use Rattle.camp_talk.specs.Against.{about, absent_sides, absent_text, branches_line, depends_cure, had_text, holders, holders_line, holds, lack_line, lack_text, lacked_text, lacks, more_names, most_names, names_line, new_text, nothing_text, other_target, place_word, record_cure, recorded_text, sides_text, target, there_text};
 
 use crate::questions::{Asked, Question, Reason};
-use crate::told::joined;
+use crate::told::{append_parts, both, joined};
 use crate::told_refusals::cure;
 use camp_base::Name;
 use camp_call::Call;
@@ -14,7 +15,7 @@ use std::alloc::{AllocError, Global};
 const MOST_NAMES: usize = 20;
 
 /// Where a command names a branch: as FROM, or as BRANCH.
-#[derive(Clone, Copy, PartialEq, Eq, Debug)]
+#[derive(Clone, Copy)]
 pub(crate) enum Place {
     From,
     Branch,
@@ -62,17 +63,14 @@ pub(crate) fn tell_absent(
 pub(crate) fn tell_new(alloc: Global, state: &State, asked: &Asked) -> Result<Vec<u8>, AllocError>
     ensures { IfOk result (λ text. text.items ≡ new_text state.now asked.now ++ branches_line state.now) }
 {
-    let mut text = new_text(alloc, state, asked)?;
-    let branches = tell_branches(alloc, state)?;
-    text.extend_from_slice(&branches)?;
-    Ok(text)
+    both(new_text(alloc, state, asked), tell_branches(alloc, state))
 }
 
 /// The branches that there are.
 pub(crate) fn tell_branches(alloc: Global, state: &State) -> Result<Vec<u8>, AllocError>
     ensures { IfOk result (λ text. text.items ≡ branches_line state.now) }
 {
-    names_line(alloc, b"Branches:", state.names())
+    names_line(alloc, &[b"Branches:"], state.names())
 }
 
 /// Which branches have the patch that a call would record.
@@ -138,7 +136,7 @@ fn had_text(alloc: Global, names: &[Name]) -> Result<Vec<u8>, AllocError>
     if names.is_empty() {
         return Vec::from_slice(alloc, b"FROM has no patch.\n");
     }
-    names_line(alloc, b"TO has already:", names)
+    names_line(alloc, &[b"TO has already:"], names)
 }
 
 /// What can be done where the patch is there that a call would record.
@@ -263,21 +261,12 @@ fn lacks(branch: &Branch, asked: &Asked) -> Option<Name>
 
 // Appends that there is no branch of a name, where there is none.
 fn append_absent(text: &mut Vec<u8>, state: &State, branch: &Name) -> Result<(), AllocError>
-    ensures { IfOk result (λ _. text.new.items ≡ text.old.items ++ absent_text state.now branch.now) }
+    ensures { OnOk result (text.new.items ≡ text.old.items ++ absent_text state.now branch.now) }
 {
     if state.branch(branch).is_some() {
         return Ok(());
     }
-    append_no_branch(text, branch)
-}
-
-fn append_no_branch(text: &mut Vec<u8>, branch: &Name) -> Result<(), AllocError>
-    ensures { IfOk result (λ _. text.new.items ≡ text.old.items ++ no_branch_text branch.now) }
-{
-    text.extend_from_slice(b"There is no branch ")?;
-    text.extend_from_slice(branch.bytes())?;
-    text.extend_from_slice(b".\n")?;
-    Ok(())
+    append_parts(text, &[b"There is no branch ", branch.bytes(), b".\n"])
 }
 
 fn new_text(alloc: Global, state: &State, asked: &Asked) -> Result<Vec<u8>, AllocError>
@@ -296,10 +285,7 @@ fn there_text(alloc: Global, state: &State, branch: &Name) -> Result<Vec<u8>, Al
     if state.branch(branch).is_none() {
         return Ok(Vec::new(alloc));
     }
-    joined(
-        alloc,
-        &[b"There is a branch ".as_slice(), branch.bytes(), b".\n"],
-    )
+    joined(alloc, &[b"There is a branch ", branch.bytes(), b".\n"])
 }
 
 // That a branch lacks a patch, and which have it.
@@ -311,29 +297,20 @@ fn lack_text(
 ) -> Result<Vec<u8>, AllocError>
     ensures { IfOk result (λ text. text.items ≡ lack_text state.now branch.now (Some patch.now)) }
 {
-    let mut text = lack_line(alloc, branch, patch)?;
-    let holders = tell_holders(alloc, state, patch)?;
-    text.extend_from_slice(&holders)?;
-    Ok(text)
+    both(
+        lack_line(alloc, branch, patch),
+        tell_holders(alloc, state, patch),
+    )
 }
 
 fn lack_line(alloc: Global, branch: &Name, patch: &Name) -> Result<Vec<u8>, AllocError>
     ensures { IfOk result (λ text. text.items ≡ lack_line branch.now patch.now) }
 {
-    let mut text = Vec::from_slice(alloc, b"Branch ")?;
-    text.extend_from_slice(branch.bytes())?;
-    append_no_patch(&mut text, patch)?;
-    Ok(text)
-}
-
-// Appends that there is no patch of a name, behind the word for what lacks it.
-fn append_no_patch(text: &mut Vec<u8>, patch: &Name) -> Result<(), AllocError>
-    ensures { IfOk result (λ _. text.new.items ≡ text.old.items ++ no_patch_text patch.now) }
-{
-    text.extend_from_slice(b" has no patch ")?;
-    text.extend_from_slice(patch.bytes())?;
-    text.extend_from_slice(b".\n")?;
-    Ok(())
+    let (branch, patch) = (branch.bytes(), patch.bytes());
+    joined(
+        alloc,
+        &[b"Branch ", branch, b" has no patch ", patch, b".\n"],
+    )
 }
 
 fn tell_holders(alloc: Global, state: &State, patch: &Name) -> Result<Vec<u8>, AllocError>
@@ -366,37 +343,32 @@ fn holders_line(alloc: Global, patch: &Name, branches: &[Name]) -> Result<Vec<u8
     ensures { IfOk result (λ text. text.items ≡ holders_line patch.now branches.now) }
 {
     if branches.is_empty() {
-        return joined(
-            alloc,
-            &[b"No branch has ".as_slice(), patch.bytes(), b".\n"],
-        );
+        return joined(alloc, &[b"No branch has ", patch.bytes(), b".\n"]);
     }
-    let words = joined(alloc, &[b"Branches with ".as_slice(), patch.bytes(), b":"])?;
-    names_line(alloc, &words, branches)
+    names_line(alloc, &[b"Branches with ", patch.bytes(), b":"], branches)
 }
 
 // Words, and names behind them: so many at most, and `..` where there are more.
-fn names_line(alloc: Global, words: &[u8], names: &[Name]) -> Result<Vec<u8>, AllocError>
-    ensures { IfOk result (λ text. text.items ≡ names_line words.now names.now) }
+fn names_line(alloc: Global, words: &[&[u8]], names: &[Name]) -> Result<Vec<u8>, AllocError>
+    ensures { IfOk result (λ text. text.items ≡ names_line (flat_map (λ part. part.now) words.now) names.now) }
 {
-    let mut text = Vec::from_slice(alloc, words)?;
+    let mut text = joined(alloc, words)?;
     let told = first_names(names);
     for name in told {
-        text.push(b' ')?;
-        text.extend_from_slice(name.bytes())?;
+        append_parts(&mut text, &[b" ", name.bytes()])?;
     }
     text.extend_from_slice(more_names(names).as_bytes())?;
-    text.push(b'\n')?;
     Ok(text)
 }
 
+// That there are more names than are told, where there are, and the end of the line.
 fn more_names(names: &[Name]) -> &'static str
-    ensures { result.now ≡ more_names names.now }
+    ensures { result.now ≡ more_names names.now ++ codes "\n" }
 {
     if names.len() > MOST_NAMES {
-        return " ..";
+        return " ..\n";
     }
-    ""
+    "\n"
 }
 
 fn first_names(names: &[Name]) -> &[Name]

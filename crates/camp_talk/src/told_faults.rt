@@ -1,12 +1,13 @@
 //! Why a command with a fault was not done.
-ghost use Rattle.std.specs.Prelude.{◌≡◌, ◌++◌, IfOk, take};
+ghost use Rattle.std.specs.Prelude.{◌≡◌, ◌++◌, IfOk, codes, take};
 ghost use Rattle.camp_script.specs.Lines.{lines_of};
-ghost use Rattle.camp_talk.specs.Whys.{account_of, awaited_text, body_rule, comes_of_another, cut_off, cut_text, fault_account, fault_cause, fault_lines, hint_text, is_no_command, line_at, may_record, misnamed_text, most_shown, no_name_text, rule, shown_line, word_text};
+ghost use Rattle.camp_talk.specs.Whys.{account_of, awaited_text, body_rule, comes_of_another, cut_off, cut_text, fault_account, fault_cause, fault_lines, hint_text, is_no_command, line_at, may_record, misnamed_text, most_shown, rule, shown_line, word_text};
 
 use crate::Account;
 use crate::asking::first_line;
 use crate::awaited::{Awaited, begins_command, is_record, left_by};
 use crate::questions::Reason;
+use crate::told::{both, joined};
 use crate::told_refusals::cure;
 use bstr::ByteSlice;
 use camp_script::{FaultKind, LineFault, without_end};
@@ -57,8 +58,8 @@ fn account_of(
     ensures { IfOk result (λ cause. cause ≡ account_of fault.now (lines_of command.now) answer.now awaited) }
 {
     let line = line_at(command, fault.line);
-    let told = fault_lines(alloc, fault.kind, line, answer, awaited)?;
-    Ok(Account::of(told, awaited))
+    let told = fault_lines(alloc, fault.kind, line, answer, awaited);
+    Account::of(told, awaited)
 }
 
 // Whether a fault comes of one before it: its line begins no command, and may be one of a body or a group that was
@@ -119,13 +120,11 @@ fn fault_lines(
 ) -> Result<Vec<u8>, AllocError>
     ensures { IfOk result (λ text. text.items ≡ fault_lines kind line.now answer.now awaited) }
 {
-    let mut text = Vec::from_slice(alloc, answer)?;
-    append_line(&mut text, line)?;
-    append_word(&mut text, kind, line)?;
-    text.extend_from_slice(hint_text(look_at(kind, line)).as_bytes())?;
-    text.extend_from_slice(rule(kind).as_bytes())?;
-    text.extend_from_slice(awaited_text(awaited).as_bytes())?;
-    Ok(text)
+    let hint = hint_text(look_at(kind, line)).as_bytes();
+    let awaited = awaited_text(awaited).as_bytes();
+    let rules = joined(alloc, &[hint, rule(kind).as_bytes(), awaited]);
+    let front = both(with_line(alloc, answer, line), word_text(alloc, kind, line));
+    both(front, rules)
 }
 
 // That the lines behind it are taken for its own, where they may be.
@@ -143,15 +142,12 @@ fn awaited_text(awaited: Awaited) -> &'static str
     }
 }
 
-/// Appends a line behind `>`, as much of it as is shown.
-pub(crate) fn append_line(text: &mut Vec<u8>, line: &[u8]) -> Result<(), AllocError>
-    ensures { IfOk result (λ _. text.new.items ≡ text.old.items ++ shown_line line.now) }
+/// An answer, and behind it the line of its command behind `>`, as much of it as is shown.
+pub(crate) fn with_line(alloc: Global, answer: &[u8], line: &[u8]) -> Result<Vec<u8>, AllocError>
+    ensures { IfOk result (λ text. text.items ≡ answer.now ++ shown_line line.now) }
 {
-    text.push(b'>')?;
-    text.extend_from_slice(shown(line))?;
-    text.push(b'\n')?;
-    text.extend_from_slice(cut_text(line).as_bytes())?;
-    Ok(())
+    let end = shown_end(line).as_bytes();
+    joined(alloc, &[answer, b">", shown(line), end])
 }
 
 // The front of a line, as much as is shown.
@@ -161,44 +157,50 @@ fn shown(line: &[u8]) -> &[u8]
     &line[..SHOWN.min(line.len())]
 }
 
-// That not all bytes of a line are shown.
-fn cut_text(line: &[u8]) -> &'static str
-    ensures { result.now ≡ cut_text line.now }
+// What stands behind the front of a line that is shown: its LF, and where it has more bytes, that.
+fn shown_end(line: &[u8]) -> &str
+    ensures { result.now ≡ codes "\n" ++ cut_text line.now }
 {
     if line.len() > SHOWN {
-        return "Its first 200 bytes are shown, and it has more.\n";
+        return "\nIts first 200 bytes are shown, and it has more.\n";
     }
-    ""
+    "\n"
 }
 
-// Appends which word has the fault, where it is one among many.
-fn append_word(text: &mut Vec<u8>, kind: FaultKind, line: &[u8]) -> Result<(), AllocError>
-    ensures { IfOk result (λ _. text.new.items ≡ text.old.items ++ word_text kind line.now) }
+// Which word has the fault, where it is one among many.
+fn word_text(alloc: Global, kind: FaultKind, line: &[u8]) -> Result<Vec<u8>, AllocError>
+    ensures { IfOk result (λ text. text.items ≡ word_text kind line.now) }
 {
     match kind {
-        FaultKind::BadName => append_misnamed(text, misnamed(line)),
-        _ => Ok(()),
+        FaultKind::BadName => misnamed_text(alloc, misnamed(line)),
+        _ => Ok(Vec::new(alloc)),
     }
 }
 
-fn append_misnamed(text: &mut Vec<u8>, word: &[u8]) -> Result<(), AllocError>
-    ensures { IfOk result (λ _. text.new.items ≡ text.old.items ++ misnamed_text word.now) }
+fn misnamed_text(alloc: Global, word: &[u8]) -> Result<Vec<u8>, AllocError>
+    ensures { IfOk result (λ text. text.items ≡ misnamed_text word.now) }
 {
     if word.len() > SHOWN {
-        text.extend_from_slice(b"A word of more than 200 bytes is no name.\n")?;
-        return Ok(());
+        return Vec::from_slice(alloc, b"A word of more than 200 bytes is no name.\n");
     }
-    append_no_name(text, word)
+    joined(alloc, &[b"This is no name: ", word, b"\n"])
 }
 
-fn append_no_name(text: &mut Vec<u8>, word: &[u8]) -> Result<(), AllocError>
-    ensures { IfOk result (λ _. text.new.items ≡ text.old.items ++ no_name_text word.now) }
-{
-    text.extend_from_slice(b"This is no name: ")?;
-    text.extend_from_slice(word)?;
-    text.push(b'\n')?;
-    Ok(())
-}
+// That a line of a body is empty.
+const EMPTY: &str = "It is empty: for an empty line of the file write - or + alone.\n\
+    If the body was to be over, a line that is just end is missing.\n";
+
+// That a line of a body begins with a blank.
+const BLANK: &str = "It begins with a blank: the sign comes first, and end stands alone.\n\
+    If the body was to be over, a line that is just end is missing.\n";
+
+// That an edit reaches too far.
+const TOO_FAR: &str =
+    "The edit reaches too far: LINE and the numbers of lines of both sides add up to too much.\n";
+
+// That a line of a body has no sign.
+const NO_SIGN: &str =
+    "It has no sign, - or +. If the body was to be over, a line that is just end is missing.\n";
 
 // What is to be seen in the line.
 fn hint_text(hint: Hint) -> &'static str
@@ -231,23 +233,13 @@ fn hint_text(hint: Hint) -> &'static str
         Hint::Capitals => "It has a capital letter: commands, names and end have none.\n",
         Hint::Zero => "The number is 0, and the least is 1.\n",
         Hint::ZeroInFront => "The number begins with 0: write it without a zero in front.\n",
-        Hint::Empty => {
-            "It is empty: for an empty line of the file write - or + alone.\n\
-            If the body was to be over, a line that is just end is missing.\n"
-        }
-        Hint::Blank => {
-            "It begins with a blank: the sign comes first, and end stands alone.\n\
-            If the body was to be over, a line that is just end is missing.\n"
-        }
+        Hint::Empty => EMPTY,
+        Hint::Blank => BLANK,
         Hint::NoLine => "The body has no line: both sides are empty.\n",
-        Hint::TooFar => {
-            "The edit reaches too far: LINE and the numbers of lines of both sides add up to too much.\n"
-        }
+        Hint::TooFar => TOO_FAR,
         Hint::MoreThanEnd => "It begins with end and is more: just end ends a body.\n",
         Hint::OldBehindNew => "An old line stands behind a new one: all - come before all +.\n",
-        Hint::NoSign => {
-            "It has no sign, - or +. If the body was to be over, a line that is just end is missing.\n"
-        }
+        Hint::NoSign => NO_SIGN,
     }
 }
 

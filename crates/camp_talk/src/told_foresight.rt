@@ -1,10 +1,11 @@
 //! What a call would come to, as a text.
-ghost use Rattle.std.specs.Prelude.{◌≡◌, ◌++◌, IfOk, OnOk};
+ghost use Rattle.std.specs.Prelude.{◌≡◌, IfOk};
 ghost use Rattle.camp_questions.specs.Foresight.{Foresees};
 ghost use Rattle.camp_questions.specs.declared.foresight.Foreseen.{Foreseen as SaidForeseen};
+ghost use Rattle.camp_script.specs.Texts.{reply_text};
 ghost use Rattle.camp_talk.specs.Told.{foreseen_told, standing_text};
 
-use crate::told::counted;
+use crate::told::{both, counted_text};
 use camp_questions::{Foreseen, Standing, what_if};
 use camp_repo::{Call, Reply, State};
 use camp_script::answer_text;
@@ -30,23 +31,23 @@ pub(crate) fn tell_foreseen(
 fn tell_seen(alloc: Global, seen: Foreseen) -> Result<Vec<u8>, AllocError>
     ensures { IfOk result (λ text. text.items ≡ foreseen_told seen) }
 {
-    let mut text = answer_text(alloc, &Ok(seen.reply))?;
-    append_standing(alloc, &mut text, seen.changed)?;
-    counted(alloc, "whatif", &text)
+    let reply = reply_text(alloc, seen.reply);
+    let text = both(reply, standing_text(alloc, seen.changed));
+    counted_text(alloc, "whatif", text)
 }
 
-fn append_standing(
-    alloc: Global,
-    text: &mut Vec<u8>,
-    standing: Option<Standing>,
-) -> Result<(), AllocError>
-    ensures { OnOk result (text.new.items ≡ text.old.items ++ standing_text standing) }
+fn standing_text(alloc: Global, standing: Option<Standing>) -> Result<Vec<u8>, AllocError>
+    ensures { IfOk result (λ text. text.items ≡ standing_text standing) }
 {
     let Some(standing) = standing else {
-        return Ok(());
+        return Ok(Vec::new(alloc));
     };
-    let conflicts = answer_text(alloc, &Ok(Reply::Conflicts(standing.conflicts)))?;
-    text.extend_from_slice(&conflicts)?;
-    let tree = answer_text(alloc, &Ok(Reply::Tree(standing.tree)))?;
-    text.extend_from_slice(&tree)
+    let conflicts = reply_text(alloc, Reply::Conflicts(standing.conflicts));
+    both(conflicts, reply_text(alloc, Reply::Tree(standing.tree)))
+}
+
+fn reply_text(alloc: Global, reply: Reply) -> Result<Vec<u8>, AllocError>
+    ensures { IfOk result (λ text. text.items ≡ reply_text reply) }
+{
+    answer_text(alloc, &Ok(reply))
 }

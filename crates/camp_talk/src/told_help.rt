@@ -5,7 +5,7 @@ ghost use Rattle.camp_talk.specs.Help.{command_text, commands, details, example,
 ghost use Rattle.camp_talk.specs.Told.{help_told};
 
 use crate::Topic;
-use crate::told::counted;
+use crate::told::{counted_text, joined};
 use crate::told_refusals::{all_sayings, refusal_text};
 use std::alloc::{AllocError, Global};
 
@@ -13,8 +13,7 @@ use std::alloc::{AllocError, Global};
 pub(crate) fn tell_help(alloc: Global, topic: Topic) -> Result<Vec<u8>, AllocError>
     ensures { IfOk result (λ text. text.items ≡ help_told topic) }
 {
-    let text = help_text(alloc, topic)?;
-    counted(alloc, "help", &text)
+    counted_text(alloc, "help", help_text(alloc, topic))
 }
 
 fn help_text(alloc: Global, topic: Topic) -> Result<Vec<u8>, AllocError>
@@ -31,12 +30,10 @@ fn help_text(alloc: Global, topic: Topic) -> Result<Vec<u8>, AllocError>
 fn command_text(alloc: Global, topic: Topic) -> Result<Vec<u8>, AllocError>
     ensures { IfOk result (λ text. text.items ≡ command_text topic) }
 {
-    let mut text = Vec::new(alloc);
-    text.extend_from_slice(summary(topic).as_bytes())?;
-    text.extend_from_slice(details(topic).as_bytes())?;
-    text.extend_from_slice(b"Example:\n")?;
-    text.extend_from_slice(example(topic).as_bytes())?;
-    Ok(text)
+    let summary = summary(topic).as_bytes();
+    let details = details(topic).as_bytes();
+    let example = example(topic).as_bytes();
+    joined(alloc, &[summary, details, b"Example:\n", example])
 }
 
 fn all_summaries(alloc: Global) -> Result<Vec<u8>, AllocError>
@@ -82,6 +79,18 @@ pub(crate) fn commands() -> [Topic; 24]
     ]
 }
 
+// How a patch is recorded.
+const RECORD_FORMS: &str = "record BRANCH NAME add PATH: record a patch that adds a file\n\
+    record BRANCH NAME remove PATH: record a patch that removes a file without lines\n\
+    record BRANCH NAME edit PATH LINE: record an edit; its body follows, up to end\n\
+    record BRANCH NAME group: record several changes, which follow, up to done\n";
+
+// How help is asked for.
+const HELP_FORMS: &str = "help: all commands\n\
+    help COMMAND: more about one\n\
+    help refused: what the refusals say\n\
+    help refused NUMBER: one of them, and what can be done\n";
+
 // How a command is written, and what it does, in a line for each of its forms.
 fn summary(topic: Topic) -> &'static str
     ensures { result.now ≡ summary topic }
@@ -89,12 +98,7 @@ fn summary(topic: Topic) -> &'static str
     match topic {
         Topic::Commands | Topic::Refusals | Topic::Refusal(_) => "",
         Topic::Branch => "branch NEW FROM: make a branch that is a copy of another\n",
-        Topic::Record => {
-            "record BRANCH NAME add PATH: record a patch that adds a file\n\
-            record BRANCH NAME remove PATH: record a patch that removes a file without lines\n\
-            record BRANCH NAME edit PATH LINE: record an edit; its body follows, up to end\n\
-            record BRANCH NAME group: record several changes, which follow, up to done\n"
-        }
+        Topic::Record => RECORD_FORMS,
         Topic::Pull => {
             "pull FROM TO: bring to TO all patches of FROM that it lacks\n\
             pull FROM TO NAME ..: bring those of these names\n"
@@ -125,14 +129,24 @@ fn summary(topic: Topic) -> &'static str
         Topic::Why => "why: the cause of the last fault or refusal, and what can be done\n",
         Topic::History => "history: the accepted commands\n",
         Topic::Keep => "keep: a script that gives the repository back\n",
-        Topic::Help => {
-            "help: all commands\n\
-            help COMMAND: more about one\n\
-            help refused: what the refusals say\n\
-            help refused NUMBER: one of them, and what can be done\n"
-        }
+        Topic::Help => HELP_FORMS,
     }
 }
+
+// What `marks` tells.
+const MARKS: &str =
+    "Lines behind =. At each place conflict SIDES LINES, and what stands there; then of each\n\
+    patch side NAME LINES, and behind + what it would put there.\n";
+
+// What `graph` draws.
+const GRAPH: &str = "Where patches are named: these, what they need, and what needs them.\n\
+    An arrow leads to what a patch needs directly; a line joins two in conflict, which is red\n\
+    and bold where it is open, and dashed and pale where it is settled.\n";
+
+// What `why` tells.
+const WHY: &str =
+    "Its answer, and its line behind >. Of a refusal what that says, what stands against the command,\n\
+    and what can be done; of a fault what is to be seen in the line, and the rule.\n";
 
 // More about a command, where there is more to tell.
 fn details(topic: Topic) -> &'static str
@@ -160,22 +174,12 @@ fn details(topic: Topic) -> &'static str
         Topic::Open => "A patch recorded on top that touches the place settles a conflict.\n",
         Topic::Side =>
             "They can be recorded as a group: between record BRANCH NAME group and done.\n",
-        Topic::Marks => {
-            "Lines behind =. At each place conflict SIDES LINES, and what stands there; then of each\n\
-            patch side NAME LINES, and behind + what it would put there.\n"
-        }
-        Topic::Graph => {
-            "Where patches are named: these, what they need, and what needs them.\n\
-            An arrow leads to what a patch needs directly; a line joins two in conflict, which is red\n\
-            and bold where it is open, and dashed and pale where it is settled.\n"
-        }
+        Topic::Marks => MARKS,
+        Topic::Graph => GRAPH,
         Topic::WhatIf => {
             "If it would be accepted: the conflicts and the files that its branch would have, too.\n"
         }
-        Topic::Why => {
-            "Its answer, and its line behind >. Of a refusal what that says, what stands against the command,\n\
-            and what can be done; of a fault what is to be seen in the line, and the rule.\n"
-        }
+        Topic::Why => WHY,
         Topic::History => "Of each its number, its seat, which is 0, and its words.\n",
         _ => "",
     }

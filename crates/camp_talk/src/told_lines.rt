@@ -1,10 +1,12 @@
 //! The lines of a file, and the patches that put them there.
 ghost use Rattle.std.specs.Prelude.{◌≡◌, IfOk};
 ghost use Rattle.std.specs.List.{flat_map, zip};
+ghost use Rattle.camp_script.specs.Signs.{equals_sign};
+ghost use Rattle.camp_script.specs.Texts.{signed_line};
 ghost use Rattle.camp_talk.specs.Inside.Said.{TellsFound};
 ghost use Rattle.camp_talk.specs.Told.{annotated_line, annotated_told, file_told, no_file_told};
 
-use crate::told::{counted, unanswered};
+use crate::told::{append_parts, counted_text, unanswered};
 use camp_base::{Line, Name};
 use camp_questions::{Annotated, Unanswered};
 use camp_script::append_lines;
@@ -20,8 +22,7 @@ pub(crate) fn tell_annotated(
 {
     match found {
         Ok(Annotated::File { lines, names }) => {
-            let text = annotated_lines(alloc, &lines, &names)?;
-            counted(alloc, "annotate", &text)
+            counted_text(alloc, "annotate", annotated_lines(alloc, &lines, &names))
         }
         Ok(Annotated::NoFile) => no_file(alloc),
         Err(why) => unanswered(alloc, why),
@@ -43,14 +44,18 @@ pub(crate) fn tell_file(
     ensures { IfOk result (λ text. TellsFound file_told found text.items) }
 {
     match found {
-        Ok(Some(lines)) => {
-            let mut text = Vec::new(alloc);
-            append_lines(&mut text, b'=', &lines)?;
-            counted(alloc, "file", &text)
-        }
+        Ok(Some(lines)) => counted_text(alloc, "file", file_lines(alloc, &lines)),
         Ok(None) => no_file(alloc),
         Err(why) => unanswered(alloc, why),
     }
+}
+
+fn file_lines(alloc: Global, lines: &SharedList<Line>) -> Result<Vec<u8>, AllocError>
+    ensures { IfOk result (λ text. text.items ≡ flat_map (signed_line equals_sign) lines.now) }
+{
+    let mut text = Vec::new(alloc);
+    append_lines(&mut text, b'=', lines)?;
+    Ok(text)
 }
 
 fn annotated_lines(
@@ -62,10 +67,7 @@ fn annotated_lines(
 {
     let mut text = Vec::new(alloc);
     for (line, name) in lines.iter().zip(names.iter()) {
-        text.extend_from_slice(name.bytes())?;
-        text.extend_from_slice(b" =")?;
-        text.extend_from_slice(line.bytes())?;
-        text.push(b'\n')?;
+        append_parts(&mut text, &[name.bytes(), b" =", line.bytes(), b"\n"])?;
     }
     Ok(text)
 }

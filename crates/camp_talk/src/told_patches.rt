@@ -4,7 +4,7 @@ ghost use Rattle.std.specs.List.{flat_map};
 ghost use Rattle.camp_talk.specs.Inside.Said.{TellsFound};
 ghost use Rattle.camp_talk.specs.Told.{catch_line, patch_told};
 
-use crate::told::{counted, unanswered};
+use crate::told::{append_parts, both, counted_text, unanswered};
 use camp_catch::Catch;
 use camp_notation::catch_text;
 use camp_questions::{Shown, Unanswered};
@@ -21,9 +21,9 @@ pub(crate) fn tell_shown(
 {
     match found {
         Ok(patch) => {
-            let mut text = catch_lines(alloc, patch.catches())?;
-            text.extend_from_slice(&changes_text(alloc, patch.changes())?)?;
-            counted(alloc, "show", &text)
+            let catches = catch_lines(alloc, patch.catches());
+            let text = both(catches, changes_text(alloc, patch.changes()));
+            counted_text(alloc, "show", text)
         }
         Err(why) => unanswered(alloc, why),
     }
@@ -34,8 +34,8 @@ fn catch_lines(alloc: Global, catches: &[Shared<Catch>]) -> Result<Vec<u8>, Allo
 {
     let mut text = Vec::new(alloc);
     for catch in catches {
-        text.extend_from_slice(catch_text(alloc, &[], catch)?.as_bytes())?;
-        text.push(b'\n')?;
+        let told = catch_text(alloc, &[], catch)?;
+        append_parts(&mut text, &[told.as_bytes(), b"\n"])?;
     }
     Ok(text)
 }

@@ -4,6 +4,7 @@ ghost use Rattle.std.specs.List.{flat_map};
 ghost use Rattle.camp_talk.specs.Refusals.{cure, number_of, reasons, refusal_text, saying};
 
 use crate::questions::Reason;
+use crate::told::joined;
 use std::alloc::{AllocError, Global};
 
 /// What each refusal says.
@@ -22,10 +23,7 @@ pub(crate) fn all_sayings(alloc: Global) -> Result<Vec<u8>, AllocError>
 pub(crate) fn refusal_text(alloc: Global, reason: Reason) -> Result<Vec<u8>, AllocError>
     ensures { IfOk result (λ text. text.items ≡ refusal_text reason) }
 {
-    let mut text = Vec::new(alloc);
-    text.extend_from_slice(saying(reason).as_bytes())?;
-    text.extend_from_slice(cure(reason).as_bytes())?;
-    Ok(text)
+    joined(alloc, &[saying(reason).as_bytes(), cure(reason).as_bytes()])
 }
 
 /// Why something is refused, in the order of the numbers.

@@ -1,5 +1,5 @@
 //! Why a command was not done.
-ghost use Rattle.std.specs.Prelude.{◌≡◌, ◌++◌, IfOk, Result};
+ghost use Rattle.std.specs.Prelude.{◌≡◌, ◌++◌, IfOk, Result, codes};
 ghost use Rattle.std.specs.Fmt.{decimal};
 ghost use Rattle.camp_script.specs.Gives.{Gives};
 ghost use Rattle.camp_script.specs.Lines.{lines_of, words_of};
@@ -7,19 +7,18 @@ ghost use Rattle.camp_script.specs.declared.faults.LineFault.{LineFault as SaidF
 ghost use Rattle.camp_talk.specs.Asking.{first_of};
 ghost use Rattle.camp_talk.specs.Whys.{against_text, cause_for, cause_found, cause_text, cause_told, cause_with, change_text, cure_at, ends_text, facts_text, found_cure, found_text, hindrance_text, is_failure, lacks_text, limit_cure, met_text, misfit_text, reason_in, refusal_lines, refusal_told, stop_text, trimmed, two_numbers, why_told};
 ghost use Rattle.camp_talk.specs.declared.questions.Asked.{Asked as SaidAsked};
-ghost use Rattle.camp_why.specs.declared.causes.Cause.TheVariants.{LongSide};
 ghost use Rattle.camp_why.specs.declared.misfits.Misfit.TheVariants.{EndsBefore};
 
 use crate::Account;
 use crate::asking::first_line;
 use crate::awaited::Awaited;
 use crate::questions::{Asked, Reason};
-use crate::told::counted;
+use crate::told::{both, counted, joined};
 use crate::told_against::{
     depends_cure, record_cure, tell_absent, tell_branches, tell_lacked, tell_new, tell_nothing,
     tell_recorded, tell_sides,
 };
-use crate::told_faults::{append_line, fault_cause};
+use crate::told_faults::{fault_cause, with_line};
 use crate::told_refusals::{cure, saying};
 use crate::topics::reason_at;
 use camp_base::{Line, Path};
@@ -68,8 +67,8 @@ pub(crate) fn cause_of(
     match asked {
         Ok(asked) => {
             let line = first_line(command);
-            let told = refusal_lines(alloc, state, asked, line, answer, reason_in(answer))?;
-            Ok(Account::of(told, Awaited::Nothing))
+            let told = refusal_lines(alloc, state, asked, line, answer, reason_in(answer));
+            Account::of(told, Awaited::Nothing)
         }
         Err(ScriptFault::Line(fault)) => fault_cause(alloc, before, fault, command, answer),
         Err(ScriptFault::Memory) => Err(AllocError),
@@ -121,8 +120,7 @@ fn refusal_told(
     ensures { IfOk result (λ text. text.items ≡ refusal_told state.now asked.now line.now answer.now found.now reason) }
 {
     let against = against_text(alloc, state, asked, found, reason)?;
-    let mut text = Vec::from_slice(alloc, answer)?;
-    append_line(&mut text, line)?;
+    let mut text = with_line(alloc, answer, line)?;
     text.extend_from_slice(saying(reason).as_bytes())?;
     text.extend_from_slice(&against)?;
     text.extend_from_slice(cure_at(state, asked, found, reason).as_bytes())?;
@@ -139,10 +137,8 @@ fn against_text(
 ) -> Result<Vec<u8>, AllocError>
     ensures { IfOk result (λ text. text.items ≡ against_text state.now asked.now found.now reason) }
 {
-    let mut text = tell_sides(alloc, asked)?;
-    let facts = facts_text(alloc, state, asked, found, reason)?;
-    text.extend_from_slice(&facts)?;
-    Ok(text)
+    let sides = tell_sides(alloc, asked);
+    both(sides, facts_text(alloc, state, asked, found, reason))
 }
 
 // What is there and what is not: what a refusal is about, by the cause that was found.
@@ -238,10 +234,12 @@ fn cause_text(alloc: Global, cause: &Cause) -> Result<Vec<u8>, AllocError>
     ensures { IfOk result (λ text. text.items ≡ cause_text cause.now) }
 {
     match cause {
-        Cause::FullRepository(count) => {
-            let text = format!(in alloc; "There are {count} branches, and 256 is the most.\n")?;
-            Ok(text.into_bytes())
-        }
+        Cause::FullRepository(count) => one_number(
+            alloc,
+            "There are ",
+            *count,
+            " branches, and 256 is the most.\n",
+        ),
         Cause::FullBranch { has, more } => two_numbers(
             alloc,
             "The branch has ",
@@ -263,77 +261,71 @@ fn cause_text(alloc: Global, cause: &Cause) -> Result<Vec<u8>, AllocError>
             path,
             old,
             new,
-        } => long_text(alloc, *change, path, *old, *new),
+        } => both(
+            change_text(alloc, *change, path),
+            long_text(alloc, *old, *new),
+        ),
         Cause::Stops(stop) => stop_text(alloc, stop),
     }
 }
 
+// A text with a number.
+fn one_number(alloc: Global, front: &str, number: usize, back: &str) -> Result<Vec<u8>, AllocError>
+    ensures { IfOk result (λ text. text.items ≡ front.now ++ decimal number ++ back.now) }
+{
+    let mut digits = Buffer::new();
+    let number = digits.format(number).as_bytes();
+    joined(alloc, &[front.as_bytes(), number, back.as_bytes()])
+}
+
 // A text with two numbers.
-fn two_numbers(
+fn two_numbers<'a>(
     alloc: Global,
-    front: &str,
+    front: &'a str,
     first: usize,
-    middle: &str,
+    middle: &'a str,
     second: usize,
-    back: &str,
+    back: &'a str,
 ) -> Result<Vec<u8>, AllocError>
     ensures { IfOk result (λ text. text.items ≡ two_numbers front.now first middle.now second back.now) }
 {
-    let mut text = Vec::from_slice(alloc, front.as_bytes())?;
-    append_number(&mut text, first)?;
-    text.extend_from_slice(middle.as_bytes())?;
-    append_number(&mut text, second)?;
-    text.extend_from_slice(back.as_bytes())?;
-    Ok(text)
-}
-
-fn append_number(text: &mut Vec<u8>, number: usize) -> Result<(), AllocError>
-    ensures { IfOk result (λ _. text.new.items ≡ text.old.items ++ decimal number) }
-{
     let mut digits = Buffer::new();
-    text.extend_from_slice(digits.format(number).as_bytes())?;
-    Ok(())
+    let first = digits.format(first).as_bytes();
+    let mut digits = Buffer::new();
+    let second = digits.format(second).as_bytes();
+    let (front, middle, back) = (front.as_bytes(), middle.as_bytes(), back.as_bytes());
+    joined(alloc, &[front, first, middle, second, back])
 }
 
 // The number of a change, and the path of its file.
 fn change_text(alloc: Global, change: usize, path: &Path) -> Result<Vec<u8>, AllocError>
     ensures { IfOk result (λ text. text.items ≡ change_text change path.now) }
 {
-    let mut text = format!(in alloc; "Change {change}, file ")?.into_bytes();
-    text.extend_from_slice(path.bytes())?;
-    Ok(text)
+    let mut digits = Buffer::new();
+    let change = digits.format(change).as_bytes();
+    joined(alloc, &[b"Change ", change, b", file ", path.bytes()])
 }
 
 // That an edit has a side that is too long.
-fn long_text(
-    alloc: Global,
-    change: usize,
-    path: &Path,
-    old: usize,
-    new: usize,
-) -> Result<Vec<u8>, AllocError>
-    ensures { IfOk result (λ text. text.items ≡ cause_text (LongSide change path.now old new)) }
+fn long_text(alloc: Global, old: usize, new: usize) -> Result<Vec<u8>, AllocError>
+    ensures { IfOk result (λ text. text.items ≡
+        two_numbers (codes ": the edit has ") old (codes " old lines and ") new (codes " new ones, and 65535 is the most of each.\n")) }
 {
-    let mut text = change_text(alloc, change, path)?;
-    let sides = two_numbers(
+    two_numbers(
         alloc,
         ": the edit has ",
         old,
         " old lines and ",
         new,
         " new ones, and 65535 is the most of each.\n",
-    )?;
-    text.extend_from_slice(&sides)?;
-    Ok(text)
+    )
 }
 
 fn stop_text(alloc: Global, stop: &Stop) -> Result<Vec<u8>, AllocError>
     ensures { IfOk result (λ text. text.items ≡ stop_text stop.now) }
 {
-    let mut text = change_text(alloc, stop.change, &stop.path)?;
-    let why = hindrance_text(alloc, &stop.why)?;
-    text.extend_from_slice(&why)?;
-    Ok(text)
+    let change = change_text(alloc, stop.change, &stop.path);
+    both(change, hindrance_text(alloc, &stop.why))
 }
 
 fn hindrance_text(alloc: Global, why: &Hindrance) -> Result<Vec<u8>, AllocError>
@@ -341,12 +333,12 @@ fn hindrance_text(alloc: Global, why: &Hindrance) -> Result<Vec<u8>, AllocError>
 {
     match why {
         Hindrance::Misfit(misfit) => misfit_text(alloc, misfit),
-        Hindrance::TooLong(count) => {
-            let text = format!(in alloc;
-                ": it would have {count} lines, and 1000000 is the most.\n"
-            )?;
-            Ok(text.into_bytes())
-        }
+        Hindrance::TooLong(count) => one_number(
+            alloc,
+            ": it would have ",
+            *count,
+            " lines, and 1000000 is the most.\n",
+        ),
     }
 }
 
@@ -356,12 +348,12 @@ fn misfit_text(alloc: Global, misfit: &Misfit) -> Result<Vec<u8>, AllocError>
     match misfit {
         Misfit::FileIsThere => Vec::from_slice(alloc, b": it is there already.\n"),
         Misfit::NoFile => Vec::from_slice(alloc, b": there is none.\n"),
-        Misfit::HasLines(count) => {
-            let text = format!(in alloc;
-                ": its number of lines is {count}, and remove wants a file without lines.\n"
-            )?;
-            Ok(text.into_bytes())
-        }
+        Misfit::HasLines(count) => one_number(
+            alloc,
+            ": its number of lines is ",
+            *count,
+            ", and remove wants a file without lines.\n",
+        ),
         Misfit::EndsBefore {
             has,
             wants,
@@ -389,26 +381,27 @@ fn ends_before_text(
 ) -> Result<Vec<u8>, AllocError>
     ensures { IfOk result (λ text. text.items ≡ misfit_text (EndsBefore has wants at lacks.now)) }
 {
-    let mut text = two_numbers(
+    let text = two_numbers(
         alloc,
         ": its number of lines is ",
         has,
         ", and the edit wants ",
         wants,
         " or more.\n",
-    )?;
-    let lacked = lacks_text(alloc, at, lacks)?;
-    text.extend_from_slice(&lacked)?;
-    Ok(text)
+    );
+    both(text, lacks_text(alloc, at, lacks))
 }
 
 // That LINE of an edit without old lines is too great.
 fn too_far_text(alloc: Global, at: usize) -> Result<Vec<u8>, AllocError>
     ensures { IfOk result (λ text. text.items ≡ lacks_text at None) }
 {
-    Ok(format!(in alloc;
-        "LINE is {at}: it is at most one more than the file has lines.\n"
-    )?.into_bytes())
+    one_number(
+        alloc,
+        "LINE is ",
+        at,
+        ": it is at most one more than the file has lines.\n",
+    )
 }
 
 // The old line that finds none, and the line at which it would stand.
@@ -427,15 +420,23 @@ fn lacks_text(alloc: Global, at: usize, lacks: &Option<Line>) -> Result<Vec<u8>,
 }
 
 // That another line stands there than an edit takes away.
-fn met_text(alloc: Global, at: usize, stands: &[u8], expected: &[u8]) -> Result<Vec<u8>, AllocError>
-    ensures { IfOk result (λ text. text.items ≡ met_text at stands.now expected.now) }
+fn met_text(alloc: Global, at: usize, there: &[u8], expected: &[u8]) -> Result<Vec<u8>, AllocError>
+    ensures { IfOk result (λ text. text.items ≡ met_text at there.now expected.now) }
 {
-    let mut text = format!(in alloc; ": line {at} is\n=")?.into_bytes();
-    text.extend_from_slice(stands)?;
-    text.extend_from_slice(b"\nand the edit takes away\n-")?;
-    text.extend_from_slice(expected)?;
-    text.push(b'\n')?;
-    Ok(text)
+    let mut digits = Buffer::new();
+    let at = digits.format(at).as_bytes();
+    joined(
+        alloc,
+        &[
+            b": line ",
+            at,
+            b" is\n=",
+            there,
+            b"\nand the edit takes away\n-",
+            expected,
+            b"\n",
+        ],
+    )
 }
 
 // That two lines differ at their ends alone, where they do.

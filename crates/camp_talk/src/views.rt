@@ -13,6 +13,7 @@ use crate::lines::hold;
 use crate::questions::{Asked, Question};
 use crate::readings::{count_lines, read_command};
 use crate::tellings::answer_at;
+use crate::told::joined;
 use crate::{State, TalkFault};
 use camp_repo::{Call, Decided};
 use camp_script::{ScriptFault, answer_text};
@@ -131,6 +132,6 @@ fn beyond_text(alloc: Global, before: u64) -> Result<Vec<u8>, AllocError>
     ensures { IfOk result (λ text. text.items ≡ beyond_text (before + 1)) }
 {
     let mut number = Buffer::new();
-    let line = number.format(u128::from(before) + 1);
-    Ok(format!(in alloc; "fault {line} not asked of a view\n")?.into_bytes())
+    let line = number.format(u128::from(before) + 1).as_bytes();
+    joined(alloc, &[b"fault ", line, b" not asked of a view\n"])
 }
