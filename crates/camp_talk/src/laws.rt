@@ -40,8 +40,8 @@ pub fn faults_are_told()
     ensures law { FaultsAreTold }
 {}
 
-/// What is kept waits for lines of a body or a group only where a record was cut off by a fault in its first line, and
-/// each command behind it is one of these lines.
+/// What is kept waits for lines of a body or a group only where a record was cut off by a fault in its first line, or a
+/// line that may be one was no command, and each command behind it is one of these lines.
 pub fn records_are_awaited()
     ensures law { RecordsAreAwaited }
 {}

@@ -3,7 +3,7 @@ use camp_base::{Name, Path};
 use camp_call::{Call, Names};
 
 /// A question. It changes nothing.
-#[derive(Drop)]
+#[derive(Debug, Drop)]
 pub enum Question {
     /// What patches need in a branch.
     Needs { branch: Name, names: Names },
@@ -41,7 +41,7 @@ pub enum Question {
 }
 
 /// What is asked for help on: all commands, or one; all refusals, or one.
-#[derive(Clone, Copy)]
+#[derive(Clone, Copy, Debug)]
 pub enum Topic {
     Commands,
     Refusals,
@@ -73,7 +73,7 @@ pub enum Topic {
 }
 
 /// Why something is refused, in the order of the numbers: the first is 1.
-#[derive(Clone, Copy)]
+#[derive(Clone, Copy, Debug)]
 pub enum Reason {
     BadName,
     BadPath,
