@@ -1,7 +1,7 @@
 -- With room, whether two lists merge cleanly does not depend on the order of their elements.
 use Rattle.camp_seq.proofs.Words.{◌≡◌, List, [], ◌∷◌, ◌++◌, refl, sym, ap, ◌∙◌, subst, append_assoc, inverse_of, Commute, Named, CommutesOnce, ◌~◌, same, exchanged, backwards, through, CleanMerge, Passes, PassesAll, HasRoom, inverse_all}
 use Rattle.camp_prim.proofs.CommuteLaws.{inverse}
-use Rattle.camp_seq.specs.Room.{HasRoomToMerge, MergesInAnyOrder}
+use Rattle.camp_seq.specs.Room.{HasRoomToMerge, MergeCleanly, MergesInAnyOrder}
 use Rattle.camp_seq.proofs.LawOfThree.{law_of_three}
 use Rattle.camp_seq.proofs.ListEquivalence.{all_passed, before, behind, equal_are, joined, swapped}
 use Rattle.camp_seq.proofs.ListRuns.{inverse_all-cons, inverse_all-append}
@@ -84,9 +84,16 @@ room_in_any_order s u t v room e f = record {
   back = room_of_equivalent _ _ (joined (inverse_all t) (inverse_all v) s u (inverses t v f) e) room.back;
 }
 
-pub merges_in_any_order : MergesInAnyOrder
+pub merges_in_any_order : (s u t v : List Named) → HasRoomToMerge s t → s ~ u → t ~ v → (t' s' : List Named) → CleanMerge s t t' s' → MergeCleanly u v
 merges_in_any_order s u t v room e f t' s' m =
     let first = first_in_any_order s u t t' s' room.forth e m in
     let there = room_in_any_order s u t t room e same in
     let second = first_in_any_order t v u first.0 t' there.back f (merge_is_symmetric u t t' first.0 first.1) in
     (second.0, first.0, merge_is_symmetric v u first.0 second.0 second.1)
+
+pub merging_in_any_order : MergesInAnyOrder
+merging_in_any_order s u t v room e f =
+    let there = room_in_any_order s u t v room e f in (
+      there,
+      (λ m. merges_in_any_order s u t v room e f m.0 m.1 m.2, λ m. merges_in_any_order u s v t there (backwards e) (backwards f) m.0 m.1 m.2),
+    )

@@ -1,5 +1,6 @@
 -- Two lists whose greatest line and all whose old and new lines are within the limit of a hunk have room to merge.
-use Rattle.std.specs.Prelude.{IfSome, MatchOption}
+use Rattle.std.specs.Prelude.{◌<◌, MatchOption}
+use Rattle.camp_base.specs.Limits.{greatest_reach}
 use Rattle.camp_seq.proofs.Words.{None, Option, Some, ◌≡◌, ℕ, ◌+◌, ◌≤◌, ◌^◌, max, List, [], ◌∷◌, ◌++◌, drop, length, length-drop, at_drop_all, refl, sym, ap, subst, arith, All, All-nil, All-cons, All-head, All-tail, InRange, inverse_of, Primitive, Named, inverse_all, line_of, sides_of, greatest_line, all_sides, reach_of}
 use Rattle.camp_prim.specs.Effect.{inverted}
 use Rattle.camp_prim.specs.declared.primitives.Primitive.TheVariants.{Add, Remove, Hunk}
@@ -75,9 +76,20 @@ shape_with s p line more g m r first then found = record {
   small = found.small;
 }
 
-pub shape_told : (s : List Named) (p : Named) (line more : ℕ) (TooMuch : Type 0) → InRange p.prim → line ≡ line_of p.prim → more ≡ sides_of p.prim → (found : Option (ℕ × ℕ)) → MatchOption found TooMuch (λ x. GoesOnTo s line more x.0 x.1) → IfSome found (λ x. IsShape (s ++ p ∷ []) x.0 x.1)
-shape_told s p line more TooMuch r first then None w = tt
-shape_told s p line more TooMuch r first then (Some x) w = shape_with s p line more x.0 x.1 r first then w
+pub shape_told : (s : List Named) (p : Named) (line more : ℕ) → InRange p.prim → line ≡ line_of p.prim → more ≡ sides_of p.prim → (found : Option (ℕ × ℕ)) → MatchOption found (greatest_reach < more + all_sides s) (λ x. GoesOnTo s line more x.0 x.1) → MatchOption found (greatest_reach < all_sides (s ++ p ∷ [])) (λ x. IsShape (s ++ p ∷ []) x.0 x.1)
+shape_told s p line more r first then None w = omega (arith, w, then, sides-append s (p ∷ []))
+shape_told s p line more r first then (Some x) w = shape_with s p line more x.0 x.1 r first then w
+
+-- what looks at both lists have found, is how far both together reach
+pub both_reach : (s t : List Named) (g h m n : ℕ) → IsShape s g m → IsShape t h n → max g h + m + n ≡ reach_of (s ++ t)
+both_reach s t g h m n a b = omega (arith, a.top, a.all, b.top, b.all, line-append s t, sides-append s t)
+
+-- where a look at one list finds too much, both together reach too far
+pub first_too_far : (s t : List Named) → greatest_reach < all_sides s → ¬ (reach_of (s ++ t) ≤ greatest_reach)
+first_too_far s t much le = absurd (omega (arith, much, le, sides-append s t))
+
+pub second_too_far : (s t : List Named) → greatest_reach < all_sides t → ¬ (reach_of (s ++ t) ≤ greatest_reach)
+second_too_far s t much le = absurd (omega (arith, much, le, sides-append s t))
 
 -- what a walk over the whole list has found
 pub goes_on_to : (s : List Named) (line more g m i : ℕ) → length s ≤ i → (AllInRange (drop i s) → AllInRange s) → max g (greatest_line (drop i s)) ≡ max line (greatest_line s) → m + all_sides (drop i s) ≡ more + all_sides s → g ≤ 2 ^ 30 → m ≤ 2 ^ 30 → GoesOnTo s line more g m

@@ -1,5 +1,5 @@
 -- When every list that commuting neighbours makes of a list is in range.
-use Rattle.std.specs.Prelude.{◌≤◌, List, [], ◌∷◌, ◌++◌}
+use Rattle.std.specs.Prelude.{◌↔◌, ◌≤◌, List, [], ◌∷◌, ◌++◌}
 use Rattle.std.specs.List.{All}
 use Rattle.camp_base.specs.Limits.{greatest_reach}
 use Rattle.camp_prim.specs.Effect.{InRange}
@@ -44,8 +44,12 @@ pub record HasRoomToMerge (s t : List Named) : Type 0 where
   pub forth : HasRoom (inverse_all s ++ t)
   pub back : HasRoom (inverse_all t ++ s)
 
--- with room, whether two lists merge cleanly does not depend on the order of their elements
+-- two lists that begin in one state merge cleanly
+abbrev pub MergeCleanly : List Named → List Named → Type 0
+MergeCleanly s t = (t' : List Named) × (s' : List Named) × CleanMerge s t t' s'
+
+-- whether two lists have room to merge does not depend on the order of their elements; and with room, whether they merge
+-- cleanly does not either
 abbrev pub MergesInAnyOrder : Type 0
 MergesInAnyOrder =
-    (s u t v : List Named) → HasRoomToMerge s t → s ~ u → t ~ v → (t' s' : List Named) → CleanMerge s t t' s'
-    → (v' : List Named) × (u' : List Named) × CleanMerge u v v' u'
+    (s u t v : List Named) → HasRoomToMerge s t → s ~ u → t ~ v → HasRoomToMerge u v × (MergeCleanly s t ↔ MergeCleanly u v)

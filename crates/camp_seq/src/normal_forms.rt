@@ -13,8 +13,9 @@ pub fn normal_order_is_a_normal_form()
     ensures law { NormalForm }
 {}
 
-/// Whether two lists merge cleanly does not depend on the order of their elements, given room.
-#[tactic(auto, using(crate::proofs::MergeOrders::merges_in_any_order))]
+/// Neither whether two lists have room to merge, nor, given room, whether they merge cleanly depends on the order of
+/// their elements.
+#[tactic(auto, using(crate::proofs::MergeOrders::merging_in_any_order))]
 pub fn lists_merge_in_any_order()
     ensures law { MergesInAnyOrder }
 {}

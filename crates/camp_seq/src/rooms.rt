@@ -1,4 +1,4 @@
-ghost use Rattle.std.specs.Prelude.{◌≡◌, ◌<◌, ◌≤◌, ◌+◌, ◌↔◌, [], ◌∷◌, ◌++◌, IfSome, IsTrue, MatchOption};
+ghost use Rattle.std.specs.Prelude.{◌≡◌, ◌<◌, ◌≤◌, ◌+◌, ◌↔◌, [], ◌∷◌, ◌++◌, IsTrue, MatchOption};
 ghost use Rattle.camp_base.specs.Limits.{greatest_reach};
 ghost use Rattle.camp_prim.specs.Effect.{InRange};
 ghost use Rattle.camp_seq.specs.Inside.Reach.{GoesOnTo, IsShape};
@@ -40,9 +40,11 @@ pub(crate) fn surely_has_room(items: &[Named]) -> bool
 }
 
 /// Whether two lists that begin in one state, each with one more element behind it, have room for sure to merge, in
-/// whatever order their elements are. It takes one look at each element.
+/// whatever order their elements are: the greatest line of all their hunks and the numbers of all their lines add up to
+/// 2^30 at most. It takes one look at each element.
 pub fn has_room_to_merge(s: &[Named], p: &Named, t: &[Named], q: &Named) -> bool
-    ensures { IsTrue result → HasRoomToMerge (s.now ++ p.now ∷ []) (t.now ++ q.now ∷ []) }
+    ensures exact { IsTrue result ↔ (reach_of ((s.now ++ p.now ∷ []) ++ (t.now ++ q.now ∷ [])) ≤ greatest_reach) }
+    ensures room { IsTrue result → HasRoomToMerge (s.now ++ p.now ∷ []) (t.now ++ q.now ∷ []) }
 {
     match (shape_with(s, p), shape_with(t, q)) {
         (Some(one), Some(other)) => one.0.max(other.0) + one.1 + other.1 <= MAX_REACH,
@@ -51,9 +53,10 @@ pub fn has_room_to_merge(s: &[Named], p: &Named, t: &[Named], q: &Named) -> bool
 }
 
 /// The greatest line of a list's hunks and the numbers of all their lines together, with one more element behind the
-/// list. None where that is surely too much.
+/// list. None where the numbers are more than 2^30.
 fn shape_with(items: &[Named], last: &Named) -> Option<(usize, usize)>
-    ensures { IfSome result (λ shape. IsShape (items.now ++ last.now ∷ []) shape.0 shape.1) }
+    ensures { MatchOption result (greatest_reach < all_sides (items.now ++ last.now ∷ []))
+        (λ shape. IsShape (items.now ++ last.now ∷ []) shape.0 shape.1) }
 {
     shape_from(items, line_of(&last.prim), sides_of(&last.prim))
 }

@@ -15,5 +15,5 @@ returns c = record {
   labels = λ yes. c.have_no_common_label.ensures c.if-not-have_no_common_label.false;
   orders = λ yes.
       of_room (whole c.args.x.now) (whole c.args.y.now)
-      (rw (c.items.ensures.exact, c.context.ensures.exact, c.patch.ensures.exact, c.items-2.ensures.exact, c.context-2.ensures.exact, c.patch-2.ensures.exact) at (c.has_room_to_merge.ensures yes));
+      (rw (c.items.ensures.exact, c.context.ensures.exact, c.patch.ensures.exact, c.items-2.ensures.exact, c.context-2.ensures.exact, c.patch-2.ensures.exact) at (c.has_room_to_merge.ensures.room yes));
 }
