@@ -266,13 +266,6 @@ not_applied change tree next (OtherLine at stands expected) m applies =
 abbrev pub found_from : ℕ → ℕ → Lines → Lines → Option Misfit
 found_from from at old lines = other_line (suc (from + at)) (drop at old) (drop (from + at) lines)
 
-pub found_at_first : (hunk : Edit) (from : ℕ) (old lines : Lines) → from ≡ hunk.line - 1 → 1 ≤ hunk.line → old ≡ hunk.old
-    → found_from from 0 old lines ≡ other_line hunk.line hunk.old (drop (hunk.line - 1) lines)
-found_at_first hunk from old lines is positive same =
-    let line : suc (from + 0) ≡ hunk.line = omega (arith, is, positive) in
-    let start : from + 0 ≡ hunk.line - 1 = omega (arith, is) in
-    (λ j. other_line (line j) (same j) (drop (start j) lines))
-
 module _ (from at : ℕ) (old lines : Lines) (stands expected : List ℕ) (is_expected : slice_get old at ≡ Some expected) (is_there : slice_get lines (from + at) ≡ Some stands) where
   here : found_from from at old lines
       ≡ cond (bytes_eq stands expected) (other_line (suc (suc (from + at))) (drop (suc at) old) (drop (suc (from + at)) lines)) (Some (OtherLine (suc (from + at)) stands expected))

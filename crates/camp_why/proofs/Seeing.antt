@@ -56,26 +56,26 @@ module _ (k : FaultKind) (line : List ℕ) (returns : has_return k line ≡ ends
 module _ (k : FaultKind) (line : List ℕ) where
   in_form : k ≡ kind.UnknownCommand → IsSeen k line (form_hint line)
   in_form is =
-      pick (IsSeen k line) (begins_with (codes "client") (words_of line)) seen.OfScript _ (λ e. e) (λ none.
+      pick (IsSeen k line) (begins_with (codes "client") (words_of line)) seen.OfScript _ (λ e. (is, e)) (λ none.
       pick (IsSeen k line) (begins_record line) seen.NoChange _ (λ e. (is, e)) (λ none.
-      pick (IsSeen k line) (begins_with (codes "whatif") (words_of line)) seen.NoCall _ (λ e. e) (λ none.
-      pick (IsSeen k line) (begins_with (codes "help") (words_of line)) seen.NoTopic _ (λ e. e) (λ none.
-      pick (IsSeen k line) (begins_inner line) seen.OfInner seen.Nothing (λ e. e) (λ none. tt)))))
+      pick (IsSeen k line) (begins_with (codes "whatif") (words_of line)) seen.NoCall _ (λ e. (is, e)) (λ none.
+      pick (IsSeen k line) (begins_with (codes "help") (words_of line)) seen.NoTopic _ (λ e. (is, e)) (λ none.
+      pick (IsSeen k line) (begins_inner line) seen.OfInner seen.Nothing (λ e. (is, e)) (λ none. tt)))))
 
   module _ (is : k ≡ kind.BadEdit) (returns : has_return k line ≡ ends_in_return line) (word : faulty k line ≡ line) where
     unsigned : begins_signed line ≡ false → is_end line ≡ false → is_empty line ≡ false → IsSeen k line (unsigned_hint line)
     unsigned none_signed no_end some =
         pick (IsSeen k line) (is_returned_end line) seen.CarriageReturn _ (λ e. returns ∙ returned_end line e) (λ none.
         pick (IsSeen k line) (is_capital_end line) seen.Capitals seen.NoSign
-        (λ e. ap (list_any is_capital_letter) word ∙ capital_end line e) (λ none. (none_signed, no_end, some)))
+        (λ e. ap (list_any is_capital_letter) word ∙ capital_end line e) (λ none. (is, none_signed, no_end, some)))
 
     in_body : IsSeen k line (edit_hint line)
     in_body =
         pick (IsSeen k line) (is_cut line) seen.TooLong _ (λ e. e) (λ none.
-        pick (IsSeen k line) (is_empty line) seen.Empty _ (λ e. e) (λ some.
-        pick (IsSeen k line) (begins_blank line) seen.Blank _ (λ e. e) (λ none.
+        pick (IsSeen k line) (is_empty line) seen.Empty _ (λ e. (is, e)) (λ some.
+        pick (IsSeen k line) (begins_blank line) seen.Blank _ (λ e. (is, e)) (λ none.
         pick (IsSeen k line) (is_end line) seen.NoLine _ (λ e. (is, e)) (λ no_end.
-        pick (IsSeen k line) (begins_end line) seen.MoreThanEnd _ (λ e. e) (λ none.
+        pick (IsSeen k line) (begins_end line) seen.MoreThanEnd _ (λ e. (is, e)) (λ none.
         pick (IsSeen k line) (begins (codes "-") line) seen.OldBehindNew _ (λ e. (is, e)) (λ minus.
         pick (IsSeen k line) (begins (codes "+") line) seen.Nothing _ (λ e. tt) (λ plus. unsigned (no_sign line minus plus) no_end some)))))))
 

@@ -1,8 +1,8 @@
 -- Changes that are made one after the other, up to one that can't be.
 use Rattle.std.proofs.Common.{Err, Ok, Result}
 use Rattle.std.specs.List.{AllByRecursion}
-use Rattle.camp_why.proofs.Words.{◌+◌, ◌≡◌, ◌∙◌, ◌∷◌, ℕ, suc, Bool, true, false, cond, List, [], length, drop, drop_all, take, slice_get, None, Some, Option, ap, arith, ltb-true, nat_lt, none-some, option_map_or, refl, subst, sym, get, Files, Lines, AppliesEach, Applies, Applies-from_applied, InRange, Primitive, applied, applied-from_Applies, path_of, why_not, Misfit}
-use Rattle.camp_why.proofs.Misfitting.{at_front, is_told, none_applies, not_applied}
+use Rattle.camp_why.proofs.Words.{◌+◌, ◌≡◌, ◌∙◌, ◌∷◌, ℕ, suc, Bool, true, false, cond, List, [], length, take, slice_get, None, Some, Option, ap, arith, ltb-true, nat_lt, none-some, option_map_or, refl, subst, sym, get, Files, Lines, AppliesEach, Applies, Applies-from_applied, InRange, Primitive, applied, applied-from_Applies, path_of, why_not, Misfit}
+use Rattle.camp_why.proofs.Misfitting.{is_told, none_applies, not_applied}
 use Rattle.camp_call.specs.declared.replies.Refusal.{Refusal}
 use Rattle.camp_call.specs.declared.replies.Refusal.TheVariants.{DoesNotApply, TooLarge}
 use Rattle.camp_repo.specs.Steps.{changed, led_to, longest_file, then_from}
@@ -10,33 +10,6 @@ use Rattle.camp_why.specs.Stops.{IsHindrance, IsStop, first_stop, hindrance, lon
 use Rattle.camp_why.specs.declared.stops.Hindrance.{Hindrance}
 use Rattle.camp_why.specs.declared.stops.Hindrance.TheVariants as hindrance_of
 use Rattle.camp_why.specs.declared.stops.Stop.{Stop}
-
--- ---- change by change
-
-pub stop_at_first : (changes : List Primitive) (tree copy : Files) → copy ≡ tree → first_stop 1 (drop 0 changes) copy ≡ first_stop 1 changes tree
-stop_at_first changes tree copy same = ap (first_stop 1 changes) same
-
-module _ (changes : List Primitive) (at : ℕ) (met : Files) (change : Primitive) (is : slice_get changes at ≡ Some change) where
-  stop_here : first_stop (suc at) (drop at changes) met
-      ≡ stop_or (suc at) change (hindrance change met) (applied change met) (first_stop (suc (suc at)) (drop (suc at) changes))
-  stop_here = ap (λ (cs : List Primitive). first_stop (suc at) cs met) (at_front changes at change is)
-
-  -- a change that is made leads on
-  pub stop_behind : (next : Files) → hindrance change met ≡ None → applied change met ≡ Some next
-      → first_stop (suc (at + 1)) (drop (at + 1) changes) next ≡ first_stop (suc at) (drop at changes) met
-  stop_behind next free made =
-      let place : at + 1 ≡ suc at = omega arith in
-      (λ j. first_stop (suc (place j)) (drop (place j) changes) next)
-      ∙ sym (stop_here ∙ (λ j. stop_or (suc at) change (free j) (made j) (first_stop (suc (suc at)) (drop (suc at) changes))))
-
-  -- one that can't be made is the stop
-  pub stop_is : (why : Hindrance) → hindrance change met ≡ Some why
-      → first_stop (suc at) (drop at changes) met ≡ Some (record { change = suc at; path = path_of change; why = why })
-  stop_is why hinders =
-      stop_here ∙ ap (λ h. stop_or (suc at) change h (applied change met) (first_stop (suc (suc at)) (drop (suc at) changes))) hinders
-
-pub stop_none : (changes : List Primitive) (at : ℕ) (met : Files) → length changes ≡ at → first_stop (suc at) (drop at changes) met ≡ None
-stop_none changes at met all = ap (λ (cs : List Primitive). first_stop (suc at) cs met) (drop_all at changes (omega (arith, all)))
 
 -- ---- the reason that is told is one
 

@@ -243,15 +243,16 @@ abbrev pub has_quote : FaultKind → List ℕ → Bool
 has_quote WrongNumberOfWords line = list_any begins_quoted (words_of line)
 has_quote kind line = list_any is_quote (faulty kind line)
 
--- what is told of a line with a fault of a kind is to be seen there
+-- what is told of a line with a fault of a kind is to be seen there; and what only a line of one kind can show is told of
+-- that kind alone
 abbrev pub IsSeen : FaultKind → List ℕ → Hint → Type 0
 IsSeen kind line seen.Nothing = Unit {0}
 IsSeen kind line seen.OfBody = begins_signed (first_word (words_of line)) ≡ true
-IsSeen kind line seen.OfScript = begins_with (codes "client") (words_of line) ≡ true
+IsSeen kind line seen.OfScript = (kind ≡ UnknownCommand) × (begins_with (codes "client") (words_of line) ≡ true)
 IsSeen kind line seen.NoChange = (kind ≡ UnknownCommand) × (begins_record line ≡ true)
-IsSeen kind line seen.NoCall = begins_with (codes "whatif") (words_of line) ≡ true
-IsSeen kind line seen.NoTopic = begins_with (codes "help") (words_of line) ≡ true
-IsSeen kind line seen.OfInner = begins_inner line ≡ true
+IsSeen kind line seen.NoCall = (kind ≡ UnknownCommand) × (begins_with (codes "whatif") (words_of line) ≡ true)
+IsSeen kind line seen.NoTopic = (kind ≡ UnknownCommand) × (begins_with (codes "help") (words_of line) ≡ true)
+IsSeen kind line seen.OfInner = (kind ≡ UnknownCommand) × (begins_inner line ≡ true)
 IsSeen kind line seen.TooLong = is_cut line ≡ true
 IsSeen kind line seen.CarriageReturn = has_return kind line ≡ true
 IsSeen kind line seen.Strange = list_any is_strange (faulty kind line) ≡ true
@@ -259,13 +260,14 @@ IsSeen kind line seen.Quotes = has_quote kind line ≡ true
 IsSeen kind line seen.Capitals = list_any is_capital_letter (faulty kind line) ≡ true
 IsSeen kind line seen.Zero = is_zero (faulty kind line) ≡ true
 IsSeen kind line seen.ZeroInFront = (begins_with (codes "help") (words_of line) ≡ true) × (begins_zero (faulty kind line) ≡ true)
-IsSeen kind line seen.Empty = is_empty line ≡ true
-IsSeen kind line seen.Blank = begins_blank line ≡ true
+IsSeen kind line seen.Empty = (kind ≡ BadEdit) × (is_empty line ≡ true)
+IsSeen kind line seen.Blank = (kind ≡ BadEdit) × (begins_blank line ≡ true)
 IsSeen kind line seen.NoLine = (kind ≡ BadEdit) × (is_end line ≡ true)
 IsSeen kind line seen.TooFar = (kind ≡ BadNumber) × (is_end line ≡ true)
-IsSeen kind line seen.MoreThanEnd = begins_end line ≡ true
+IsSeen kind line seen.MoreThanEnd = (kind ≡ BadEdit) × (begins_end line ≡ true)
 IsSeen kind line seen.OldBehindNew = (kind ≡ BadEdit) × (begins (codes "-") line ≡ true)
-IsSeen kind line seen.NoSign = (begins_signed line ≡ false) × (is_end line ≡ false) × (is_empty line ≡ false)
+IsSeen kind line seen.NoSign =
+    (kind ≡ BadEdit) × (begins_signed line ≡ false) × (is_end line ≡ false) × (is_empty line ≡ false)
 
 -- nothing of this is to be seen in a word that should be a name, or one of a command
 pub record IsPlain (word : List ℕ) : Type 0 where
