@@ -1,4 +1,4 @@
-ghost use Rattle.std.specs.Prelude.{◌≡◌, [], ◌∷◌, ◌+◌, ◌<◌, ◌≤◌, length, count_by, IfOk};
+ghost use Rattle.std.specs.Prelude.{◌≡◌, [], ◌∷◌, ◌+◌, ◌<◌, ◌≤◌, length, count_by, IfOk, IsOk};
 ghost use Rattle.std.specs.List.{All, AllZip};
 ghost use Rattle.std.specs.Thread.{IsSync};
 ghost use Rattle.camp_history.specs.Opening.{farthest_version, most_calls, IsInRange, IsOpened};
@@ -35,20 +35,22 @@ pub struct HeadPlan<'a, R, State: Object, G> {
     ghost every_near: { every ≤ farthest_version },
 }
 
-/// The results of sections over one head: the answers to each, and the seat of the first section, which
-/// has seen the whole history.
+/// The results of sections over one head: the answers to each, and the seat of the first section, number 0,
+/// which has seen the whole history.
 #[derive(Drop)]
 pub struct HeadRun<State: Object> {
     pub answers: Vec<Answers<State>>,
     pub head: Head<State>,
     pub opener: Seat<State>,
     ghost is_seat: { IsSeatOf head opener },
+    ghost is_first: { number_of opener ≡ 0 },
 }
 
 impl<State: Object> HeadRun<State> {
     /// The history, call by call: a copy of each.
     pub fn history(&self) -> Result<Vec<(u32, State::Call)>, AllocError>
-        ensures { IfOk result (λ history. history.items ≡ history_of self.now.opener) }
+        ensures history { IfOk result (λ history. history.items ≡ history_of self.now.opener) }
+        ensures empty { history_of self.now.opener ≡ [] → IsOk result }
     {
         match self.head.history(&self.opener) {
             Ok(history) => Ok(history),
@@ -172,6 +174,7 @@ where
         requires seats { AreNew self.now.head.now seats.items }
         requires as_many { length seats.items + 1 ≡ length self.now.sections.now }
         ensures seat { IfOk result (λ ran. IsSeatOf self.now.head.now ran.0) }
+        ensures number { IfOk result (λ ran. number_of ran.0 ≡ 0) }
         ensures shared { IfOk result (λ ran. IsShared State.object (self.now.head.now.tries) (lists_of self.now.sections.now)
             (lists_of ran.1.items) (history_of ran.0)) }
     {
