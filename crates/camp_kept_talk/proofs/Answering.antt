@@ -118,7 +118,7 @@ some_of_both old now after one two held done rest writes parts is (front, behind
   Appends-trans old now after one front writes grows,
 )
 
--- and of what was held back a front is written
+-- and of what was held back a beginning is written
 pub told_trans : (a b c old now after : Option (List ℕ)) (held : List ℕ) (first middle last : Standing) → HoldsSo a b old now first middle
     → Told b c (Some []) (Some held) middle last → AppendsSome now after held → Told a c old after first last
 told_trans a b c old now after held first middle last one two grows = record {

@@ -36,7 +36,7 @@ one_more_added changes i at a x y z follows within is added adds =
     let here : drop i changes ≡ a ∷ drop at changes = drop_more changes i a within ∙ (λ k. sym is k ∷ drop (follows k) changes) in
     subst (λ l. AddsAll l x z) (sym here) (y, added, adds)
 
--- a patch without a context that swaps with a change passes by it
+-- a patch without a context that commutes with a change passes by it
 pub swaps_by : (a p p' behind : Named) → Commute a p p' behind → Adds a (bare p) (bare p')
 swaps_by a p p' behind swap =
     commute (λ y w. w.front) (record { a' = a; a'' = behind; passed = []; past_context = (refl, refl); past_patch = swap; context = refl })

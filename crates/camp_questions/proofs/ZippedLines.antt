@@ -32,7 +32,7 @@ module _ {A B : Type 0} (R : A → B → Type 0) where
   zipped_replicate x us n e w =
       subst (λ m. AllZip R (replicate m x) us) e (one_for_all x us w)
 
--- what is common at the front of two lists of lines stands in both
+-- what is common at the beginning of two lists of lines stands in both
 pub same_front : (lines others : Lines) → take (common_front lines others) lines ≡ take (common_front lines others) others
 same_front [] others = refl
 same_front (x ∷ lines) [] = refl
@@ -51,13 +51,13 @@ pub same_end : (lines others : Lines) → drop (length lines - common_end lines 
 same_end lines others =
     last_lines lines (common_end lines others) ∙ ap reverse (same_front (reverse lines) (reverse others)) ∙ sym (last_lines others (common_end lines others))
 
--- the last lines of a list are those of it behind a front
+-- the last lines of a list are those of it behind a beginning
 end_behind : (lines : Lines) (front end : ℕ) → front + end ≤ length lines → drop (length lines - end) lines ≡ drop (length (drop front lines) - end) (drop front lines)
 end_behind lines front end within =
     let size : length (drop front lines) ≡ length lines - front = length-drop front lines in
     sym (drop-drop (length (drop front lines) - end) front lines ∙ ap (λ n. drop n lines) {x = front + (length (drop front lines) - end)} {y = length lines - end} (omega (arith, size, within)))
 
--- new lines are those common at the front, those between, and those common at the end
+-- new lines are those common at the beginning, those between, and those common at the end
 new_parts : (lines : Lines) (front end : ℕ) → front + end ≤ length lines → take front lines ++ take (length lines - front - end) (drop front lines) ++ drop (length lines - end) lines ≡ lines
 new_parts lines front end within =
     let between : ℕ = length lines - front - end in

@@ -28,8 +28,8 @@ pub record Known : Type 0 where
 abbrev pub nothing_known : Known
 nothing_known = record { names = []; taken = empty }
 
--- the names that a hunk gives to its new lines: those that stand on both of its sides at their front, and behind that at
--- their end, keep the names that they had; all others have the name of the patch
+-- the names that a hunk gives to its new lines: those that stand on both of its sides at their beginning, and behind
+-- that at their end, keep the names that they had; all others have the name of the patch
 abbrev pub own_names : List (List ℕ) → List ℕ → Edit → List (List ℕ)
 own_names gone name hunk =
     let front = common_front hunk.old hunk.new in

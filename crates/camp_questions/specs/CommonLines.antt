@@ -3,7 +3,7 @@ use Rattle.std.specs.Prelude.{ℕ, zero, suc, ◌-◌, [], ◌∷◌, length, ta
 use Rattle.camp_base.specs.Trees.{Lines}
 use Rattle.camp_prim.specs.Hunks.{Edit}
 
--- how many lines are the same at the front of both
+-- how many lines are the same at the beginning of both
 abbrev pub common_front : Lines → Lines → ℕ
 common_front [] others = zero
 common_front (line ∷ lines) [] = zero
@@ -13,8 +13,8 @@ common_front (line ∷ lines) (other ∷ others) = if bytes_eq line other then s
 abbrev pub common_end : Lines → Lines → ℕ
 common_end lines others = common_front (reverse lines) (reverse others)
 
--- the lines that a hunk brings: its new ones but for those that stand on both of its sides at their front, and behind
--- that at their end
+-- the lines that a hunk brings: its new ones but for those that stand on both of its sides at their beginning, and
+-- behind that at their end
 abbrev pub brought_by : Edit → Lines
 brought_by hunk =
     let front = common_front hunk.old hunk.new in

@@ -6,8 +6,8 @@ use Rattle.camp_questions.specs.CommonLines.{common_end, common_front}
 use Rattle.camp_questions.specs.declared.marking.Version.{Version}
 use Rattle.camp_questions.specs.declared.places.Range.{Range}
 
--- the lines of a file that stand behind what it has in common with another at the front, and before what the two have in
--- common behind that at the end
+-- the lines of a file that stand behind what it has in common with another at the beginning, and before what the two
+-- have in common behind that at the end
 abbrev pub range_of : Lines → Lines → Range
 range_of lines others =
     let front = common_front lines others in

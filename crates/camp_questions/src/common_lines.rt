@@ -4,7 +4,7 @@ ghost use Rattle.camp_questions.specs.CommonLines.{common_end, common_front};
 
 use camp_base::Line;
 
-/// How many lines are the same at the front of both.
+/// How many lines are the same at the beginning of both.
 pub(crate) fn common_front(lines: &[Line], others: &[Line]) -> usize
     ensures exact { result ≡ common_front lines.now others.now }
     ensures within { result ≤ length lines.now }

@@ -68,8 +68,8 @@ fn ranges_of(
     Ok(ranges)
 }
 
-/// The lines of a file that stand behind what it has in common with another at the front, and before
-/// what the two have in common behind that at the end.
+/// The lines of a file that stand behind what it has in common with another at the beginning, and
+/// before what the two have in common behind that at the end.
 fn range_of(lines: &[Line], others: &[Line]) -> Range
     ensures { result ≡ range_of lines.now others.now }
 {

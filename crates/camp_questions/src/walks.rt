@@ -125,7 +125,7 @@ fn names_coming(
 }
 
 // The names that a hunk itself gives to its new lines: those that are on both of its sides at their
-// fronts or at their ends keep theirs, and all others have the name of the patch.
+// beginnings or at their ends keep theirs, and all others have the name of the patch.
 fn own_names(
     alloc: Global,
     gone: &SharedList<Name>,

@@ -19,7 +19,7 @@ use std::alloc::{AllocError, Global};
 use std::io::Write;
 
 /// Writes the text of a history. Where memory runs out nothing is written; where the writer fails, a
-/// front of the text is.
+/// beginning of the text is.
 pub fn write_history<W: Write>(
     alloc: Global,
     history: &[(u32, Call)],

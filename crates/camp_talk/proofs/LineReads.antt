@@ -13,7 +13,7 @@ is_more a b more = grind (arith, nat_tests, more)
 
 -- ---- fronts
 
--- a front, and behind it as much as there is room for
+-- a beginning, and behind it as much as there is room for
 pub take_behind : (room : ℕ) (done more : List ℕ)
     → take room done ++ take (room - length (take room done)) more ≡ take room (done ++ more)
 take_behind zero done more = refl
