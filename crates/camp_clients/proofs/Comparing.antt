@@ -1,5 +1,5 @@
 -- Lemmas on comparing a history with answers, entry by entry.
-use Rattle.camp_clients.proofs.Words.{eqb_tells, cases_lt, own_at, done_at, IsExactly, section_of, ◌≡◌, ℕ, ◌+◌, ◌≤◌, ◌<◌, ◌==◌, true, false, List, [], ◌∷◌, ◌++◌, length, Option, None, Some, is_some, MatchOption, take, drop, get_or, refl, sym, ◌∙◌, ap, subst, append_assoc, replicate, inl, inr, arith, IsFound, Matches, Differs, left_from}
+use Rattle.camp_clients.proofs.Words.{eqb_tells, cases_lt, own_at, done_at, IsExactly, section_of, ◌≡◌, ℕ, ◌+◌, ◌≤◌, ◌<◌, ◌==◌, false, List, [], ◌∷◌, ◌++◌, length, Option, take, drop, get_or, refl, sym, ◌∙◌, ap, subst, append_assoc, replicate, inl, inr, arith, IsFound, Matches, Differs, left_from}
 use Rattle.std.proofs.lemmas.List.{append-nil, append_cancel_left, take_more, take_all, take-append-drop, length-take-le, get_or-set_same, get_or-set_other, get_or-replicate, get_or_past, length-replicate, get_or_default}
 use Rattle.camp_clients.proofs.Positions.{own_at-append, own_at_push}
 
@@ -69,16 +69,6 @@ module _ {Call Answer : Type 0} (told : Answer → Option ℕ) (sections : List 
     none_left exact = append_cancel_left (own_at seat 0 history) (left_from told sections answers seat (get_or places seat 0)) []
         (sym found_all ∙ sym (exact.own_done seat is_seat) ∙ sym (append-nil (own_at seat 0 history)))
 
--- whether a search found something
-module _ {X : Type 0} {Y : Type 0} (xs : List Y) (Found : X → Type 0) where
-  pub nothing_found : (r : Option X) → MatchOption r (xs ≡ []) Found → is_some r ≡ false → xs ≡ []
-  nothing_found None none not = none
-  nothing_found (Some x) found not = absurd (cc not)
-
-  pub something_found : (r : Option X) → MatchOption r (xs ≡ []) Found → is_some r ≡ true → ((x : X) → Found x → ⊥) → ⊥
-  something_found None none some refuted = absurd (cc some)
-  something_found (Some x) found some refuted = refuted x found
-
 -- a row of zeros has zero everywhere
 pub zeros : (n i : ℕ) → get_or {A = ℕ} (replicate n 0) i 0 ≡ 0
 zeros n i = elim (cases_lt i n) [
@@ -94,9 +84,3 @@ each_more P xs i x below at holds before k d in_reach =
       | inl less ↦ before k d less
       | inr more ↦ (let same : i ≡ k = omega arith in subst (λ n. P (get_or xs n d)) same (subst P (at ∙ get_or_default xs i x d below) holds))
     ]
-
--- what is left of a section, by its calls and answers
-pub left_at : {Call Answer : Type 0} (told : Answer → Option ℕ) (sections : List (List Call)) (answers : List (List Answer)) (seat from : ℕ)
-    (calls : List Call) (own : List Answer) → calls ≡ section_of sections seat → own ≡ section_of answers seat
-    → left_from told sections answers seat from ≡ done_at told (drop from calls) (drop from own)
-left_at told sections answers seat from calls own is_calls is_own = rw (is_calls, is_own)

@@ -1,5 +1,5 @@
 -- Lemmas on lists that go side by side.
-use Rattle.std.proofs.lemmas.List.{take_more, get_or-map, map_push, append_assoc, append-nil}
+use Rattle.std.proofs.lemmas.List.{take_more, get_or-map, map_push, append_assoc}
 use Rattle.camp_clients.proofs.Words.{Vec, vec_items, ArePutApart, Gathers, lists_of, section_of, ◌≡◌, ℕ, ◌+◌, ◌<◌, suc, zero, List, [], ◌∷◌, ◌++◌, length, take, get_or, Result, Ok, IfOk, refl, sym, ◌∙◌, ap, subst, add-one, arith, All, AllZip, remove, OnOk, is_err, false, Err}
 
 module _ {A B : Type 0} (R : A → B → Type 0) where
@@ -25,10 +25,6 @@ module _ {A B : Type 0} (R : A → B → Type 0) where
   zip_at (a ∷ xs) [] i d e below all = absurd all
   zip_at (a ∷ xs) (b ∷ ys) zero d e below all = all.0
   zip_at (a ∷ xs) (b ∷ ys) (suc i) d e below all = zip_at xs ys i d e (omega arith) all.1
-
--- nothing was brought yet
-pub gathers_none : {Own Fault : Type 0} (first : List Own) → Gathers {Fault = Fault} first [] first
-gathers_none first = record { others = []; begins = sym (append-nil first); brought = tt }
 
 -- what was there first, by another name
 pub gathers_here : {Own Fault : Type 0} {here first : List Own} {made : List (Result Own Fault)} {all : List Own}

@@ -1,5 +1,5 @@
 -- Lemmas on sections of calls.
-use Rattle.camp_clients.proofs.Words.{append-nil, length-append, take_more, IsBeginning, IsLegal, IsAnswered, own, Sequential, IsLawfulObject, Fault, Memory, Busy, Full, Asks, HasMemory, IsDone, IsOvertaken, SaysAmongThreads, SaysAlone, told, own_at, where_done, done_at, OneByOne, Section, ◌≡◌, ℕ, ◌+◌, ◌≤◌, true, false, List, [], ◌∷◌, ◌++◌, length, Option, None, Some, Result, Ok, Err, MatchOption, zero, suc, cond, count_by, get_or, drop, take, ◌<◌, refl, sym, ◌∙◌, ap, subst, append_assoc, add-zero, arith, begins_longer, begins_self, begins_through, Ask, Caller, Accepts, AddsNothing, IsBusy, Loses, alone_at}
+use Rattle.camp_clients.proofs.Words.{append-nil, length-append, take_more, IsBeginning, IsAnswered, own, Sequential, IsLawfulObject, Fault, Memory, Busy, Full, Asks, HasMemory, IsDone, IsOvertaken, SaysAmongThreads, SaysAlone, told, own_at, where_done, done_at, OneByOne, Section, ◌≡◌, ℕ, ◌+◌, ◌≤◌, true, false, List, [], ◌∷◌, ◌++◌, length, Option, None, Some, Result, Ok, Err, MatchOption, zero, suc, cond, count_by, get_or, drop, take, ◌<◌, refl, sym, ◌∙◌, ap, subst, append_assoc, add-zero, arith, begins_longer, begins_self, begins_through, Ask, Caller, Accepts, AddsNothing, IsBusy, Loses, alone_at}
 use Rattle.std.proofs.lemmas.List.Sums.{sum_by-drop_more}
 use Rattle.camp_clients.proofs.Asking.{own_at_asks, own_counts, goes_on}
 use Rattle.camp_clients.proofs.Histories.{own_rest}
@@ -56,14 +56,6 @@ module _ {State Call Reply : Type 0} (object : Sequential State Call Reply) (cal
   pub section_grows : (first : List (ℕ × Call)) (calls : List Call) (answers : List (Result Reply Fault)) (last : List (ℕ × Call))
       → Section (Asks object caller) first calls answers last → IsBeginning first last
   section_grows = section_front (Asks object caller) (λ before call answer beginning asks. asks.asks.grows)
-
-  -- what is seen stays legal
-  pub section_legal : (first : List (ℕ × Call)) (calls : List Call) (answers : List (Result Reply Fault)) (last : List (ℕ × Call))
-      → Section (Asks object caller) first calls answers last → IsLegal object first → IsLegal object last
-  section_legal first [] [] last s legal = subst (IsLegal object) s legal
-  section_legal first [] (a ∷ answers) last s legal = absurd s
-  section_legal first (c ∷ calls) [] last s legal = absurd s
-  section_legal first (c ∷ calls) (a ∷ answers) last s legal = section_legal s.0 calls answers last s.2 s.1.asks.legal
 
   -- the caller's calls with their positions grow by those that are done
   pub section_own_at : (first : List (ℕ × Call)) (calls : List Call) (answers : List (Result Reply Fault)) (last : List (ℕ × Call))
