@@ -1,6 +1,5 @@
 -- Lemmas on what a seat sees.
-use Rattle.camp_history.proofs.Words.{◌≡◌, ℕ, ◌<◌, ◌≤◌, List, [], ◌∷◌, ◌++◌, length, map, All, Some, refl, sym, ◌∙◌, ap, subst, arith, length-append, All-push, All-same, append_assoc, length-map, Sequential, IsLawfulObject, IsBeginning, replay, own, Decides, Entry, Seated, asked, told, Begins, most_listed, history_of, Mark, entry_of, DecidesAt, GetsOn, SeesMore, with_mark, HeadId, IsSeatOf, Shows, Where, Ok, Err, OnOk, OnErr, Result, entries_of, own_other, count-replay, begins_self, begins_through, Based, All-weaker, Known, Leads, ComesNext}
-use Rattle.camp_object.specs.declared.objects.Decided.{Decided}
+use Rattle.camp_history.proofs.Words.{◌≡◌, ℕ, ◌<◌, ◌≤◌, List, [], ◌∷◌, ◌++◌, length, map, All, Some, refl, sym, ◌∙◌, ap, subst, arith, length-append, All-push, All-same, append_assoc, length-map, Sequential, IsLawfulObject, IsBeginning, replay, own, Entry, Seated, asked, told, Begins, most_listed, history_of, Mark, entry_of, GetsOn, SeesMore, with_mark, HeadId, IsSeatOf, Shows, Where, Ok, Err, OnOk, OnErr, Result, entries_of, own_other, count-replay, begins_self, begins_through, Based, All-weaker, Known, Leads, ComesNext}
 use Rattle.camp_row.specs.declared.trails.Next.{Next}
 pub use Rattle.camp_history.proofs.Marked.{length-own, map_more}
 
@@ -102,8 +101,3 @@ bases_begin {Call} marks version bases begins all =
 -- one mark more behind the last
 pub one_more : {Call : Type 0} (front tail now : List (Mark Call)) (mark : Mark Call) → now ≡ tail ++ mark ∷ [] → front ++ now ≡ (front ++ tail) ++ mark ∷ []
 one_more front tail now mark is = ap (λ list. front ++ list) is ∙ sym (append_assoc front tail (mark ∷ []))
-
--- the object decides at the replay of the marks
-pub decides_at : {State Call Reply : Type 0} (object : Sequential State Call Reply) (marks : List (Mark Call)) (call : Call) (state : State) (decided : Decided State Reply)
-    → replay object (map asked marks) ≡ Some state → Decides object state call decided → DecidesAt object (map asked marks) call decided
-decides_at object marks call state decided replays decides = record { state = state; replays = replays; decides = decides }

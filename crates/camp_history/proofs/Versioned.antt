@@ -1,5 +1,5 @@
 -- Lemmas on versions: how they are tied to a store, and how one goes on from what a seat has seen.
-use Rattle.camp_history.proofs.Words.{Entry, HeadId, IsBeginning, IsIn, IsSeatOf, IsSound, Known, Leads, Seated, asked, entry_of, entries_of, begins_shorter, history_of, ids, ids_of, length-beginning, own, told, news, based, bases_in, Begins, Based, IsBaseAt, Share, GoesOn, Adopts, made_of, Mark, SeesMore, ◌≡◌, ℕ, zero, suc, ◌+◌, ◌-◌, ◌<◌, ◌≤◌, List, [], ◌∷◌, ◌++◌, length, map, take, drop, splice, slice_get, slice_index_or, All, Option, None, Some, IfSome, MatchOption, refl, sym, ◌∙◌, ap, subst, arith, append-nil, append_assoc, length-append, length-map, map-append, take-append-drop, take_at, take_rest, drop_at, drop-drop, drop-map, same_Some, take_all, drop_all, begins_self, Bool, true, false, if◌then◌else◌, All-append, All-drop, All-map, All-push, All-same, All-weaker, Shelves, Shows, Where, turns}
+use Rattle.camp_history.proofs.Words.{Entry, HeadId, IsBeginning, IsIn, IsSeatOf, IsSound, Known, Leads, Seated, asked, entry_of, entries_of, begins_shorter, history_of, ids, ids_of, length-beginning, own, told, news, based, bases_in, Begins, Based, IsBaseAt, Share, GoesOn, Adopts, Mark, SeesMore, ◌≡◌, ℕ, zero, suc, ◌+◌, ◌-◌, ◌<◌, ◌≤◌, List, [], ◌∷◌, ◌++◌, length, map, take, drop, splice, slice_get, slice_index_or, All, Option, None, Some, IfSome, MatchOption, refl, sym, ◌∙◌, ap, subst, arith, append-nil, append_assoc, length-append, length-map, map-append, take-append-drop, take_at, take_rest, drop_at, drop-drop, drop-map, same_Some, take_all, drop_all, begins_self, Bool, true, false, if◌then◌else◌, All-append, All-drop, All-map, All-push, All-same, All-weaker, Shelves, Shows, turns}
 use Rattle.std.proofs.lemmas.List.{get_or-map}
 use Rattle.std.proofs.Math.Seq.{drop-append-add}
 use Rattle.std.proofs.lemmas.Simd.{map-map}
@@ -90,7 +90,7 @@ all_unmap P f list all k d below = subst P (get_or-map f list k d (f d) below) (
 front_map : {A B : Type 0} (f : A → B) {front whole : List A} → IsBeginning front whole → IsBeginning (map f front) (map f whole)
 front_map f {front = front} begins = record { rest = map f begins.rest; makes = sym (map-append f front begins.rest) ∙ ap (map f) begins.makes }
 
--- what stands behind a front
+-- what stands behind a beginning
 front_rest : {A : Type 0} (front whole : List A) → IsBeginning front whole → whole ≡ front ++ drop (length front) whole
 front_rest front whole begins =
     sym begins.makes ∙ ap (λ rest. front ++ rest) (sym (drop_at front begins.rest (length front) refl) ∙ ap (drop (length front)) begins.makes)
@@ -231,11 +231,6 @@ seat_adopted {Call} head old new version of stored adopts = record {
   bases = All-same (IsBaseAt head.slots) new.bases old.bases adopts.bases of.bases;
 }
 
-pub made_stored : {Call : Type 0} (head : HeadId) (seat : Seated Call) (call : Where Call) → IsSeatOf head seat → Shows head.store call → All (λ mark. Shows head.store mark.call) (made_of seat call)
-made_stored {Call} head seat call of shows =
-    let mark : Mark Call = record { seat = seat.known.number; call = call } in
-    All-push (λ mark. Shows head.store mark.call) seat.marks mark of.stored shows
-
 -- the list that copies share, once the few behind it were moved into it
 pub spliced_behind : {X : Type 0} (front tail longer none : List X) (len : ℕ) → len ≡ length front → longer ≡ splice front len len tail → none ≡ [] → longer ++ none ≡ front ++ tail
 spliced_behind front tail longer none len len_is spliced is_none =
@@ -249,7 +244,7 @@ pub noted_all : {B : Type 0} (P : B → Type 0) (old room new : List B) (base : 
 noted_all P old room new base gone true left is all here = All-same P new (room ++ base ∷ []) is (All-push P room base (All-same P room (drop gone old) left (All-drop P gone old all)) here)
 noted_all P old room new base gone false left is all here = All-same P new room is (All-same P room (drop gone old) left (All-drop P gone old all))
 
--- the element behind a front
+-- the element behind a beginning
 at_length : {X : Type 0} (front rest : List X) (x : X) → slice_get (front ++ x ∷ rest) (length front) ≡ Some x
 at_length [] rest x = refl
 at_length (y ∷ front) rest x = at_length front rest x

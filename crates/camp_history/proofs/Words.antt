@@ -24,5 +24,5 @@ pub use Rattle.camp_object.specs.declared.objects.Decided.TheVariants.{Answer, N
 pub use Rattle.camp_row.specs.Chains.{turns}
 pub use Rattle.camp_row.specs.Known.{ComesNext, FindsChain, IsSound, Known, Leads, Won, drafted, newcomer, with_draft}
 pub use Rattle.camp_row.specs.declared.entries.Entry.{Entry}
-pub use Rattle.camp_object.proofs.Asks.{ask_answered, ask_done, ask_memory, ask_since, loses_more, never_busy_among_own}
+pub use Rattle.camp_object.proofs.Asks.{ask_done, ask_memory, ask_since, loses_more, never_busy_among_own}
 pub use Rattle.camp_object.proofs.Replays.{accepted_at, count-replay, own-append, own_other, replay_accepted, some_is_some}
