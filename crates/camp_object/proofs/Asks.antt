@@ -1,15 +1,15 @@
 -- How an answer is shown to say what it says of the history.
-use Rattle.std.proofs.Common.{◌≡◌, ℕ, zero, suc, ◌+◌, ◌<◌, ◌≤◌, All, arith, Bool, true, false, List, [], ◌∷◌, ◌++◌, length, Option, Some, None, MatchOption, Result, Ok, Err, refl, sym, ◌∙◌, ap, subst, is_some}
+use Rattle.std.proofs.Common.{◌≡◌, ℕ, zero, suc, ◌+◌, ◌<◌, ◌≤◌, All, arith, Bool, true, false, List, [], ◌∷◌, ◌++◌, length, Option, Some, None, MatchOption, Result, Ok, Err, sym, ◌∙◌, ap, subst, is_some}
 use Rattle.std.specs.Option.{option_and_then}
 use Rattle.std.proofs.lemmas.Option.{option_and_then_some}
 use Rattle.camp_object.specs.Objects.{Sequential, IsLawfulObject}
 use Rattle.camp_object.specs.Histories.{IsBeginning, replay, IsLegal, IsAccepted, IsAnswered, own}
-use Rattle.camp_object.specs.Asking.{Caller, alone_at, Accepts, AddsNothing, Loses, Says, Ask, IsNotBusy}
+use Rattle.camp_object.specs.Asking.{Caller, Accepts, AddsNothing, Loses, Says, Ask, IsNotBusy}
 use Rattle.camp_object.specs.declared.faults.Fault.TheVariants.{Memory, Busy, Full}
 use Rattle.camp_object.specs.declared.faults.Fault.{Fault}
 use Rattle.std.proofs.lemmas.List.{length_push}
 use Rattle.camp_object.proofs.Beginnings.{begins_longer, begins_through, length-beginning}
-use Rattle.camp_object.proofs.Replays.{own_mine, length-own-within, length-own-all, replay_more, some_is_some, state_of_legal}
+use Rattle.camp_object.proofs.Replays.{own_mine, length-own-within, length-own-all, replay_more, state_of_legal}
 
 -- a call that was accepted after what stands before it
 pub ask_done : {State Call Reply : Type 0} (object : Sequential State Call Reply) → IsLawfulObject object → (caller : Caller) (seen before now : List (ℕ × Call)) (call : Call) (at : ℕ) (reply : Reply)
@@ -33,26 +33,10 @@ ask_done {Call = Call} {Reply = Reply} object lawful caller seen before now call
       says = subst P (sym (ap object.done_at is ∙ lawful.tells at)) accepts;
     }
 
--- a call that was not accepted
-pub ask_answered : {State Call Reply : Type 0} (object : Sequential State Call Reply) → IsLawfulObject object → (caller : Caller) (seen now : List (ℕ × Call)) (call : Call) (reply : Reply) (state : State)
-    → IsBeginning seen now → AddsNothing caller seen now → replay object now ≡ Some state → object.after state call ≡ None → object.answers state call reply
-    → Ask object caller seen call (Ok reply) now
-ask_answered object lawful caller seen now call reply state grows adds_nothing replays stays gives =
-    let P : Option ℕ → Type 0 = λ told. MatchOption told (AddsNothing caller seen now × IsAnswered object now call reply) (λ at. Accepts caller seen call at now) in
-    record {
-      grows = grows;
-      legal = some_is_some replays;
-      says = subst P (sym (lawful.tells_none state call reply gives)) (adds_nothing, record { state = state; replays = replays; stays = stays; gives = gives });
-    }
-
 -- a call for which memory was wanting
 pub ask_memory : {State Call Reply : Type 0} (object : Sequential State Call Reply) (caller : Caller) (seen now : List (ℕ × Call)) (call : Call)
     → IsBeginning seen now → AddsNothing caller seen now → IsLegal object now → Ask object caller seen call (Err Memory) now
 ask_memory object caller seen now call grows adds_nothing legal = record { grows = grows; legal = legal; says = adds_nothing }
-
--- a caller that is alone, and to whose history nothing was added
-pub adds_nothing_alone : {Call : Type 0} (seat : ℕ) (seen : List (ℕ × Call)) → AddsNothing (alone_at seat) seen seen
-adds_nothing_alone seat seen = record { own_stays = refl; exact = λ _. refl }
 
 -- one more loss at the end
 pub loses_more : {State Call Reply : Type 0} (object : Sequential State Call Reply) (call : Call) (times : ℕ) (seen beginning now : List (ℕ × Call)) (ahead : ℕ × Call)

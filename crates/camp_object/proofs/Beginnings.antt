@@ -10,9 +10,6 @@ begins_self list = record { rest = []; makes = append-nil list }
 pub begins_append : {Entry : Type 0} (beginning rest : List Entry) → IsBeginning beginning (beginning ++ rest)
 begins_append beginning rest = record { rest = rest; makes = refl }
 
-pub begins_empty : {Entry : Type 0} (list : List Entry) → IsBeginning [] list
-begins_empty list = record { rest = list; makes = refl }
-
 pub begins_through : {Entry : Type 0} {one two three : List Entry} → IsBeginning one two → IsBeginning two three → IsBeginning one three
 begins_through {one = one} {two = two} {three = three} first second =
     record { rest = first.rest ++ second.rest; makes = sym (append_assoc one first.rest second.rest) ∙ ap (λ list. list ++ second.rest) first.makes ∙ second.makes }
