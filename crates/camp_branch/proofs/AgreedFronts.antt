@@ -6,7 +6,7 @@ use Rattle.camp_branch.proofs.Names.{is_among_is, or_true, each_named, has_split
 use Rattle.camp_branch.proofs.NamesKept.{among_common}
 use Rattle.camp_branch.proofs.BranchLabels.{key_names, named_by_keys}
 
--- an outcome with a front before what it gives
+-- an outcome with a list before what it gives
 abbrev fronted : List Catch → Outcome → Outcome
 fronted front (Ok list) = Ok (front ++ list)
 fronted front (Err blocked) = Err blocked
@@ -29,7 +29,7 @@ module _ (names : List (List ℕ)) where
   sticks_front (k ∷ front) list patch on a w =
       inr (inl (a.0, (k, [], (refl, refl), sticks_front front list patch on a.1 w)))
 
--- what comes first of a front comes first of the whole
+-- what comes first of a beginning comes first of the whole
 comes_within : (key : Key) (list more : List Catch) (k : Catch) (others : List Catch) → ComesFirst key list k others → ComesFirst key (list ++ more) k (others ++ more)
 comes_within key [] more k others w = absurd w
 comes_within key (j ∷ list) more k others (inl w) = inl (w.0, w.1, ap (λ l. l ++ more) w.2)

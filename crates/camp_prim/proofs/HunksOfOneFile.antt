@@ -1,7 +1,7 @@
 -- Two hunks of one file, one after the other: they may be put in the other order.
 use Rattle.camp_prim.proofs.Words.{◌≡◌, ℕ, ◌+◌, ◌≤◌, [], ◌∷◌, ◌++◌, length, refl, sym, ap, ◌∙◌, arith, append_assoc, length-append, Lines, SplicesLines}
 
--- where lines are cut in two ways, the longer front is the shorter one and what lies between the cuts
+-- where lines are cut in two ways, the longer beginning is the shorter one and what lies between the cuts
 pub record Cut (xs ys us vs : Lines) : Type 0 where
   pub middle : Lines
   pub front : us ≡ xs ++ middle
@@ -17,7 +17,7 @@ cut (x ∷ xs) ys (u ∷ us) vs e h =
     let f : us ≡ xs ++ c.middle = c.front in
     record { middle = c.middle; front = cc; rear = c.rear }
 
--- what stands in the middle may be counted to the front or to the rear
+-- what stands in the middle may be counted to the beginning or to the end
 front_to_rear : (x m n a : Lines) → x ++ m ++ n ++ a ≡ x ++ (m ++ n ++ a)
 front_to_rear x m n a = append_assoc (x ++ m) n a ∙ append_assoc x m (n ++ a) ∙ ap (λ r. x ++ r) (sym (append_assoc m n a))
 

@@ -12,7 +12,7 @@ Applies (Add path) old new = Adds path old new
 Applies (Remove path) old new = Removes path old new
 Applies (Hunk hunk) old new = Splices hunk.path hunk.line hunk.old hunk.new old new
 
--- the inverse of a hunk: its sides change places
+-- the inverse of a hunk takes away what the hunk puts, and puts what it takes away
 abbrev pub flipped : Edit → Edit
 flipped hunk = record { path = hunk.path; line = hunk.line; old = hunk.new; new = hunk.old }
 
