@@ -2,7 +2,7 @@
 use Rattle.camp_share.proofs.Words.{◌≡◌, ℕ, zero, suc, ◌+◌, ◌-◌, ◌<◌, ◌≤◌, List, [], ◌∷◌, ◌++◌, length, get_or, set, take, drop, Option, None, Some, Bor, sym, ap, subst, ◌∙◌, refl, arith, drop_all, drop-drop, get_or_default, get_or-drop, length-drop, append-nil, append_assoc, length-append, take_more, drop_more, take_all, take-append-drop, take-append-le, drop-append-le, get_or-append-add}
 use Rattle.camp_share.proofs.Words.{get_or_append_left, set_split, take-nil, take-append-add, drop-append-add, All, slice_get, slice_range, insert, remove, TakesFirst, deref, option_copied, flat_map-append, recursion_from_All, joined, IsPart, offset, IsPlace, Vec, vec_len}
 use Rattle.std.proofs.lemmas.Option.{slice_get_past, slice_get_read}
-use Rattle.std.specs.List.{AllByRecursion}
+use Rattle.std.specs.List.{AllByRecursion, splice}
 use Rattle.std.proofs.lemmas.List.Folds.{length-flat_map-take}
 
 -- the length that a lent part tells
@@ -277,3 +277,17 @@ module _ {X Z : Type 0} (parts last : List (Vec X Z)) (at : ℕ) (part : Vec X Z
       ap (λ ps. drop (from - start) part.items ++ joined ps) rest_of_all
       ∙ behind_place parts place_of_end (from - start) part inside_all read_of_all (omega arith)
       ∙ ap (λ k. drop k (joined parts)) {x = offset parts place_of_end (from - start)} {y = from} (omega arith)
+
+-- two pieces of a list, with others in place of elements of the second
+pub changed_in_last : {X : Type 0} (front last items same changed : List X) (from to border : ℕ) → border ≡ length front → same ≡ front → changed ≡ splice last (from - border) (to - border) items → from ≤ to → border ≤ from → same ++ changed ≡ splice (front ++ last) from to items
+changed_in_last front last items same changed from to border begins kept new range past =
+    ap (λ xs. xs ++ changed) kept ∙ ap (λ xs. front ++ xs) new
+    ∙ sym (append_assoc front (take (from - border) last) (items ++ drop (to - border) last))
+    ∙ ap (λ xs. xs ++ (items ++ drop (to - border) last))
+    (sym (take-append-add front last (from - border)) ∙ ap (λ k. take k (front ++ last)) {x = length front + (from - border)} {y = from} (omega arith))
+    ∙ ap (λ xs. take from (front ++ last) ++ (items ++ xs))
+    (sym (drop-append-add front last (to - border)) ∙ ap (λ k. drop k (front ++ last)) {x = length front + (to - border)} {y = to} (omega arith))
+
+-- another one in place of the one at a place
+pub one_replaced : {X : Type 0} (xs all : List X) (x : X) (i : ℕ) → i < length xs → all ≡ splice xs i (i + 1) (x ∷ []) → all ≡ set xs i x
+one_replaced xs all x i within is = is ∙ ap (λ k. take i xs ++ x ∷ drop k xs) {x = i + 1} {y = suc i} (omega arith) ∙ sym (set_split xs i x within)

@@ -75,6 +75,7 @@ impl<'a, T> Iterator for Steps<'a, T> {
 pub struct Iter<'a, T> {
     part: &'a [T],
     parts: Steps<'a, Part<T>>,
+    last: &'a [T],
 }
 
 impl<'a, T> Model for Iter<'a, T> {
@@ -84,18 +85,19 @@ impl<'a, T> Model for Iter<'a, T> {
 
     ghost Value = { List T };
 
-    ghost view = { λ it. it.part.now ++ joined it.parts };
+    ghost view = { λ it. (it.part.now ++ joined it.parts) ++ it.last.now };
 
     ghost invariant = { λ it. All IsPart it.parts };
 }
 
 impl<'a, T> Iter<'a, T> {
-    pub(crate) fn within(part: &'a [T], parts: Steps<'a, Part<T>>) -> Iter<'a, T>
+    // Those of a part, of the parts behind it and of the last part.
+    pub(crate) fn new(part: &'a [T], parts: Steps<'a, Part<T>>, last: &'a [T]) -> Iter<'a, T>
         requires { All IsPart parts }
-        ensures rest { result ≡ part.now ++ joined parts.entry }
+        ensures rest { result ≡ (part.now ++ joined parts.entry) ++ last.now }
         ensures runs { ShowsInOrder (deref {X = T}) }
     {
-        Iter { part, parts }
+        Iter { part, parts, last }
     }
 }
 
@@ -112,13 +114,17 @@ impl<'a, T> Iterator for Iter<'a, T> {
             self.part = &part[1..];
             return Some(&part[0]);
         }
-        match self.parts.next() {
-            Some(part) => {
-                self.part = &part[1..];
-                Some(&part[0])
-            }
-            None => None,
+        if let Some(part) = self.parts.next() {
+            self.part = &part[1..];
+            return Some(&part[0]);
         }
+        let last = self.last;
+        if last.is_empty() {
+            return None;
+        }
+        self.last = &[];
+        self.part = &last[1..];
+        Some(&last[0])
     }
 }
 

@@ -6,6 +6,8 @@ mod growing;
 mod iters;
 mod lists;
 mod maps;
+mod part_lists;
+mod pieces;
 mod search;
 mod shared;
 

@@ -1,35 +1,33 @@
-ghost use Rattle.std.specs.Prelude.{◌≡◌, ◌+◌, ◌<◌, ◌≤◌, ◌^◌, ◌==◌, List, [], ◌∷◌, ◌++◌, length, take, drop, slice_get, slice_range, slice_set, IfOk, IfSome};
+ghost use Rattle.std.specs.Prelude.{◌≡◌, ◌+◌, ◌<◌, ◌≤◌, ◌^◌, ◌==◌, List, [], ◌∷◌, ◌++◌, length, take, drop, slice_get, slice_range, slice_set, IfOk};
 ghost use Rattle.std.specs.List.{splice, insert, remove};
-ghost use Rattle.std.specs.List.{All};
-ghost use Rattle.camp_share.specs.Inside.Parts.{joined, IsPart};
 ghost use Rattle.std.specs.Option.{option_copied};
 ghost use Rattle.std.specs.Cmp.Lexicographic.{pointwise, lists_per, lists_equiv};
 ghost use Rattle.std.specs.Map.Iter.{ShowsInOrder, deref};
 
-use crate::changes::{Change, inserted_at, place_of, removed_at, replaced_at, spliced_in_part};
-use crate::growing::{Growing, Part, append_copies};
 use crate::iters::Steps;
+use crate::pieces::{Front, Last, spliced, with_one};
 use crate::{Iter, Share};
 use std::alloc::{AllocError, Global};
 use std::marker::Model;
 
-/// A list in parts of up to 24 elements, which it shares with the lists that it was made from.
+/// A list in parts of up to 24 elements, which it shares with the lists that it was made from. The
+/// last part stands apart; all parts before it are shared by one count.
 #[derive(Drop)]
 pub struct SharedList<T> {
-    parts: Growing<Part<T>>,
+    front: Front<T>,
+    last: Last<T>,
     len: usize,
+    alloc: Global,
 }
 
 impl<T> Model for SharedList<T> {
-    ghost use Rattle.std.specs.Prelude.{◌≡◌, List, length};
-    ghost use Rattle.std.specs.List.{All};
-    ghost use Rattle.camp_share.specs.Inside.Parts.{joined, IsPart};
+    ghost use Rattle.std.specs.Prelude.{◌≡◌, ◌++◌, List, length};
 
     ghost Value = { List T };
 
-    ghost view = { λ list. joined list.parts };
+    ghost view = { λ list. list.front ++ list.last };
 
-    ghost invariant = { λ list. All IsPart list.parts × (length (joined list.parts) ≡ list.len) };
+    ghost invariant = { λ list. length (list.front ++ list.last) ≡ list.len };
 }
 
 impl<T> SharedList<T> {
@@ -38,8 +36,10 @@ impl<T> SharedList<T> {
         ensures exact { result ≡ [] }
     {
         SharedList {
-            parts: Growing::new(alloc),
+            front: Front::empty(),
+            last: Last::empty(),
             len: 0,
+            alloc,
         }
     }
 
@@ -69,7 +69,7 @@ impl<T> SharedList<T> {
         ensures rest { result ≡ self.now }
         ensures runs { ShowsInOrder (deref {X = T}) }
     {
-        Iter::within(&[], self.parts.iter())
+        self.front.iter_from(0, self.last.items())
     }
 
     /// The elements from a place to the last.
@@ -77,62 +77,22 @@ impl<T> SharedList<T> {
         ensures rest { result ≡ drop from self.now }
         ensures runs { ShowsInOrder (deref {X = T}) }
     {
-        if let Some(rest) = self.near_end(from) {
-            return rest;
+        let last = self.last.items();
+        let border = self.front.len();
+        if from < border {
+            return self.front.iter_from(from, last);
         }
-        let mut parts = self.parts.iter();
-        let mut start = from;
-        while let Some(part) = parts.next() {
-            if start < part.len() {
-                return Iter::within(&part[start..], parts);
-            }
-            start -= part.len();
+        let place = from - border;
+        if place >= last.len() {
+            return Iter::new(&[], Steps::new(&[], &[]), &[]);
         }
-        Iter::within(&[], parts)
-    }
-
-    // The same where the place is in one of the last parts: these are passed from the end.
-    fn near_end(&self, from: usize) -> Option<Iter<'_, T>>
-        ensures { IfSome result (λ it. (it ≡ drop from self.now) × ShowsInOrder (deref {X = T})) }
-    {
-        if from >= self.len {
-            return Some(Iter::within(&[], Steps::new(&[], &[])));
-        }
-        let last = self.parts.last();
-        let mut start = self.len;
-        for at in (0..last.len()).rev() {
-            let part = &last[at];
-            start -= part.len();
-            if start <= from {
-                let parts = Steps::new(&[], &last[at + 1..]);
-                return Some(Iter::within(&part[from - start..], parts));
-            }
-        }
-        None
+        let rest = &last[place..];
+        Iter::new(rest, Steps::new(&[], &[]), &[])
     }
 
     /// The allocator of the list.
     pub fn allocator(&self) -> Global {
-        self.parts.allocator()
-    }
-
-    // The parts, one after the other.
-    pub(crate) fn parts(&self) -> &Growing<Part<T>>
-        ensures items { joined result.now ≡ self.now }
-        ensures parts { All IsPart result.now }
-        ensures fits { length self.now < 2 ^ 64 }
-    {
-        prove!(self.len == self.len);
-        &self.parts
-    }
-
-    // The list of parts that have so many elements.
-    pub(crate) fn of_parts(parts: Growing<Part<T>>, len: usize) -> SharedList<T>
-        requires parts { All IsPart parts }
-        requires len { len ≡ length (joined parts) }
-        ensures { result ≡ joined parts }
-    {
-        SharedList { parts, len }
+        self.alloc
     }
 }
 
@@ -141,24 +101,14 @@ impl<T: Share + Drop> SharedList<T> {
     pub fn from_items(alloc: Global, items: &[T]) -> Result<SharedList<T>, AllocError>
         ensures exact { IfOk result (λ list. list ≡ items.now) }
     {
-        let mut change = Change::new(alloc);
-        change.push_items(items)?;
-        let parts = change.into_parts()?;
-        Ok(SharedList {
-            parts,
-            len: items.len(),
-        })
+        SharedList::new(alloc).spliced(0, 0, items)
     }
 
     /// Copies of all elements, in one vector.
     pub fn to_vec(&self) -> Result<Vec<T>, AllocError>
         ensures exact { IfOk result (λ items. items.items ≡ self.now) }
     {
-        let mut items = Vec::with_capacity(self.parts.allocator(), self.len)?;
-        for part in self.parts.iter() {
-            append_copies(&mut items, part)?;
-        }
-        Ok(items)
+        self.range_to_vec(0, self.len)
     }
 
     /// Copies of the elements from one place up to another, in one vector.
@@ -167,7 +117,7 @@ impl<T: Share + Drop> SharedList<T> {
         requires within { to ≤ length self.now }
         ensures exact { IfOk result (λ items. items.items ≡ slice_range self.now from to) }
     {
-        let mut items = Vec::with_capacity(self.parts.allocator(), to - from)?;
+        let mut items = Vec::with_capacity(self.alloc, to - from)?;
         for item in self.iter_from(from).take(to - from) {
             items.push(item.share()?)?;
         }
@@ -189,9 +139,13 @@ impl<T: Share + Drop> SharedList<T> {
         let Some(len) = self.len.checked_add(1) else {
             return Err(AllocError);
         };
-        let (part, place) = place_of(&self.parts, index, self.len);
-        let parts = inserted_at(&self.parts, part, place, item)?;
-        Ok(SharedList { parts, len })
+        let (front, last) = with_one(&self.front, &self.last, self.alloc, index, index, item)?;
+        Ok(SharedList {
+            front,
+            last,
+            len,
+            alloc: self.alloc,
+        })
     }
 
     /// The list with copies of these elements in place of those from one place up to another.
@@ -203,16 +157,13 @@ impl<T: Share + Drop> SharedList<T> {
         let Some(len) = (self.len - (to - from)).checked_add(items.len()) else {
             return Err(AllocError);
         };
-        let (part, place) = place_of(&self.parts, from, self.len);
-        let changed = spliced_in_part(&self.parts, part, place, to - from, items)?;
-        if let Some(parts) = changed {
-            return Ok(SharedList { parts, len });
-        }
-        let mut change = Change::before(&self.parts, part, place)?;
-        change.push_items(items)?;
-        let (part, place) = place_of(&self.parts, to, self.len);
-        let parts = change.with_rest(&self.parts, part, place)?;
-        Ok(SharedList { parts, len })
+        let (front, last) = spliced(&self.front, &self.last, self.alloc, from, to, items)?;
+        Ok(SharedList {
+            front,
+            last,
+            len,
+            alloc: self.alloc,
+        })
     }
 
     /// The list with another element at a place.
@@ -220,11 +171,14 @@ impl<T: Share + Drop> SharedList<T> {
         requires { index < length self.now }
         ensures exact { IfOk result (λ list. list ≡ slice_set self.now index item) }
     {
-        let (part, place) = place_of(&self.parts, index, self.len);
-        let parts = replaced_at(&self.parts, part, place, item)?;
+        prove!(index < self.len);
+        let end = index + 1;
+        let (front, last) = with_one(&self.front, &self.last, self.alloc, index, end, item)?;
         Ok(SharedList {
-            parts,
+            front,
+            last,
             len: self.len,
+            alloc: self.alloc,
         })
     }
 
@@ -233,12 +187,8 @@ impl<T: Share + Drop> SharedList<T> {
         requires { index < length self.now }
         ensures exact { IfOk result (λ list. list ≡ remove self.now index) }
     {
-        let (part, place) = place_of(&self.parts, index, self.len);
-        let parts = removed_at(&self.parts, part, place)?;
-        Ok(SharedList {
-            parts,
-            len: self.len - 1,
-        })
+        prove!(index < self.len);
+        self.spliced(index, index + 1, &[])
     }
 
     /// A list of the elements from one place up to another.
@@ -247,23 +197,29 @@ impl<T: Share + Drop> SharedList<T> {
         requires within { to ≤ length self.now }
         ensures exact { IfOk result (λ list. list ≡ slice_range self.now from to) }
     {
-        let (part, place) = place_of(&self.parts, to, self.len);
-        let front = Change::before(&self.parts, part, place)?.into_parts()?;
-        let (part, place) = place_of(&front, from, to);
-        let parts = Change::new(self.allocator()).with_rest(&front, part, place)?;
+        let border = self.front.len();
+        let whole = self
+            .front
+            .spliced(self.alloc, border, border, self.last.items())?;
+        let front = Front::of(self.alloc, whole.copied(from, to)?)?;
         Ok(SharedList {
-            parts,
+            front,
+            last: Last::empty(),
             len: to - from,
+            alloc: self.alloc,
         })
     }
 }
 
 impl<T: Drop> Share for SharedList<T> {
     fn share(&self) -> Result<SharedList<T>, AllocError> {
-        let parts = self.parts.share()?;
+        let front = self.front.share()?;
+        let last = self.last.share()?;
         Ok(SharedList {
-            parts,
+            front,
+            last,
             len: self.len,
+            alloc: self.alloc,
         })
     }
 }

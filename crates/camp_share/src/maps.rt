@@ -8,8 +8,9 @@ ghost use Rattle.std.specs.Cmp.{on_per, and_per};
 ghost use Rattle.camp_share.specs.Maps.{map_of};
 
 use crate::changes::{inserted_at, removed_at, replaced_at};
+use crate::part_lists::PartList;
 use crate::search::{place_in, search};
-use crate::{Iter, Share, SharedList};
+use crate::{Iter, Share};
 use std::alloc::{AllocError, Global};
 use std::marker::Model;
 
@@ -22,7 +23,7 @@ pub trait Key: Ord + Share + Drop {
 /// it was made from.
 #[derive(Drop)]
 pub struct SharedMap<K: Key, V> {
-    entries: SharedList<(K, V)>,
+    entries: PartList<(K, V)>,
 }
 
 impl<K: Key, V> Model for SharedMap<K, V> {
@@ -42,7 +43,7 @@ impl<K: Key, V> SharedMap<K, V> {
         ensures exact { map_of K.cmp result ≡ map.empty }
     {
         SharedMap {
-            entries: SharedList::new(alloc),
+            entries: PartList::new(alloc),
         }
     }
 
@@ -113,7 +114,7 @@ impl<K: Key, V: Share + Drop> SharedMap<K, V> {
         match search(parts, &key) {
             Ok((index, place)) => {
                 let parts = replaced_at(parts, index, place, (key, value))?;
-                let entries = SharedList::of_parts(parts, len);
+                let entries = PartList::of_parts(parts, len);
                 Ok(SharedMap { entries })
             }
             Err((index, place)) => {
@@ -121,7 +122,7 @@ impl<K: Key, V: Share + Drop> SharedMap<K, V> {
                     return Err(AllocError);
                 };
                 let parts = inserted_at(parts, index, place, (key, value))?;
-                let entries = SharedList::of_parts(parts, len);
+                let entries = PartList::of_parts(parts, len);
                 Ok(SharedMap { entries })
             }
         }
@@ -146,7 +147,7 @@ impl<K: Key, V: Share + Drop> SharedMap<K, V> {
         match search(parts, key) {
             Ok((index, place)) => {
                 let parts = removed_at(parts, index, place)?;
-                let entries = SharedList::of_parts(parts, self.entries.len() - 1);
+                let entries = PartList::of_parts(parts, self.entries.len() - 1);
                 Ok(SharedMap { entries })
             }
             Err(_) => {
@@ -220,7 +221,7 @@ impl<K: Key, V: Share + Drop> MapBuilder<K, V> {
         ensures exact { IfOk result (λ map. map_of K.cmp map ≡ map_of K.cmp self) }
     {
         let alloc = *self.entries.allocator();
-        let entries = SharedList::from_items(alloc, &self.entries)?;
+        let entries = PartList::from_items(alloc, &self.entries)?;
         Ok(SharedMap { entries })
     }
 }

@@ -1,14 +1,15 @@
-use Rattle.camp_share.proofs.Words.{subst, ◌∙◌, arith, All, All-tail, IsPart}
-use Rattle.camp_share.proofs.PartLemmas.{left_behind, length_told}
+use Rattle.camp_share.proofs.Words.{◌+◌, ◌-◌, ◌++◌, length, take, drop, sym, ap, ◌∙◌, arith, append-nil, length-drop, take_all, drop-append-add, joined}
 use Rattle.camp_share.proofs.lists.SharedList.iter_from.Goals as goal
 
-pub loop-part-preserved : goal.loop-part-preserved
-loop-part-preserved g c =
-    let size = length_told _ c.in-Some-next.part.now _ c.deref.ensures c.len.ensures in
-    let less = length_told _ c.in-Some-next.part.now _ c.deref-in-Some-next.ensures c.len-start.ensures in
-    record {
-      can_next = tt;
-      is_finite = tt;
-      parts = All-tail IsPart _ _ (subst (All IsPart) c.in-Some-next.ensures.steps c.loop-part.invariant.parts);
-      rest = left_behind c.loop-part.parts c.next.new.self c.in-Some-next.part.now c.loop-part.start c.len-start.result c.in-Some-next.ensures.steps less (omega arith) ∙ c.loop-part.invariant.rest;
-    }
+pub returns-clause-rest : goal.returns-clause-rest
+returns-clause-rest g c =
+    let front = c.self.inside.front in
+    let last = c.self.inside.last in
+    let items = c.items-last.result.now in
+    let place = c.args.from - c.len-border.result in
+    let begins = c.len-border.ensures in
+    let long = length-drop place items in
+    c.new-3.ensures.rest ∙ append-nil _ ∙ ap (λ steps. take (length items - place) (drop place items) ++ joined steps) c.new-2.ensures.rest
+    ∙ append-nil _ ∙ take_all (length items - place) (drop place items) (omega arith) ∙ ap (drop place) c.items-last.ensures
+    ∙ sym (drop-append-add front last place) ∙ ap (λ k. drop k (front ++ last)) {x = length front + place} {y = c.args.from} (omega arith)
+    ∙ ap (drop c.args.from) c.self.view_is

@@ -1,5 +1,5 @@
 use Rattle.camp_share.proofs.Words.{◌≡◌, drop, All, joined, IsPart}
-use Rattle.camp_share.proofs.lists.SharedList.iter_from.Given as goal
+use Rattle.camp_share.proofs.part_lists.PartList.iter_from.Given as goal
 
 abbrev pub invariant-loop-part : goal.invariant-loop-part
 invariant-loop-part g l = record {

@@ -1,6 +1,6 @@
 use Rattle.camp_share.proofs.Words.{ap, ◌∙◌, slice_range, arith, common_steps}
 use Rattle.camp_share.proofs.PartLemmas.{copied_between}
-use Rattle.camp_share.proofs.lists.SharedList.copied.Goals as goal
+use Rattle.camp_share.proofs.part_lists.PartList.copied.Goals as goal
 
 pub returns : goal.returns
 returns g c = record {

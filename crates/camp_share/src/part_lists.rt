@@ -1,0 +1,228 @@
+ghost use Rattle.std.specs.Prelude.{◌≡◌, ◌+◌, ◌<◌, ◌≤◌, ◌^◌, ◌==◌, List, [], ◌∷◌, ◌++◌, length, take, drop, slice_get, slice_range, slice_set, IfOk, IfSome};
+ghost use Rattle.std.specs.List.{splice, insert, remove};
+ghost use Rattle.std.specs.List.{All};
+ghost use Rattle.camp_share.specs.Inside.Parts.{joined, IsPart};
+ghost use Rattle.std.specs.Option.{option_copied};
+ghost use Rattle.std.specs.Cmp.Lexicographic.{pointwise, lists_per, lists_equiv};
+ghost use Rattle.std.specs.Map.Iter.{ShowsInOrder, deref};
+
+use crate::changes::{Change, place_of, spliced_in_part};
+use crate::growing::{Growing, Part, append_copies};
+use crate::iters::Steps;
+use crate::{Iter, Share};
+use std::alloc::{AllocError, Global};
+use std::marker::Model;
+
+// A list in parts of up to 24 elements, which it shares with the lists that it was made from. It is
+// copied by a count for each part of parts, and for each of the few parts behind them.
+#[derive(Drop)]
+pub(crate) struct PartList<T> {
+    parts: Growing<Part<T>>,
+    len: usize,
+}
+
+impl<T> Model for PartList<T> {
+    ghost use Rattle.std.specs.Prelude.{◌≡◌, List, length};
+    ghost use Rattle.std.specs.List.{All};
+    ghost use Rattle.camp_share.specs.Inside.Parts.{joined, IsPart};
+
+    ghost Value = { List T };
+
+    ghost view = { λ list. joined list.parts };
+
+    ghost invariant = { λ list. All IsPart list.parts × (length (joined list.parts) ≡ list.len) };
+}
+
+impl<T> PartList<T> {
+    // The list without an element.
+    pub(crate) fn new(alloc: Global) -> PartList<T>
+        ensures exact { result ≡ [] }
+    {
+        PartList {
+            parts: Growing::new(alloc),
+            len: 0,
+        }
+    }
+
+    // How many elements the list has.
+    pub(crate) fn len(&self) -> usize
+        ensures exact { result ≡ length self.now }
+    {
+        self.len
+    }
+
+    // The element at a place.
+    pub(crate) fn get(&self, index: usize) -> Option<&T>
+        ensures exact { option_copied result ≡ slice_get self.now index }
+    {
+        self.iter_from(index, &[]).next()
+    }
+
+    // The elements from the first to the last.
+    pub(crate) fn iter(&self) -> Iter<'_, T>
+        ensures rest { result ≡ self.now }
+        ensures runs { ShowsInOrder (deref {X = T}) }
+    {
+        Iter::new(&[], self.parts.iter(), &[])
+    }
+
+    // The elements from a place to the last, and others behind them.
+    pub(crate) fn iter_from<'a>(&'a self, from: usize, last: &'a [T]) -> Iter<'a, T>
+        ensures rest { result ≡ drop from self.now ++ last.now }
+        ensures runs { ShowsInOrder (deref {X = T}) }
+    {
+        if let Some(rest) = self.near_end(from, last) {
+            return rest;
+        }
+        let mut parts = self.parts.iter();
+        let mut start = from;
+        while let Some(part) = parts.next() {
+            if start < part.len() {
+                return Iter::new(&part[start..], parts, last);
+            }
+            start -= part.len();
+        }
+        Iter::new(&[], parts, last)
+    }
+
+    // The same where the place is in one of the last parts: these are passed from the end.
+    fn near_end<'a>(&'a self, from: usize, last: &'a [T]) -> Option<Iter<'a, T>>
+        ensures { IfSome result (λ it. (it ≡ drop from self.now ++ last.now) × ShowsInOrder (deref {X = T})) }
+    {
+        if from >= self.len {
+            return Some(Iter::new(&[], Steps::new(&[], &[]), last));
+        }
+        let ends = self.parts.last();
+        let mut start = self.len;
+        for at in (0..ends.len()).rev() {
+            let part = &ends[at];
+            start -= part.len();
+            if start <= from {
+                let parts = Steps::new(&[], &ends[at + 1..]);
+                return Some(Iter::new(&part[from - start..], parts, last));
+            }
+        }
+        None
+    }
+
+    // The allocator of the list.
+    pub(crate) fn allocator(&self) -> Global {
+        self.parts.allocator()
+    }
+
+    // The parts, one after the other.
+    pub(crate) fn parts(&self) -> &Growing<Part<T>>
+        ensures items { joined result.now ≡ self.now }
+        ensures parts { All IsPart result.now }
+        ensures fits { length self.now < 2 ^ 64 }
+    {
+        prove!(self.len == self.len);
+        &self.parts
+    }
+
+    // The list of parts that have so many elements.
+    pub(crate) fn of_parts(parts: Growing<Part<T>>, len: usize) -> PartList<T>
+        requires parts { All IsPart parts }
+        requires len { len ≡ length (joined parts) }
+        ensures { result ≡ joined parts }
+    {
+        PartList { parts, len }
+    }
+}
+
+impl<T: Share + Drop> PartList<T> {
+    // The list of copies of these elements.
+    pub(crate) fn from_items(alloc: Global, items: &[T]) -> Result<PartList<T>, AllocError>
+        ensures exact { IfOk result (λ list. list ≡ items.now) }
+    {
+        let mut change = Change::new(alloc);
+        change.push_items(items)?;
+        let parts = change.into_parts()?;
+        Ok(PartList {
+            parts,
+            len: items.len(),
+        })
+    }
+
+    // Copies of all elements, in one vector.
+    pub(crate) fn to_vec(&self) -> Result<Vec<T>, AllocError>
+        ensures exact { IfOk result (λ items. items.items ≡ self.now) }
+    {
+        let mut items = Vec::with_capacity(self.parts.allocator(), self.len)?;
+        for part in self.parts.iter() {
+            append_copies(&mut items, part)?;
+        }
+        Ok(items)
+    }
+
+    // The list with copies of these elements in place of those from one place up to another.
+    pub(crate) fn spliced(
+        &self,
+        from: usize,
+        to: usize,
+        items: &[T],
+    ) -> Result<PartList<T>, AllocError>
+        requires range { from ≤ to }
+        requires within { to ≤ length self.now }
+        ensures exact { IfOk result (λ list. list ≡ splice self.now from to items.now) }
+    {
+        let Some(len) = (self.len - (to - from)).checked_add(items.len()) else {
+            return Err(AllocError);
+        };
+        let (part, place) = place_of(&self.parts, from, self.len);
+        let changed = spliced_in_part(&self.parts, part, place, to - from, items)?;
+        if let Some(parts) = changed {
+            return Ok(PartList { parts, len });
+        }
+        let mut change = Change::before(&self.parts, part, place)?;
+        change.push_items(items)?;
+        let (part, place) = place_of(&self.parts, to, self.len);
+        let parts = change.with_rest(&self.parts, part, place)?;
+        Ok(PartList { parts, len })
+    }
+
+    // A list of the elements from one place up to another.
+    pub(crate) fn copied(&self, from: usize, to: usize) -> Result<PartList<T>, AllocError>
+        requires range { from ≤ to }
+        requires within { to ≤ length self.now }
+        ensures exact { IfOk result (λ list. list ≡ slice_range self.now from to) }
+    {
+        let (part, place) = place_of(&self.parts, to, self.len);
+        let front = Change::before(&self.parts, part, place)?.into_parts()?;
+        let (part, place) = place_of(&front, from, to);
+        let parts = Change::new(self.allocator()).with_rest(&front, part, place)?;
+        Ok(PartList {
+            parts,
+            len: to - from,
+        })
+    }
+}
+
+impl<T: Drop> Share for PartList<T> {
+    fn share(&self) -> Result<PartList<T>, AllocError> {
+        let parts = self.parts.share()?;
+        Ok(PartList {
+            parts,
+            len: self.len,
+        })
+    }
+}
+
+impl<T: PartialEq> PartialEq for PartList<T> {
+    ghost eq = { pointwise T.eq };
+
+    ghost laws = { lists_per T.laws };
+
+    fn eq(&self, other: &PartList<T>) -> bool {
+        if self.len != other.len {
+            return false;
+        }
+        let (mut mine, mut others) = (self.iter(), other.iter());
+        while let Some(item) = mine.next() {
+            if !others.next().is_some_and(|other| *item == *other) {
+                return false;
+            }
+        }
+        true
+    }
+}

@@ -1,0 +1,266 @@
+ghost use Rattle.std.specs.Prelude.{◌≡◌, ◌≤◌, [], ◌∷◌, ◌++◌, length, drop, IfOk};
+ghost use Rattle.std.specs.List.{splice};
+ghost use Rattle.std.specs.Map.Iter.{ShowsInOrder, deref};
+
+use crate::growing::{MAX_PART_LENGTH, Part, append_copies};
+use crate::iters::Steps;
+use crate::part_lists::PartList;
+use crate::{Iter, Share, Shared};
+use std::alloc::{AllocError, Global};
+use std::marker::Model;
+
+// So many elements may stand apart behind others.
+const FEW: usize = 12;
+
+// The elements of a list before its last part, which lists share by one count.
+#[derive(Drop)]
+pub(crate) struct Front<T> {
+    list: Option<Shared<PartList<T>>>,
+}
+
+impl<T> Model for Front<T> {
+    ghost use Rattle.std.specs.Prelude.{List};
+    ghost use Rattle.camp_share.specs.Inside.Parts.{held};
+
+    ghost Value = { List T };
+
+    ghost view = { λ front. held front.list };
+}
+
+impl<T> Front<T> {
+    // No element.
+    pub(crate) fn empty() -> Front<T>
+        ensures { result ≡ [] }
+    {
+        Front { list: None }
+    }
+
+    // How many elements there are.
+    pub(crate) fn len(&self) -> usize
+        ensures { result ≡ length self.now }
+    {
+        match &self.list {
+            Some(list) => list.len(),
+            None => 0,
+        }
+    }
+
+    // The elements from a place to the last, and others behind them.
+    pub(crate) fn iter_from<'a>(&'a self, from: usize, last: &'a [T]) -> Iter<'a, T>
+        ensures rest { result ≡ drop from self.now ++ last.now }
+        ensures runs { ShowsInOrder (deref {X = T}) }
+    {
+        match &self.list {
+            Some(list) => list.iter_from(from, last),
+            None => Iter::new(&[], Steps::new(&[], &[]), last),
+        }
+    }
+}
+
+impl<T: Drop> Front<T> {
+    // The elements of a list in parts.
+    pub(crate) fn of(alloc: Global, list: PartList<T>) -> Result<Front<T>, AllocError>
+        ensures { IfOk result (λ front. front ≡ list) }
+    {
+        let list = Shared::new(alloc, list)?;
+        Ok(Front { list: Some(list) })
+    }
+}
+
+impl<T: Share + Drop> Front<T> {
+    // The elements with copies of others in place of those from one place up to another.
+    pub(crate) fn spliced(
+        &self,
+        alloc: Global,
+        from: usize,
+        to: usize,
+        items: &[T],
+    ) -> Result<PartList<T>, AllocError>
+        requires range { from ≤ to }
+        requires within { to ≤ length self.now }
+        ensures { IfOk result (λ list. list ≡ splice self.now from to items.now) }
+    {
+        match &self.list {
+            Some(list) => list.spliced(from, to, items),
+            None => PartList::from_items(alloc, items),
+        }
+    }
+}
+
+impl<T> Share for Front<T> {
+    fn share(&self) -> Result<Front<T>, AllocError> {
+        match &self.list {
+            Some(list) => Ok(Front {
+                list: Some(list.share()?),
+            }),
+            None => Ok(Front { list: None }),
+        }
+    }
+}
+
+// The last part of a list, or no element.
+#[derive(Drop)]
+pub(crate) struct Last<T> {
+    part: Option<Part<T>>,
+}
+
+impl<T> Model for Last<T> {
+    ghost use Rattle.std.specs.Prelude.{List};
+    ghost use Rattle.camp_share.specs.Inside.Parts.{held_part};
+
+    ghost Value = { List T };
+
+    ghost view = { λ last. held_part last.part };
+}
+
+impl<T> Last<T> {
+    // No element.
+    pub(crate) fn empty() -> Last<T>
+        ensures { result ≡ [] }
+    {
+        Last { part: None }
+    }
+
+    // The elements.
+    pub(crate) fn items(&self) -> &[T]
+        ensures { result.now ≡ self.now }
+    {
+        match &self.part {
+            Some(part) => part,
+            None => &[],
+        }
+    }
+}
+
+impl<T: Drop> Last<T> {
+    // These elements. Where there are none, it takes no memory.
+    pub(crate) fn of(items: Vec<T>) -> Result<Last<T>, AllocError>
+        ensures { IfOk result (λ last. last ≡ items.items) }
+    {
+        if items.is_empty() {
+            return Ok(Last::empty());
+        }
+        let alloc = *items.allocator();
+        let part = Shared::new(alloc, items)?;
+        Ok(Last { part: Some(part) })
+    }
+}
+
+impl<T: Share + Drop> Last<T> {
+    // The elements with one in place of those from one place up to another.
+    pub(crate) fn with_one(
+        &self,
+        alloc: Global,
+        from: usize,
+        to: usize,
+        item: T,
+    ) -> Result<Last<T>, AllocError>
+        requires range { from ≤ to }
+        requires within { to ≤ length self.now }
+        ensures { IfOk result (λ last. last ≡ splice self.now from to (item ∷ [])) }
+    {
+        let old = self.items();
+        let room = (old.len() - (to - from)).saturating_add(1);
+        let mut items = Vec::with_capacity(alloc, room)?;
+        append_copies(&mut items, &old[..from])?;
+        items.push(item)?;
+        append_copies(&mut items, &old[to..])?;
+        Last::of(items)
+    }
+
+    // The elements with copies of others in place of those from one place up to another.
+    pub(crate) fn spliced(
+        &self,
+        alloc: Global,
+        from: usize,
+        to: usize,
+        new: &[T],
+    ) -> Result<Last<T>, AllocError>
+        requires range { from ≤ to }
+        requires within { to ≤ length self.now }
+        ensures { IfOk result (λ last. last ≡ splice self.now from to new.now) }
+    {
+        let old = self.items();
+        let room = (old.len() - (to - from)).saturating_add(new.len());
+        let mut items = Vec::with_capacity(alloc, room)?;
+        append_copies(&mut items, &old[..from])?;
+        append_copies(&mut items, new)?;
+        append_copies(&mut items, &old[to..])?;
+        Last::of(items)
+    }
+}
+
+impl<T> Share for Last<T> {
+    fn share(&self) -> Result<Last<T>, AllocError> {
+        match &self.part {
+            Some(part) => Ok(Last {
+                part: Some(part.share()?),
+            }),
+            None => Ok(Last { part: None }),
+        }
+    }
+}
+
+// A front and a last part with copies of other elements in place of those from one place up to another.
+pub(crate) fn spliced<T: Share + Drop>(
+    front: &Front<T>,
+    last: &Last<T>,
+    alloc: Global,
+    from: usize,
+    to: usize,
+    items: &[T],
+) -> Result<(Front<T>, Last<T>), AllocError>
+    requires range { from ≤ to }
+    requires within { to ≤ length (front.now ++ last.now) }
+    ensures { IfOk result (λ new. new.0 ++ new.1 ≡ splice (front.now ++ last.now) from to items.now) }
+{
+    let border = front.len();
+    if from < border && to <= border {
+        let list = front.spliced(alloc, from, to, items)?;
+        return Ok((Front::of(alloc, list)?, last.share()?));
+    }
+    if from >= border && has_room(border, last, to - from, items.len()) {
+        let changed = last.spliced(alloc, from - border, to - border, items)?;
+        let same = front.share()?;
+        return Ok((same, changed));
+    }
+    let list = front.spliced(alloc, border, border, last.items())?;
+    if from == list.len() && items.len() <= FEW {
+        let front = Front::of(alloc, list)?;
+        return Ok((front, Last::empty().spliced(alloc, 0, 0, items)?));
+    }
+    let list = list.spliced(from, to, items)?;
+    Ok((Front::of(alloc, list)?, Last::empty()))
+}
+
+// A front and a last part with one element in place of those from one place up to another.
+pub(crate) fn with_one<T: Share + Drop>(
+    front: &Front<T>,
+    last: &Last<T>,
+    alloc: Global,
+    from: usize,
+    to: usize,
+    item: T,
+) -> Result<(Front<T>, Last<T>), AllocError>
+    requires range { from ≤ to }
+    requires within { to ≤ length (front.now ++ last.now) }
+    ensures { IfOk result (λ new. new.0 ++ new.1 ≡ splice (front.now ++ last.now) from to (item ∷ [])) }
+{
+    let border = front.len();
+    if from >= border && has_room(border, last, to - from, 1) {
+        let changed = last.with_one(alloc, from - border, to - border, item)?;
+        let same = front.share()?;
+        return Ok((same, changed));
+    }
+    let mut one = Vec::with_capacity(alloc, 1)?;
+    one.push(item)?;
+    spliced(front, last, alloc, from, to, &one)
+}
+
+// Whether a last part may have so many elements in place of as many that go. It may have those of a
+// whole part where nothing stands before it.
+fn has_room<T>(border: usize, last: &Last<T>, gone: usize, new: usize) -> bool {
+    let most = if border == 0 { MAX_PART_LENGTH } else { FEW };
+    let kept = last.items().len().saturating_sub(gone);
+    new <= most.saturating_sub(kept)
+}
