@@ -181,7 +181,8 @@ impl<T: Share + Drop> Growing<T> {
         Ok(())
     }
 
-    // Closes the last elements where they are many.
+    // Closes the last elements where they are many. The list is the same: what is closed is shared by
+    // one count, where the last elements take a count each. No clause asks for it.
     pub(crate) fn settle(&mut self) -> Result<(), AllocError>
         ensures { OnOk result (self.new ≡ self.old) }
     {
