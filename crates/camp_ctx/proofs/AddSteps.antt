@@ -1,30 +1,48 @@
 -- What a body of adding and passing by knows at its answers.
-use Rattle.camp_ctx.proofs.Words.{◌≡◌, ℕ, ◌+◌, ◌<◌, List, [], ◌∷◌, ◌++◌, length, take, drop, get_or, sym, ap, ◌∙◌, subst, drop_more, inverse_of, label_of, Commute, Label, Named, Norm, Passes, Fronts, one_front, one_pass, inverse_of-inverse_of, Cancels, PassesBy, GivesNone, FromLast, ContextedPatch, GivesOne}
+use Rattle.camp_ctx.proofs.Words.{◌≡◌, ℕ, ◌+◌, ◌<◌, List, [], ◌∷◌, ◌++◌, length, take, drop, get_or, refl, sym, ap, ◌∙◌, subst, drop_more, inverse_of, label_of, Commute, Label, Named, Norm, Passes, Fronts, one_front, one_pass, inverse_of-inverse_of, Adds, AddsAll, Cancels, PassesBy, GivesNone, FromLast, cancel, commute, keep, ContextedPatch, GivesOne}
+use Rattle.std.proofs.lemmas.List.{take-append-drop}
+use Rattle.camp_ctx.specs.Inside.InPlace.{behind}
 use Rattle.camp_seq.proofs.ListSteps.{whole}
 use Rattle.camp_ctx.proofs.AddResults.{one_from_last}
 
--- a label that does not come to the front of a context
-pub nothing_cancels : (a : Named) (x : ContextedPatch) (label : Label) (s : List Named) → label ≡ label_of (inverse_of a) → s ≡ x.context → ((pair : Named × List Named) → ¬ (Fronts label s pair.0 pair.1)) → GivesNone (Cancels a) x
-nothing_cancels a x label s labelled is never y w =
-    never (inverse_of a, w.rest) (subst (λ l. Fronts l s (inverse_of a) w.rest) (sym labelled) (subst (λ t. Fronts (label_of (inverse_of a)) t (inverse_of a) w.rest) (sym is) w.front))
+-- what is behind the inverse of a at the front of a list
+abbrev pub Behind : Named → List Named → List Named → Type 0
+Behind a s rest = Fronts (label_of (inverse_of a)) s (inverse_of a) rest
 
--- what came to the front of a context, and its inverse
-module _ (a : Named) (x : ContextedPatch) (label : Label) (s : List Named) (first : Named) (rest : List Named) (labelled : label ≡ label_of (inverse_of a)) (is : s ≡ x.context) (comes : Fronts label s first rest) where
-  front : Fronts (label_of (inverse_of a)) x.context first rest
-  front = subst (λ t. Fronts (label_of (inverse_of a)) t first rest) is (subst (λ l. Fronts l s first rest) labelled comes)
+-- a label that does not come to the front of a list
+pub none_behind_inverse : (a : Named) (s : List Named) (label : Label) (t : List Named) → label ≡ label_of (inverse_of a) → t ≡ s → ((pair : Named × List Named) → ¬ (Fronts label t pair.0 pair.1)) → (rest : List Named) → ¬ (Behind a s rest)
+none_behind_inverse a s label t labelled is never rest w =
+    never (inverse_of a, rest) (subst (λ l. Fronts l t (inverse_of a) rest) (sym labelled) (subst (λ u. Behind a u rest) (sym is) w))
 
-  pub not_cancelled : ¬ (inverse_of first ≡ a) → GivesNone (Cancels a) x
-  not_cancelled other y w = other (ap inverse_of (one_front _ x.context rest w.rest first (inverse_of a) front w.front).0 ∙ inverse_of-inverse_of a)
+-- what came to the front of a list, and its inverse
+module _ (a : Named) (s : List Named) (label : Label) (first : Named) (rest : List Named) (labelled : label ≡ label_of (inverse_of a)) (comes : Fronts label s first rest) where
+  front : Fronts (label_of (inverse_of a)) s first rest
+  front = subst (λ l. Fronts l s first rest) labelled comes
 
-  pub cancels_from : (y : ContextedPatch) → inverse_of first ≡ a → Norm rest y.context → y.patch ≡ x.patch → Cancels a x y
-  cancels_from y same order kept =
+  pub not_inverse : ¬ (inverse_of first ≡ a) → (left : List Named) → ¬ (Behind a s left)
+  not_inverse other left w = other (ap inverse_of (one_front _ s rest left first (inverse_of a) front w).0 ∙ inverse_of-inverse_of a)
+
+  pub is_inverse : inverse_of first ≡ a → Behind a s rest
+  is_inverse same =
       let it : first ≡ inverse_of a = sym (inverse_of-inverse_of first) ∙ ap inverse_of same in
-      record {
-        rest = rest;
-        front = subst (λ z. Fronts (label_of (inverse_of a)) x.context z rest) it front;
-        context = order;
-        patch = kept;
-      }
+      subst (λ z. Fronts (label_of (inverse_of a)) s z rest) it front
+
+-- the three cases of adding, of a context and the patch behind it
+module _ (a : Named) (s : List Named) (p : Named) where
+  pub by_cancelling : (rest left : List Named) → Behind a s rest → Norm rest left → Adds a (behind s p) (behind left p)
+  by_cancelling rest left w order = cancel (record { rest = rest; front = w; context = order; patch = refl })
+
+  module _ (never : (rest : List Named) → ¬ (Behind a s rest)) where
+    no_cancelling : GivesNone (Cancels a) (behind s p)
+    no_cancelling y w = never w.rest w.front
+
+    pub by_passing : (passing a'' p' : Named) (passed t : List Named) → Passes a s passed passing → Commute passing p p' a'' → Norm passed t → Adds a (behind s p) (behind t p')
+    by_passing passing a'' p' passed t past swap order =
+        commute no_cancelling (record { a' = passing; a'' = a''; passed = passed; past_context = past; past_patch = swap; context = order })
+
+    pub by_keeping : (t : List Named) → ((y : Named × List Named × Named) → ¬ ((passing : Named) × Passes a s y.1 passing × Commute passing p y.2 y.0)) → Norm (a ∷ s) t → Adds a (behind s p) (behind t p)
+    by_keeping t none order =
+        keep no_cancelling (λ y w. none (w.a'', w.passed, y.patch) (w.a', w.past_context, w.past_patch)) (record { context = order; patch = refl })
 
 -- a context that can not be passed
 pub not_past_context : (a : Named) (x : ContextedPatch) (s : List Named) → s ≡ x.context → ((pair : List Named × Named) → ¬ (Passes a s pair.0 pair.1)) → GivesNone (PassesBy a) x
@@ -46,6 +64,20 @@ module _ (a : Named) (x : ContextedPatch) (s passed : List Named) (a' : Named) (
     past_patch = subst (λ q. Commute a' x.patch q a'') (sym same) (subst (λ q. Commute a' q patch a'') here swap);
     context = order;
   }
+
+-- one after the other
+from_both : (s t : List Named) (x y z : ContextedPatch) → AddsAll t x y → AddsAll s y z → AddsAll (s ++ t) x z
+from_both [] t x y z v w = subst (AddsAll t x) (sym w) v
+from_both (a ∷ s) t x y z v w = (w.0, from_both s t x y w.0 v w.1, w.2)
+
+pub added_in_parts : (r : List Named) (n : ℕ) (x y z : ContextedPatch) → AddsAll (drop n r) x y → AddsAll (take n r) y z → AddsAll r x z
+added_in_parts r n x y z v w = subst (λ l. AddsAll l x z) (take-append-drop n r) (from_both (take n r) (drop n r) x y z v w)
+
+-- a list of one element
+pub one_added : (a : Named) (r : List Named) (x copy y : ContextedPatch) → r ≡ a ∷ [] → copy ≡ x → AddsAll r copy y → Adds a x y
+one_added a r x copy y alone same w =
+    let one : AddsAll (a ∷ []) copy y = subst (λ l. AddsAll l copy y) alone w in
+    subst (λ z. Adds a z y) (one.1 ∙ same) one.2
 
 -- where the elements from i on have been taken, and the one before them gives nothing, the list gives nothing
 pub none_from_last : (Change : Named → ContextedPatch → ContextedPatch → Type 0) → ((a : Named) → GivesOne (Change a)) → (before : List Named) (a : Named) (r : List Named) (x y : ContextedPatch) → FromLast Change r x y → GivesNone (Change a) y → GivesNone (FromLast Change (before ++ a ∷ r)) x

@@ -1,16 +1,22 @@
 ghost use Rattle.std.specs.Prelude.{◌≡◌, ◌↔◌, IfOk, IsTrue};
 ghost use Rattle.camp_base.specs.Answers.{Finds};
 ghost use Rattle.camp_prim.specs.Effect.{inverse_of};
+ghost use Rattle.camp_prim.specs.Labels.{label_of};
 ghost use Rattle.camp_prim.specs.Commuting.{Commute};
 ghost use Rattle.camp_prim.specs.declared.named.Named.{Named};
 ghost use Rattle.camp_seq.specs.NormalOrder.{Norm};
-ghost use Rattle.camp_ctx.specs.Adding.{Adds, AddsAll, Cancels, Keeps, PassesBy, PassesByAll};
+ghost use Rattle.camp_seq.specs.Passing.{Fronts};
+ghost use Rattle.camp_ctx.specs.Adding.{Adds, AddsAll, PassesBy, PassesByAll};
+ghost use Rattle.camp_ctx.specs.Inside.InPlace.{behind};
 
+use crate::Contexted;
 use crate::conflicts::has_label;
-use crate::fast::{becomes_context, linked};
-use crate::{Contexted, join};
+use crate::fast::{becomes_context, changing, linked, stays};
+use crate::joins::push_all;
 use camp_prim::{Named, commute};
-use camp_seq::{Seq, are_own_orders_of_chain, front, ordered_before, past};
+use camp_seq::{
+    Seq, are_own_orders, are_own_orders_of_chain, front, pass_by, past, put_first, put_in_order,
+};
 use std::alloc::{AllocError, Global};
 use std::slice;
 
@@ -21,11 +27,9 @@ impl Contexted {
         ensures exact { IfOk result (λ y. AddsAll r.now x.now y) }
     {
         let items = r.items();
-        let (start, mut sum) = linked(items, x)?;
-        for at in (0..start).rev() {
-            sum = Contexted::add_one(&items[at], &sum)?;
-        }
-        Ok(sum)
+        let (start, sum) = linked(items, x)?;
+        let all = add_items(&items[..start], sum)?;
+        Ok(all)
     }
 
     /// The same of a list that is given away. Where all of it is put before an empty context as it stands, it
@@ -46,17 +50,9 @@ impl Contexted {
     pub fn add_one(a: &Named, x: &Contexted) -> Result<Contexted, AllocError>
         ensures exact { IfOk result (λ y. Adds a.now x.now y) }
     {
-        if x.stays_behind(a) {
-            return x.try_clone();
-        }
-        let cancelled = cancelled(a, x)?;
-        if let Some(y) = cancelled {
-            return Ok(y);
-        }
-        match Contexted::past_one(a, x)? {
-            Some(y) => Ok(y),
-            None => kept(a, x),
-        }
+        let copy = x.try_clone()?;
+        let sum = add_items(slice::from_ref(a), copy)?;
+        Ok(sum)
     }
 
     /// `Some` of what is seen behind a list, as it is seen before the list, where each primitive of
@@ -80,15 +76,93 @@ impl Contexted {
     pub fn past_one(a: &Named, x: &Contexted) -> Result<Option<Contexted>, AllocError>
         ensures exact { IfOk result (Finds (PassesBy a.now x.now)) }
     {
-        let Some((context, a)) = past(a, x.context())? else {
+        let Some((mut context, a)) = past(a, x.context())? else {
             return Ok(None);
         };
         let Some(patch) = patch_before(&a, x.patch())? else {
             return Ok(None);
         };
-        let before = in_order(x.allocator(), context, patch)?;
+        let told = put_in_order(&mut context);
+        let before = made(x.allocator(), context, patch, told)?;
         Ok(Some(before))
     }
+}
+
+/// The elements of a list are added, from the last to the first. The context is copied once, from where one of them
+/// may change it, and then changed in its place in memory.
+fn add_items(r: &[Named], x: Contexted) -> Result<Contexted, AllocError>
+    ensures { IfOk result (AddsAll r.now x) }
+{
+    let count = changing(r, &x);
+    if count == 0 {
+        return Ok(x);
+    }
+    let mut context = copy_with_room(&x, count)?;
+    let mut patch = x.patch().try_clone()?;
+    let mut told = x.context_is_ordered();
+    for at in (0..count).rev() {
+        told = add_to(&r[at], &mut context, &mut patch, told)?;
+    }
+    let sum = made(x.allocator(), context, patch, told)?;
+    Ok(sum)
+}
+
+/// The context, with room for so many more elements.
+fn copy_with_room(x: &Contexted, more: usize) -> Result<Seq, AllocError>
+    ensures { IfOk result (λ copy. copy ≡ x.now.context) }
+{
+    let items = x.context().items();
+    let mut copy = Seq::with_room(x.allocator(), items.len().saturating_add(more))?;
+    push_all(&mut copy, items)?;
+    Ok(copy)
+}
+
+/// Adds a primitive to a context and the patch behind it, in their places in memory. What is told is whether the
+/// context is known to be its own normal order, and so is what is answered.
+fn add_to(a: &Named, context: &mut Seq, patch: &mut Named, told: bool) -> Result<bool, AllocError>
+    requires { IsTrue told → Norm context.old context.old }
+    ensures adds { IfOk result (λ told. Adds a.now (behind context.old patch.old) (behind context.new patch.new)) }
+    ensures own { IfOk result (λ told. IsTrue told → Norm context.new context.new) }
+{
+    if stays(a, context, patch, told) {
+        return Ok(told);
+    }
+    if let Some(rest) = behind_inverse(a, context)? {
+        *context = rest;
+        return Ok(put_in_order(context));
+    }
+    let mut a = a.try_clone()?;
+    if pass_by(&mut a, context, patch) {
+        return Ok(put_in_order(context));
+    }
+    let told = put_first(a, context, told)?;
+    Ok(told)
+}
+
+/// `Some` of what is behind the inverse of `a` at the front of a list. None where what comes to the front there is
+/// not that inverse.
+fn behind_inverse(a: &Named, s: &Seq) -> Result<Option<Seq>, AllocError>
+    ensures exact { IfOk result
+        (Finds (λ rest. Fronts (label_of (inverse_of a.now)) s.now (inverse_of a.now) rest)) }
+{
+    let label = a.label().opposite();
+    if !has_label(s.items(), &label) {
+        return Ok(None);
+    }
+    let Some((first, rest)) = front(s, &label)? else {
+        return Ok(None);
+    };
+    if !undoes(first, a) {
+        return Ok(None);
+    }
+    Ok(Some(rest))
+}
+
+/// Whether the first is the inverse of the second, by its label and by its primitive.
+fn undoes(first: Named, a: &Named) -> bool
+    ensures { IsTrue result ↔ (inverse_of first ≡ a.now) }
+{
+    first.invert().is_same(a)
 }
 
 /// What a primitive that stands behind `a` becomes before it. None where they don't commute.
@@ -101,47 +175,14 @@ fn patch_before(a: &Named, patch: &Named) -> Result<Option<Named>, AllocError>
     }
 }
 
-/// The contexted patch without the inverse of `a` at the front of its context. None where what comes
-/// to the front there is not that inverse.
-fn cancelled(a: &Named, x: &Contexted) -> Result<Option<Contexted>, AllocError>
-    ensures exact { IfOk result (Finds (Cancels a.now x.now)) }
+/// A patch behind a context, which is its own normal order where that is told or a look tells it.
+fn made(alloc: Global, context: Seq, patch: Named, told: bool) -> Result<Contexted, AllocError>
+    requires { IsTrue told → Norm context context }
+    ensures { IfOk result (λ y. y ≡ behind context patch) }
 {
-    let context = x.context();
-    let label = a.label().opposite();
-    if !has_label(context.items(), &label) {
-        return Ok(None);
+    let (own, all) = are_own_orders(context.items(), &patch);
+    if told {
+        return Contexted::told(alloc, context, patch, (true, all));
     }
-    let Some((first, rest)) = front(context, &label)? else {
-        return Ok(None);
-    };
-    if !undoes(first, a) {
-        return Ok(None);
-    }
-    let patch = x.patch().try_clone()?;
-    let left = in_order(x.allocator(), rest, patch)?;
-    Ok(Some(left))
-}
-
-/// Whether the first is the inverse of the second, by its label and by its primitive.
-fn undoes(first: Named, a: &Named) -> bool
-    ensures { IsTrue result ↔ (inverse_of first ≡ a.now) }
-{
-    first.invert().is_same(a)
-}
-
-/// The contexted patch with `a` before its context.
-fn kept(a: &Named, x: &Contexted) -> Result<Contexted, AllocError>
-    ensures { IfOk result (λ y. Keeps a.now x.now y) }
-{
-    let whole = join(x.allocator(), slice::from_ref(a), x.context().items())?;
-    let patch = x.patch().try_clone()?;
-    in_order(x.allocator(), whole, patch)
-}
-
-/// A patch behind a context, which is put in normal order.
-fn in_order(alloc: Global, context: Seq, patch: Named) -> Result<Contexted, AllocError>
-    ensures { IfOk result (λ y. Norm context y.context × (y.patch ≡ patch)) }
-{
-    let (context, told) = ordered_before(context, &patch);
-    Contexted::told(alloc, context, patch, told)
+    Contexted::told(alloc, context, patch, (own, all))
 }

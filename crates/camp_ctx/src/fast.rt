@@ -10,11 +10,12 @@
 //!   passes them as they are, it does not conflict with them, and where it does not merge with the first of them,
 //!   under a label that they don't have, it does. What is seen behind the chain is not made.
 //! - What a primitive passes as it is, and what is its own normal order then, stays as it is where the
-//!   primitive is added, and is shared.
+//!   primitive is added, and is shared. So are the elements at the end of a list that all leave a contexted patch so: the
+//!   context is copied where the first comes that may not.
 //! - Whether a look tells that the context, and the whole, is its own normal order is found out once, when a
-//!   contexted patch is made, and kept with it (`Contexted::context_is_ordered`, `whole_is_ordered`). A context that
-//!   is put in order is looked at once for both, and of a chain the last element alone, where the patch doesn't pass
-//!   that.
+//!   contexted patch is made, and kept with it (`Contexted::context_is_ordered`, `whole_is_ordered`). Of a chain the
+//!   last element alone is looked at, where the patch doesn't pass that. A context that was put in order is known to
+//!   be its own normal order where it has room, whatever a look tells.
 //! - A patch without a context, whose inverse passes the whole of another contexted patch as it is, does
 //!   not conflict with it: the two merge with nothing in common. No list is made of it.
 //! - Contexted patches that change other files, under other absolute labels, do not conflict: their normal
@@ -35,3 +36,4 @@ pub use behind::conflict_behind;
 pub(crate) use conflicts::{are_apart, clash, conflict_in_any_order, merge_apart, stand_aside};
 pub(crate) use elsewhere::are_elsewhere;
 pub(crate) use links::{becomes_context, linked};
+pub(crate) use stays::{changing, stays};

@@ -14,7 +14,8 @@ pub fn join(alloc: Global, s: &[Named], t: &[Named]) -> Result<Seq, AllocError>
     Ok(joined)
 }
 
-fn push_all(list: &mut Seq, items: &[Named]) -> Result<(), AllocError>
+/// Puts copies of these behind a list.
+pub(crate) fn push_all(list: &mut Seq, items: &[Named]) -> Result<(), AllocError>
     ensures { IfOk result (λ _. list.new ≡ list.old ++ items.now) }
 {
     for p in items {

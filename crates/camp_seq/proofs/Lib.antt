@@ -1,4 +1,5 @@
 pub mod ExchangeSteps
+pub mod FirstOrders
 pub mod FrontSteps
 pub mod GatherSteps
 pub mod LabelSteps

@@ -62,7 +62,7 @@ came_from other (p ∷ q ∷ s) x y t (inr (apart, (found, p', u, front, swap, i
     ]
 
 -- the first of a list that is its own order is taken first, and the rest is its own order
-rest_ordered : (p : Named) (s : List Named) → Norm (p ∷ s) (p ∷ s) → IsLeast (label_of p) (p ∷ s) × Norm s s
+pub rest_ordered : (p : Named) (s : List Named) → Norm (p ∷ s) (p ∷ s) → IsLeast (label_of p) (p ∷ s) × Norm s s
 rest_ordered p s (rest, inl w, least, n) = (least, subst (λ r. Norm r s) w.2 n)
 rest_ordered p s (rest, inr w, least, n) = absurd (w.0 refl)
 

@@ -1,5 +1,7 @@
 -- Steps of passing, from one neighbour to the next, and passing that stops.
-use Rattle.camp_seq.proofs.Words.{◌≡◌, ℕ, zero, suc, ◌+◌, ◌<◌, ◌≤◌, Bool, true, false, List, [], ◌∷◌, ◌++◌, length, take, drop, get_or, refl, sym, ap, ◌∙◌, subst, arith, append_assoc, take_more, take-append-drop, then_some, FindsPair, Commute, Named, swap_unique, own_inverse, Precedes, IsHeld, ComesUpTo, Passes, PassesAll}
+use Rattle.camp_seq.proofs.Words.{◌≡◌, ℕ, zero, suc, ◌+◌, ◌<◌, ◌≤◌, Bool, true, false, List, [], ◌∷◌, ◌++◌, length, take, drop, get_or, set, set-get_or, take_more_set, refl, sym, ap, ◌∙◌, subst, arith, append_assoc, take_more, take-append-drop, then_some, FindsPair, Commute, Named, swap_unique, own_inverse, Precedes, IsHeld, ComesUpTo, Passes, PassesAll}
+use Rattle.camp_base.specs.Answers.{Changes}
+use Rattle.camp_seq.specs.Inside.InPlace.{GoesPast, PrecedesInPlace}
 use Rattle.camp_seq.proofs.ListResults.{one_pass, one_pass_of_all}
 pub use Rattle.camp_seq.proofs.ListSteps.{DoneFrom, all_done, at_last, at_next, drop_next, one_more_done, take_next, turned, whole}
 
@@ -74,3 +76,37 @@ never_first s0 zero x some bound held y t = absurd (omega arith)
 never_first [] (suc n) x some bound held y t = absurd (omega arith)
 never_first (z ∷ s) (suc n) x some bound held y t =
     subst (λ u. ¬ (Precedes (z ∷ u) x y t)) (take-append-drop n s) (held.0 y t)
+
+-- what has passed a list comes back to before it
+pub passes_back : (p : Named) (s s' : List Named) (p' : Named) → Passes p s s' p' → Precedes s' p' p s
+passes_back p [] s' p' m = subst (λ t. Precedes t p' p []) (sym m.0) (sym m.1, refl)
+passes_back p (q ∷ s) s' p' m =
+    subst (λ t. Precedes t p' p (q ∷ s)) (sym m.5) (m.1, q, s, passes_back m.1 s m.2 p' m.4, own_inverse p q m.0 m.1 m.3, refl)
+
+-- and the list is as it was then
+pub gone_back : (p : Named) (s s' : List Named) (p' : Named) (done : Bool) (t : List Named) (r : Named) → Passes p s s' p' → Changes PrecedesInPlace (s', p') done (t, r) → (t ≡ s) × (r ≡ p)
+gone_back p s s' p' true t r m w =
+    let same = one_precedes s' p' r p t s w (passes_back p s s' p' m) in
+    (same.1, same.0)
+gone_back p s s' p' false t r m w = absurd (w.0 (s, p) (passes_back p s s' p' m))
+
+-- a place that an element has come to in a list that it passes
+module _ (s0 s : List Named) (p0 p : Named) (at : ℕ) (d : Named) (within : at < length s) (long : length s ≡ length s0) (waiting : drop at s ≡ drop at s0) (passed : Passes p0 (take at s0) (take at s) p) where
+  next : drop at s0 ≡ get_or s at d ∷ drop (at + 1) s0
+  next = at_next s0 s at d within long waiting
+
+  pub goes_past_more : (q' p' : Named) → Commute p (get_or s at d) q' p' → Passes p0 (take (at + 1) s0) (take (at + 1) (set s at q')) p'
+  goes_past_more q' p' swap =
+      subst (λ t. Passes p0 (take (at + 1) s0) t p') (sym (take_more_set s at q' within)) (subst (λ t. Passes p0 t (take at s ++ q' ∷ []) p') (sym (take_next s0 at (get_or s at d) (omega (arith, within, long)) next)) (passes_push p0 (take at s0) (take at s) p (get_or s at d) q' p' passed swap))
+
+  pub goes_no_further : (p' q' : Named) → ((x y : Named) → ¬ (Commute p (get_or s at d) x y)) → ◌≡◌ {A = Named × Named} (p', q') (p, get_or s at d) → GoesPast s0 p0 at (set s at q') p'
+  goes_no_further p' q' never same =
+      let here : GoesPast s0 p0 at s p = record {
+        bound = omega (arith, within, long);
+        long = long;
+        waiting = waiting;
+        passed = passed;
+        stops = λ less t r w.
+            passes_stop p0 (take at s0) (take at s) (drop (at + 1) s0) t p (get_or s at d) r passed never (subst (λ l. Passes p0 l t r) (whole s0 at (get_or s at d ∷ drop (at + 1) s0) next) w);
+      } in
+      subst (λ l. GoesPast s0 p0 at l p') (sym (ap (set s at) (λ k. (same k).1) ∙ set-get_or s at d)) (subst (GoesPast s0 p0 at s) (sym (λ k. (same k).0)) here)

@@ -1,4 +1,5 @@
 -- Words that serve only private functions.
+pub mod FirstInOrder
 pub mod InPlace
 pub mod Insertions
 pub mod LeastLabels

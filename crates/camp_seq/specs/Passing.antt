@@ -11,6 +11,10 @@ Passes p [] s' p' = (s' ≡ []) × (p' ≡ p)
 Passes p (q ∷ s) s' p' =
     (q' : Named) × (passing : Named) × (t : List Named) × Commute p q q' passing × Passes passing s t p' × (s' ≡ q' ∷ t)
 
+-- p s q ~ s' q' p', each in its own place: p is commuted past every element of s and then past q
+abbrev pub PassesWithLast : Named × List Named × Named → Named × List Named × Named → Type 0
+PassesWithLast old new = (passing : Named) × Passes old.0 old.1 new.1 passing × Commute passing old.2 new.2 new.0
+
 -- r s ~ s' r': each element of r, from its last to its first, is commuted past all of s
 abbrev pub PassesAll : List Named → List Named → List Named → List Named → Type 0
 PassesAll [] s s' r' = (s' ≡ s) × (r' ≡ [])

@@ -27,8 +27,8 @@ pub use merges::{clean_merge, invert_all};
 pub use normal_forms::{
     lists_merge_in_any_order, normal_order_is_a_normal_form, six_orders_of_three_agree,
 };
-pub use orders::{norm, ordered, ordered_before};
-pub use passes::{past, past_all};
+pub use orders::{norm, ordered, put_first, put_in_order};
+pub use passes::{pass_by, past, past_all};
 pub use rooms::{has_room, has_room_to_merge, reach_gives_room};
 pub use runs::apply_all;
 pub use seqs::Seq;

@@ -1,15 +1,16 @@
-ghost use Rattle.std.specs.Prelude.{List, [], ◌∷◌, ◌++◌, ◌≡◌, ◌<◌, ◌↔◌, length, IfOk, IsTrue};
+ghost use Rattle.std.specs.Prelude.{List, ◌∷◌, ◌≡◌, ◌<◌, ◌≤◌, ◌↔◌, length, drop, IfOk, IsTrue};
 ghost use Rattle.std.specs.Ordering.{is_lt};
 ghost use Rattle.std.specs.declared.cmp.Ordering.TheVariants.{Less};
 ghost use Rattle.camp_prim.specs.declared.named.Named.{Named};
 ghost use Rattle.camp_prim.specs.Labels.{label_cmp};
+ghost use Rattle.camp_seq.specs.Inside.FirstInOrder.{GoesIn, OrderedFrom};
 ghost use Rattle.camp_seq.specs.Inside.LeastLabels.{is_above, LeastAbove, Settles, StartsAbove};
 ghost use Rattle.camp_seq.specs.Equivalence.{◌~◌};
 ghost use Rattle.camp_seq.specs.NormalOrder.{Norm};
 ghost use Rattle.camp_seq.specs.Room.{HasRoom};
 
 use crate::Seq;
-use crate::fast::{are_own_orders, is_own_order, order_by_insertion};
+use crate::fast::{go_in, is_own_order, order_by_insertion, stays_first};
 use crate::fronts::bring;
 use crate::rooms::surely_has_room;
 use camp_prim::{Label, Named};
@@ -35,20 +36,64 @@ pub fn ordered(mut s: Seq) -> Seq
     s
 }
 
-/// The list in normal order, in its place in memory, and what a look at it tells then: whether it is its own
-/// normal order, and whether it is with one more element behind it. It takes no memory.
-pub fn ordered_before(mut s: Seq, last: &Named) -> (Seq, (bool, bool))
-    ensures order { Norm s result.0 }
-    ensures list { IsTrue result.1.0 → Norm result.0 result.0 }
-    ensures with_last { IsTrue result.1.1 → Norm (result.0 ++ last.now ∷ []) (result.0 ++ last.now ∷ []) }
+/// Puts a list in normal order, in its place in memory, and tells whether it is known to be its own normal order then:
+/// a look tells it, or the list has room. It takes no memory.
+pub fn put_in_order(s: &mut Seq) -> bool
+    ensures order { Norm s.old s.new }
+    ensures own { IsTrue result → Norm s.new s.new }
 {
-    let told = are_own_orders(&s.items, last);
-    if told.0 {
-        return (s, told);
+    order_told(&mut s.items)
+}
+
+/// Puts a primitive before a list, and then the list in normal order, in its place in memory. The list may be known
+/// to be its own normal order before. The answer tells whether it is known to be so then.
+pub fn put_first(a: Named, s: &mut Seq, ordered: bool) -> Result<bool, AllocError>
+    requires { IsTrue ordered → Norm s.old s.old }
+    ensures order { IfOk result (λ told. Norm (a ∷ s.old) s.new) }
+    ensures own { IfOk result (λ told. IsTrue told → Norm s.new s.new) }
+{
+    if ordered {
+        return put_before(a, s);
     }
-    order_anew(&mut s.items);
-    let told = are_own_orders(&s.items, last);
-    (s, told)
+    s.items.insert(0, a)?;
+    Ok(order_told(&mut s.items))
+}
+
+/// The same where the list is its own normal order: the primitive is put in its place, and what is behind it there
+/// is ordered only where one of them may come to before it.
+fn put_before(mut a: Named, s: &mut Seq) -> Result<bool, AllocError>
+    requires { Norm s.old s.old }
+    ensures order { IfOk result (λ told. Norm (a ∷ s.old) s.new) }
+    ensures own { IfOk result (λ told. IsTrue told → Norm s.new s.new) }
+{
+    let (at, stays) = find_first_place(&mut a, &mut s.items);
+    s.items.insert(at, a)?;
+    settle_from(&mut s.items, at, stays);
+    Ok(surely_has_room(&s.items))
+}
+
+/// Commutes `a`, which stands before `s`, to its place, and answers with it and with whether it stays there before
+/// the others as they are.
+fn find_first_place(a: &mut Named, s: &mut [Named]) -> (usize, bool)
+    requires { Norm s.old s.old }
+    ensures place { GoesIn s.old a.old result.0 s.new a.new }
+    ensures stays { IsTrue result.1 → Norm (a.new ∷ drop result.0 s.old) (a.new ∷ drop result.0 s.old) }
+{
+    let at = go_in(a, s);
+    let (_, rest) = s.split_at_mut(at);
+    let stays = stays_first(a, rest);
+    (at, stays)
+}
+
+/// Puts what is from a place on in normal order, but where it is known to be so as it is.
+fn settle_from(items: &mut [Named], at: usize, known: bool)
+    requires { at ≤ length items.old }
+    ensures { OrderedFrom items.old at known items.new }
+{
+    if known {
+        return;
+    }
+    order_anew(&mut items[at..]);
 }
 
 fn ordered_copy(s: &Seq) -> Result<Seq, AllocError>
@@ -81,6 +126,18 @@ fn order_anew(items: &mut [Named])
     } else {
         order_by_selection(items);
     }
+}
+
+/// Puts a list in normal order, and tells whether it is known to be its own normal order then.
+fn order_told(items: &mut [Named]) -> bool
+    ensures order { Norm items.old items.new }
+    ensures own { IsTrue result → Norm items.new items.new }
+{
+    if is_own_order(items) {
+        return true;
+    }
+    order_anew(items);
+    surely_has_room(items)
 }
 
 /// For each place the labels are tried in ascending order until one comes to the front. Where the

@@ -1,8 +1,8 @@
 ghost use Rattle.std.specs.Prelude.{IfOk};
 ghost use Rattle.std.specs.Bool.{then_some};
 ghost use Rattle.camp_base.specs.Answers.{Changes, FindsPair};
-ghost use Rattle.camp_seq.specs.Inside.InPlace.{ComesUpTo, PrecedesInPlace, CommutesInPlace};
-ghost use Rattle.camp_seq.specs.Passing.{Passes, PassesAll};
+ghost use Rattle.camp_seq.specs.Inside.InPlace.{ComesUpTo, CommutesInPlace, GoesPast, PassesInPlace, PrecedesInPlace};
+ghost use Rattle.camp_seq.specs.Passing.{Passes, PassesAll, PassesWithLast};
 
 use crate::Seq;
 use crate::fast::is_stopped;
@@ -70,6 +70,52 @@ pub(crate) fn pass(p: &mut Named, s: &mut [Named]) -> bool
         }
     }
     true
+}
+
+/// Commutes `p` past all of `s` and then past the one behind it, each in its place in memory. Where it can't pass
+/// them, all are as they were.
+pub fn pass_by(p: &mut Named, s: &mut Seq, last: &mut Named) -> bool
+    ensures exact { Changes PassesWithLast (p.old, s.old, last.old) result (p.new, s.new, last.new) }
+{
+    pass_with_last(p, &mut s.items, last)
+}
+
+fn pass_with_last(p: &mut Named, s: &mut [Named], last: &mut Named) -> bool
+    ensures exact { Changes PassesWithLast (p.old, s.old, last.old) result (p.new, s.new, last.new) }
+{
+    if !pass_or_stay(p, s) {
+        return false;
+    }
+    if !commute_in_place(p, last) {
+        precede(s, p);
+        return false;
+    }
+    true
+}
+
+/// Commutes `p` past all of `s`, which stands behind it. Where it can't pass, both are as they were.
+fn pass_or_stay(p: &mut Named, s: &mut [Named]) -> bool
+    ensures exact { Changes PassesInPlace (p.old, s.old) result (p.new, s.new) }
+{
+    let at = go_past(p, s);
+    if at < s.len() {
+        precede(&mut s[..at], p);
+        return false;
+    }
+    true
+}
+
+/// Commutes `p`, which stands before `s`, to the right as far as it can come, and answers with the number of
+/// elements of `s` that are before it then.
+fn go_past(p: &mut Named, s: &mut [Named]) -> usize
+    ensures { GoesPast s.old p.old result s.new p.new }
+{
+    for at in 0..s.len() {
+        if !commute_in_place(p, &mut s[at]) {
+            return at;
+        }
+    }
+    s.len()
 }
 
 /// Commutes `p` to before all of `s`, which stands before it. Where it can't come there, both are as

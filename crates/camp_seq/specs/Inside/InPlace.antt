@@ -1,5 +1,5 @@
 -- What moving elements inside a list answers and leaves.
-use Rattle.std.specs.Prelude.{◌≡◌, ◌≢◌, ℕ, ◌≤◌, List, [], ◌∷◌, ◌++◌, length, take, drop, All}
+use Rattle.std.specs.Prelude.{◌≡◌, ◌≢◌, ℕ, ◌<◌, ◌≤◌, List, [], ◌∷◌, ◌++◌, length, take, drop, All}
 use Rattle.camp_prim.specs.Commuting.{Commute}
 use Rattle.camp_prim.specs.Labels.{label_of}
 use Rattle.camp_prim.specs.declared.labels.Label.{Label}
@@ -32,6 +32,18 @@ pub record ComesUpTo (s0 : List Named) (p0 : Named) (at : ℕ) (s : List Named) 
   pub waiting : take at s ≡ take at s0
   pub came : Precedes (drop at s0) p0 p (drop at s)
   pub held : IsHeld (take at s0) (drop at s0) p0
+
+-- p0, which stood before s0, has passed the elements before a place, each in its own place, and could come no further
+pub record GoesPast (s0 : List Named) (p0 : Named) (at : ℕ) (s : List Named) (p : Named) : Type 0 where
+  pub bound : at ≤ length s0
+  pub long : length s ≡ length s0
+  pub waiting : drop at s ≡ drop at s0
+  pub passed : Passes p0 (take at s0) (take at s) p
+  pub stops : at < length s0 → (s' : List Named) (p' : Named) → ¬ (Passes p0 s0 s' p')
+
+-- p and the s behind it, each in its own place: p is commuted past every element of s
+abbrev pub PassesInPlace : Named × List Named → Named × List Named → Type 0
+PassesInPlace old new = Passes old.0 old.1 new.1 new.0
 
 -- no element has this label
 abbrev pub Lacks : Label → List Named → Type 0

@@ -1,5 +1,6 @@
 //! The normal order of a list with room, by insertion.
 ghost use Rattle.std.specs.Prelude.{◌+◌, ◌<◌, ◌≤◌, length};
+ghost use Rattle.camp_seq.specs.Inside.FirstInOrder.{GoesIn};
 ghost use Rattle.camp_seq.specs.Inside.Insertions.{GoesBack, Placed, StandsAt, StaysAt};
 ghost use Rattle.camp_seq.specs.NormalOrder.{Norm};
 ghost use Rattle.camp_seq.specs.Room.{HasRoom};
@@ -50,6 +51,23 @@ fn go_back(s: &mut [Named], x: &mut Named, from: usize) -> usize
             return at;
         }
         if !commute_in_place(x, &mut s[at]) {
+            return at;
+        }
+    }
+    s.len()
+}
+
+/// Commutes `a`, which stands before `s`, to the right, past elements with lesser labels, as far as it
+/// can. Each stays in its place in memory, and the answer is the number of elements of `s` before it.
+pub(crate) fn go_in(a: &mut Named, s: &mut [Named]) -> usize
+    requires { Norm s.old s.old }
+    ensures { GoesIn s.old a.old result s.new a.new }
+{
+    for at in 0..s.len() {
+        if !has_less_label(&s[at], a) {
+            return at;
+        }
+        if !commute_in_place(a, &mut s[at]) {
             return at;
         }
     }

@@ -3,6 +3,7 @@ ghost use Rattle.std.specs.Prelude.{◌<◌, List, [], ◌∷◌, ◌++◌, leng
 ghost use Rattle.camp_prim.specs.Labels.{label_of};
 ghost use Rattle.camp_prim.specs.declared.named.Named.{Named};
 ghost use Rattle.camp_seq.specs.Chains.{Chain};
+ghost use Rattle.camp_seq.specs.Inside.FirstInOrder.{StaysBehind};
 ghost use Rattle.camp_seq.specs.Inside.NextInOrder.{IsInOrder, StaysLast};
 ghost use Rattle.camp_seq.specs.NormalOrder.{Norm};
 ghost use Rattle.camp_seq.specs.Passing.{Passes};
@@ -82,6 +83,45 @@ fn greatest_with<'a>(greatest: &'a Named, last: &Named, x: &'a Named) -> Option<
         return None;
     }
     Some(greatest)
+}
+
+/// Whether a look tells that a list in normal order is so too with one more element before it. No element comes to
+/// before that one from behind another with a greater label, or from behind one that it does not commute with, and
+/// none from behind a label that is not less than that of the first.
+pub(crate) fn stays_first(x: &Named, s: &[Named]) -> bool
+    requires { Norm s.now s.now }
+    ensures { IsTrue result → Norm (x.now ∷ s.now) (x.now ∷ s.now) }
+{
+    if s.is_empty() {
+        return true;
+    }
+    let mut greatest = &s[0];
+    let mut last = x;
+    for at in 0..s.len() {
+        let p = &s[at];
+        if !has_less_label(p, x) {
+            return true;
+        }
+        match greatest_behind(greatest, last, p) {
+            None => return false,
+            Some(next) => greatest = next,
+        }
+        last = p;
+    }
+    true
+}
+
+/// The element with the greatest label of those before an element and of it, where it stays behind them.
+fn greatest_behind<'a>(greatest: &'a Named, last: &Named, p: &'a Named) -> Option<&'a Named>
+    ensures { IfSome result (λ more. StaysBehind (label_of greatest.now) last.now p.now (label_of more.now)) }
+{
+    if has_less_label(p, greatest) {
+        return Some(greatest);
+    }
+    if can_commute(last, p) {
+        return None;
+    }
+    Some(p)
 }
 
 /// Whether a primitive passes a list, and all stay as they are. Where it says no, they may still do.

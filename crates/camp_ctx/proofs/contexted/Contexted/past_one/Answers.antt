@@ -1,3 +1,4 @@
+use Rattle.camp_ctx.proofs.Words.{sym, subst, Norm}
 use Rattle.camp_ctx.proofs.AddSteps.{not_past_context, not_past_patch, passes_by_from}
 use Rattle.camp_ctx.proofs.contexted.Contexted.past_one.Goals as goal
 
@@ -16,4 +17,6 @@ pub returns : goal.returns
 returns c =
     let past = rw c.in-Some.is at c.in_ok-context.ensures.exact in
     let swap = rw c.in-Some-2.is at c.in_ok-patch.ensures in
-    record { exact = passes_by_from c.args.a.now c.args.x.now _ _ _ c.context.ensures.exact past _ _ _ _ c.patch.ensures.exact swap.1 c.in_ok-before.ensures.0 c.in_ok-before.ensures.1 }
+    let made = c.in_ok-before.ensures in
+    let order = subst (λ y. Norm c.in-Some.context y.context) (sym made) c.put_in_order-told.ensures.order in
+    record { exact = passes_by_from c.args.a.now c.args.x.now _ _ _ c.context.ensures.exact past c.in_ok-before.before _ _ _ c.patch.ensures.exact swap.1 order (λ i. (made i).patch) }

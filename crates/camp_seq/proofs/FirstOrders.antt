@@ -1,0 +1,116 @@
+-- An element before a list that is its own normal order.
+use Rattle.std.proofs.Common.{◌==◌, eqb-true, Bool, true, false, IsTrue}
+use Rattle.camp_seq.proofs.Words.{◌≡◌, ◌≢◌, ℕ, zero, suc, ◌+◌, ◌<◌, List, [], ◌∷◌, ◌++◌, length, take, drop, get_or, set, set-get_or, refl, sym, ap, ◌∙◌, subst, inl, inr, arith, append_assoc, length-set, drop_all, drop_at, drop_more, length-take-le, take_at, take_more_set, Less, label_of, label_cmp, Commute, Label, Named, not_below, not_above, not_below_both, IsLeast, Norm, HasRoom, backwards}
+use Rattle.camp_seq.specs.Chains.{CanCommute}
+use Rattle.camp_seq.specs.Inside.FirstInOrder.{GoesIn, OrderedFrom, StaysBehind, NoneBefore}
+use Rattle.camp_seq.proofs.ListEquivalence.{ordered}
+use Rattle.camp_seq.proofs.ListSteps.{at_next, drop_next}
+use Rattle.camp_seq.proofs.NormalForms.{normal_form}
+use Rattle.camp_seq.proofs.OwnOrders.{chain_is_ordered, rest_ordered}
+use Rattle.camp_seq.proofs.RoomSteps.{room_of_equivalent}
+
+-- a normal order with room is its own normal order
+pub own_with_room : (s t : List Named) → HasRoom t → Norm s t → Norm t t
+own_with_room s t room n =
+    let e = ordered s t n in
+    normal_form s t (room_of_equivalent t s (backwards e) room) e t n
+
+-- what stands behind in a list that is its own normal order is so too
+pub own_behind : (s : List Named) (n : ℕ) → Norm s s → Norm (drop n s) (drop n s)
+own_behind [] zero own = own
+own_behind [] (suc n) own = own
+own_behind (p ∷ s) zero own = own
+own_behind (p ∷ s) (suc n) own = own_behind s n (rest_ordered p s own).1
+
+-- an element with a lesser label that x passes comes first
+lesser_first : (x q q' x' : Named) (s t : List Named) → label_cmp (label_of q) (label_of x) ≡ Less → Commute x q q' x' → IsLeast (label_of q) (q ∷ s) → Norm (x' ∷ s) t → Norm (x ∷ q ∷ s) (q' ∷ t)
+lesser_first x q q' x' s t less swap least n =
+    let same : label_of q' ≡ label_of q = swap.anywhere.second in
+    let apart : label_of x ≢ label_of q' = λ e. not_below (label_of q) (label_of x) (sym same ∙ sym e) less in
+    let first : IsLeast (label_of q) (x ∷ q ∷ s) = λ other y u front. elim front [
+      | inl w ↦ subst (λ l. label_cmp l (label_of q) ≢ Less) w.0 (not_above (label_of q) (label_of x) less)
+      | inr w ↦ least other w.1.0 w.1.2 w.1.3
+    ] in
+    (x' ∷ s, inr (apart, (q, x', s, inl (sym same, refl, refl), swap, refl)), subst (λ l. IsLeast l (x ∷ q ∷ s)) (sym same) first, n)
+
+-- one place further to the right
+pub goes_in_more : (s0 s : List Named) (x0 x : Named) (i : ℕ) (d q' x' : Named) → Norm s0 s0 → i < length s → label_cmp (label_of (get_or s i d)) (label_of x) ≡ Less → Commute x (get_or s i d) q' x' → GoesIn s0 x0 i s x → GoesIn s0 x0 (i + 1) (set s i q') x'
+goes_in_more s0 s x0 x i d q' x' own within less swap w =
+    let q : Named = get_or s i d in
+    let next : drop i s0 ≡ q ∷ drop (i + 1) s0 = at_next s0 s i d within w.long w.waiting in
+    let least = (rest_ordered q (drop (i + 1) s0) (subst (λ l. Norm l l) next (own_behind s0 i own))).0 in
+    record {
+      bound = omega (arith, w.long);
+      long = length-set s i q' ∙ w.long;
+      waiting = drop_next s0 s i d q' within w.long w.waiting;
+      ordered = λ t n.
+          let all = w.ordered (q' ∷ t) (subst (λ l. Norm (x ∷ l) (q' ∷ t)) (sym next) (lesser_first x q q' x' (drop (i + 1) s0) t less swap least n)) in
+          subst (Norm (x0 ∷ s0)) (sym (ap (λ l. l ++ t) (take_more_set s i q' within) ∙ append_assoc (take i s) (q' ∷ []) t)) all;
+    }
+
+pub goes_in_no_more : (s0 s : List Named) (x0 x : Named) (i : ℕ) (d q' x' : Named) → ◌≡◌ {A = Named × Named} (x', q') (x, get_or s i d) → GoesIn s0 x0 i s x → GoesIn s0 x0 i (set s i q') x'
+goes_in_no_more s0 s x0 x i d q' x' e w =
+    subst (λ l. GoesIn s0 x0 i l x') (sym (ap (set s i) (λ k. (e k).1) ∙ set-get_or s i d)) (subst (GoesIn s0 x0 i s) (sym (λ k. (e k).0)) w)
+
+-- an element that stays behind those before it: it does not come to before them, nor what comes to before it
+behind_those : (label greatest more : Label) (last p : Named) (s : List Named) → IsLeast (label_of p) (p ∷ s) → StaysBehind greatest last p more → NoneBefore label more p s → NoneBefore label greatest last (p ∷ s)
+behind_those label greatest more last p s least (inl w) none other found u (inl f) moves above =
+    absurd (above (subst (λ l. label_cmp l greatest ≡ Less) f.0 w.0))
+behind_those label greatest more last p s least (inl w) none other found u (inr f) moves above =
+    none other f.1.0 f.1.2 f.1.3 (found, (f.1.1, f.1.4)) (subst (λ l. label_cmp other l ≢ Less) (sym w.1) above)
+behind_those label greatest more last p s least (inr w) none other found u (inl f) moves above =
+    absurd (w.0 (subst (CanCommute last) f.1 moves))
+behind_those label greatest more last p s least (inr w) none other found u (inr f) moves above =
+    none other f.1.0 f.1.2 f.1.3 (found, (f.1.1, f.1.4)) (subst (λ l. label_cmp other l ≢ Less) (sym w.1) (least other found u (inr f)))
+
+-- before nothing an element is alone
+pub first_alone : (x : Named) (s : List Named) (test : Bool) → test ≡ (length s == 0) → test ≡ true → Norm (x ∷ s) (x ∷ s)
+first_alone x [] test counts is = chain_is_ordered (x ∷ []) (tt, tt)
+first_alone x (p ∷ s) test counts is =
+    let none : length (p ∷ s) ≡ 0 = eqb-true _ _ (sym counts ∙ is) in
+    absurd (omega arith)
+
+-- where none comes to before it the element stays first
+pub first_stays : (x p : Named) (s : List Named) (test : Bool) → test ≡ (length s == 0) → test ≡ false → p ≡ get_or s 0 p → Norm s s → NoneBefore (label_of x) (label_of p) x (drop 0 s) → Norm (x ∷ s) (x ∷ s)
+first_stays x p [] test counts some is own none =
+    let never : true ≡ false = sym counts ∙ some in
+    cc
+first_stays x p (q ∷ s) test counts some is own none =
+    let least : IsLeast (label_of x) (x ∷ q ∷ s) = λ other y t front. elim front [
+      | inl w ↦ not_below other (label_of x) (sym w.0)
+      | inr w ↦
+          none other w.1.0 w.1.2 w.1.3 (y, (w.1.1, w.1.4)) (subst (λ z. label_cmp other (label_of z) ≢ Less) (sym is) ((rest_ordered q s own).0 other w.1.0 w.1.2 w.1.3))
+    ] in
+    (q ∷ s, inl (refl, refl, refl), least, own)
+
+-- a look that goes on over a list that is its own normal order
+module _ (s : List Named) (own : Norm s s) (at : ℕ) (label greatest : Label) (last : Named) (Fact : Type 0) (so_far : NoneBefore label greatest last (drop at s) → Fact) where
+  module _ (p : Named) (within : at < length s) (is : p ≡ get_or s at p) where
+    next : drop at s ≡ p ∷ drop (at + 1) s
+    next = drop_more s at p within ∙ ap (λ q. q ∷ drop (at + 1) s) (sym is)
+
+    least : IsLeast (label_of p) (p ∷ drop (at + 1) s)
+    least = (rest_ordered p (drop (at + 1) s) (subst (λ l. Norm l l) next (own_behind s at own))).0
+
+    pub look_on : (more : Label) → StaysBehind greatest last p more → NoneBefore label more p (drop (at + 1) s) → Fact
+    look_on more stays none =
+        so_far (subst (NoneBefore label greatest last) (sym next) (behind_those label greatest more last p (drop (at + 1) s) least stays none))
+
+    -- behind a label that is not less there is no lesser one that comes to before it
+    pub look_no_further : label_cmp (label_of p) label ≢ Less → Fact
+    look_no_further not =
+        so_far (subst (NoneBefore label greatest last) (sym next) (λ other found u f moves above. not_below_both other (label_of p) label (least other found u f) not))
+
+  pub looked_at_all : at ≡ length s → Fact
+  looked_at_all all =
+      so_far (subst (NoneBefore label greatest last) (sym (drop_all at s (omega (arith, all)))) (λ other found u f moves above. absurd f))
+
+-- an element that is put where it has come to, and what is behind it there in normal order
+pub put_there : (s0 s : List Named) (x0 x : Named) (at : ℕ) (stays : Bool) (items t : List Named) → GoesIn s0 x0 at s x → (IsTrue stays → Norm (x ∷ drop at s0) (x ∷ drop at s0)) → items ≡ take at s ++ x ∷ drop at s → OrderedFrom items at stays t → Norm (x0 ∷ s0) t
+put_there s0 s x0 x at true items t w own is same =
+    subst (Norm (x0 ∷ s0)) (sym (same ∙ is ∙ ap (λ l. take at s ++ x ∷ l) w.waiting)) (w.ordered (x ∷ drop at s0) (own refl))
+put_there s0 s x0 x at false items t w own is (rest, order, becomes) =
+    let long : length (take at s) ≡ at = length-take-le at s (omega (arith, w.bound, w.long)) in
+    let behind : drop at items ≡ x ∷ drop at s0 = ap (drop at) is ∙ drop_at (take at s) (x ∷ drop at s) at long ∙ ap (λ l. x ∷ l) w.waiting in
+    let before : take at items ≡ take at s = ap (take at) is ∙ take_at (take at s) (x ∷ drop at s) at long in
+    subst (Norm (x0 ∷ s0)) (sym (becomes ∙ ap (λ l. l ++ rest) before)) (w.ordered rest (subst (λ l. Norm l rest) behind order))
