@@ -1,6 +1,8 @@
+pub mod AddOrders
 pub mod AddResults
 pub mod AddSteps
 pub mod AddValid
+pub mod AddsAlike
 pub mod AnyOrder
 pub mod CommonLabels
 pub mod ConflictLaws
@@ -8,9 +10,12 @@ pub mod ConflictSteps
 pub mod ContextsDecided
 pub mod Elsewhere
 pub mod EntrySteps
+pub mod EquivalentLists
 pub mod LinkSteps
 pub mod NamedDecided
+pub mod PastPatches
 pub mod SetChanges
 pub mod SetSteps
 pub mod Standing
+pub mod TwoPass
 pub mod Words

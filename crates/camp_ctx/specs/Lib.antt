@@ -3,3 +3,4 @@ pub mod Conflicts
 pub mod Contexts
 pub mod Inside
 pub mod Laws
+pub mod Room

@@ -1,4 +1,5 @@
 ghost use Rattle.camp_ctx.specs.Laws.{AddingGives, AreDetermined, AreSymmetric, EmptyChangesNothing, KeepValid};
+ghost use Rattle.camp_ctx.specs.Room.{AddsInAnyOrder};
 
 /// Adding, passing by, and merging behind a common part have at most one result.
 pub fn results_in_context_are_determined()
@@ -24,4 +25,10 @@ pub fn adding_the_empty_list_changes_nothing()
 /// Whether two contexted patches conflict does not depend on which comes first.
 pub fn conflict_is_symmetric()
     ensures law { AreSymmetric }
+{}
+
+/// Adding a list does not depend on the order of its elements, given room.
+#[tactic(auto, using(crate::proofs::AddOrders::adds_in_any_order))]
+pub fn list_is_added_in_any_order()
+    ensures law { AddsInAnyOrder }
 {}

@@ -1,0 +1,18 @@
+-- When a list has room to be added to a contexted patch.
+use Rattle.std.specs.Prelude.{List, ◌++◌}
+use Rattle.camp_prim.specs.declared.named.Named.{Named}
+use Rattle.camp_seq.specs.Equivalence.{◌~◌}
+use Rattle.camp_seq.specs.Room.{HasRoom}
+use Rattle.camp_ctx.specs.Adding.{AddsAll}
+use Rattle.camp_ctx.specs.Contexts.{ContextedPatch, whole}
+
+-- a list has room to be added: in whatever order it is, where its last elements have been added, the others with what
+-- has come of the contexted patch behind them have room
+abbrev pub HasRoomToAdd : List Named → ContextedPatch → Type 0
+HasRoomToAdd r x =
+    (first last : List Named) → r ~ (first ++ last) → (y : ContextedPatch) → AddsAll last x y → HasRoom (first ++ whole y)
+
+-- with room, adding a list does not depend on the order of its elements
+abbrev pub AddsInAnyOrder : Type 0
+AddsInAnyOrder =
+    (r s : List Named) (x y : ContextedPatch) → HasRoomToAdd r x → r ~ s → AddsAll r x y → AddsAll s x y
