@@ -1,14 +1,14 @@
 -- With room, adding a list does not depend on the order of its elements.
 use Rattle.camp_ctx.proofs.Words.{◌≡◌, List, [], ◌∷◌, ◌++◌, refl, sym, ◌∙◌, subst, append_assoc, inverse_of, Commute, Named, Norm, Adds, AddsAll, ContextedPatch, whole}
-use Rattle.camp_prim.proofs.CommuteLaws.{inverse, own_inverse, square}
+use Rattle.camp_prim.proofs.CommuteLaws.{inverse, own_inverse}
 use Rattle.camp_seq.specs.Equivalence.{◌~◌, CommutesOnce, same, exchanged, backwards, through}
 use Rattle.camp_seq.specs.Room.{HasRoom}
 use Rattle.camp_seq.proofs.ListEquivalence.{after_one, before, equal_are, ordered, swapped}
 use Rattle.camp_seq.proofs.NormalOrders.{has_normal_order}
 use Rattle.camp_seq.proofs.RoomSteps.{at_front, room_before, room_behind, room_exchanged, room_of_equivalent, shared}
 use Rattle.camp_ctx.specs.Room.{AddsInAnyOrder, HasRoomToAdd}
-use Rattle.camp_ctx.proofs.AddsAlike.{NotPast, NotUndone, Sum, as_sum, from_sum, goes_past, in_own_order, own_order, room_of_sum, stays, sum_left, sum_right, undone}
-use Rattle.camp_ctx.proofs.EquivalentLists.{front_behind, rests, room_of_rest}
+use Rattle.camp_ctx.proofs.AddsAlike.{NotPast, NotUndone, Sum, as_sum, from_sum, goes_past, in_own_order, inverse_past, own_order, room_of_sum, stays, sum_left, sum_right, undone}
+use Rattle.camp_seq.proofs.EquivalentLists.{front_behind, rests, room_of_rest}
 use Rattle.camp_ctx.proofs.PastPatches.{Past, both_past, left_behind, past_alike, past_rest, past_with, two_past}
 
 -- a' and then b' added to c:p give d:q
@@ -20,11 +20,11 @@ module _ (a b b' a' : Named) (k : Commute a b b' a') (c : List Named) (p : Named
   back : Commute b' a' a b
   back = own_inverse a b b' a' k
 
-  past_inverse : Commute b (inverse_of a') (inverse_of a) b'
-  past_inverse = own_inverse (inverse_of a) b' b (inverse_of a') (square a b b' a' k)
+  a_past : Commute a' (inverse_of b) (inverse_of b') a
+  a_past = inverse_past a b b' a' k
 
-  inverse_past : Commute a' (inverse_of b) (inverse_of b') a
-  inverse_past = own_inverse (inverse_of b') a a' (inverse_of b) (square b' a' a b back)
+  b_past : Commute b (inverse_of a') (inverse_of a) b'
+  b_past = inverse_past b' a' a b back
 
   inverses : Commute (inverse_of b) (inverse_of a) (inverse_of a') (inverse_of b')
   inverses = inverse a b b' a' k
@@ -48,7 +48,7 @@ module _ (a b b' a' : Named) (k : Commute a b b' a') (c : List Named) (p : Named
   module _ (never : NotUndone b c) where
     not_behind : NotUndone b' (a' ∷ c)
     not_behind e g =
-        let n = front_behind a' (inverse_of b) (inverse_of b') a c e inverse_past room_a g in
+        let n = front_behind a' (inverse_of b) (inverse_of b') a c e a_past room_a g in
         never n.0 n.1
 
     -- nor where a' passes
@@ -73,7 +73,7 @@ module _ (a b b' a' : Named) (k : Commute a b b' a') (c : List Named) (p : Named
 
     neither_past : NotPast a c1 p → NotPast a' c p
     neither_past none d q w =
-        let n = past_rest a' (inverse_of b) (inverse_of b') a c1 p d q inverse_past (past_alike a' c (inverse_of b ∷ c1) p d d q room_a e same w) in
+        let n = past_rest a' (inverse_of b) (inverse_of b') a c1 p d q a_past (past_alike a' c (inverse_of b ∷ c1) p d d q room_a e same w) in
         none n.0 q n.1
 
     where_undone : (d : List Named) (q : Named) → Sum a c1 p d q → Turned a' b' c p d q
@@ -87,21 +87,21 @@ module _ (a b b' a' : Named) (k : Commute a b b' a') (c : List Named) (p : Named
         let there : HasRoom (a' ∷ inverse_of b ∷ c1) = room_of_equivalent (a' ∷ c) (a' ∷ inverse_of b ∷ c1) (after_one a' c (inverse_of b ∷ c1) e) room_a in (
           inverse_of b' ∷ d,
           q,
-          goes_past (neither_undone never) (past_alike a' (inverse_of b ∷ c1) c p (inverse_of b' ∷ d) (inverse_of b' ∷ d) q there (backwards e) same (past_with a' (inverse_of b) (inverse_of b') a c1 p d q inverse_past w)),
+          goes_past (neither_undone never) (past_alike a' (inverse_of b ∷ c1) c p (inverse_of b' ∷ d) (inverse_of b' ∷ d) q there (backwards e) same (past_with a' (inverse_of b) (inverse_of b') a c1 p d q a_past w)),
           undone same refl,
         )
     where_undone d q (stays never none f is) = (
       a' ∷ c,
       p,
       stays (neither_undone never) (neither_past none) same refl,
-      undone (through (after_one a' c (inverse_of b ∷ c1) e) (through (swapped a' (inverse_of b) (inverse_of b') a c1 inverse_past) (after_one (inverse_of b') (a ∷ c1) d f))) is,
+      undone (through (after_one a' c (inverse_of b ∷ c1) e) (through (swapped a' (inverse_of b) (inverse_of b') a c1 a_past) (after_one (inverse_of b') (a ∷ c1) d f))) is,
     )
 
   -- b passes
   module _ (never_b : NotUndone b c) (t : List Named) (q : Named) (v : Past b c p t q) where
     not_before : NotUndone a t → NotUndone a' c
     not_before never d g =
-        let n = past_rest b (inverse_of a') (inverse_of a) b' d p t q past_inverse (past_alike b c (inverse_of a' ∷ d) p t t q room_b g same v) in
+        let n = past_rest b (inverse_of a') (inverse_of a) b' d p t q b_past (past_alike b c (inverse_of a' ∷ d) p t t q room_b g same v) in
         never n.0 n.2
 
     room_t : HasRoom t
@@ -109,8 +109,8 @@ module _ (a b b' a' : Named) (k : Commute a b b' a') (c : List Named) (p : Named
 
     where_past : (d : List Named) (z : Named) → Sum a t q d z → Turned a' b' c p d z
     where_past d z (undone f is) =
-        let n = front_behind b (inverse_of a') (inverse_of a) b' c (d ++ v.passing ∷ []) past_inverse room_b (through (left_behind b c p t q v) (before t (inverse_of a ∷ d) (v.passing ∷ []) f)) in
-        let w = past_rest b (inverse_of a') (inverse_of a) b' n.0 p t q past_inverse (past_alike b c (inverse_of a' ∷ n.0) p t t q room_b n.1 same v) in
+        let n = front_behind b (inverse_of a') (inverse_of a) b' c (d ++ v.passing ∷ []) b_past room_b (through (left_behind b c p t q v) (before t (inverse_of a ∷ d) (v.passing ∷ []) f)) in
+        let w = past_rest b (inverse_of a') (inverse_of a) b' n.0 p t q b_past (past_alike b c (inverse_of a' ∷ n.0) p t t q room_b n.1 same v) in
         let rest : w.0 ~ d = rests (inverse_of a) w.0 d (room_of_equivalent t (inverse_of a ∷ w.0) w.2 room_t) (through (backwards w.2) f) in
         let sum : Sum b' n.0 p d q = sum_right b' n.0 p w.0 d q rest (goes_past (not_after never_b n.0 n.1) w.1) in
         (n.0, p, undone n.1 refl, subst (λ o. Sum b' n.0 p d o) (sym is) sum)
@@ -129,16 +129,16 @@ module _ (a b b' a' : Named) (k : Commute a b b' a') (c : List Named) (p : Named
   module _ (never_b : NotUndone b c) (none_b : NotPast b c p) (c1 : List Named) (h : (b ∷ c) ~ c1) where
     not_first : NotUndone a c1 → NotUndone a' c
     not_first never d g =
-        never (b' ∷ d) (through (backwards h) (through (after_one b c (inverse_of a' ∷ d) g) (swapped b (inverse_of a') (inverse_of a) b' d past_inverse)))
+        never (b' ∷ d) (through (backwards h) (through (after_one b c (inverse_of a' ∷ d) g) (swapped b (inverse_of a') (inverse_of a) b' d b_past)))
 
     where_stays : (d : List Named) (z : Named) → Sum a c1 p d z → Turned a' b' c p d z
     where_stays d z (undone f is) =
-        let n = front_behind b (inverse_of a') (inverse_of a) b' c d past_inverse room_b (through h f) in
+        let n = front_behind b (inverse_of a') (inverse_of a) b' c d b_past room_b (through h f) in
         let there : HasRoom (b ∷ inverse_of a' ∷ n.0) = room_of_equivalent (b ∷ c) (b ∷ inverse_of a' ∷ n.0) (after_one b c (inverse_of a' ∷ n.0) n.1) room_b in (
           n.0,
           p,
           undone n.1 refl,
-          stays (not_after never_b n.0 n.1) (λ t q w. none_b (inverse_of a ∷ t) q (past_alike b (inverse_of a' ∷ n.0) c p (inverse_of a ∷ t) (inverse_of a ∷ t) q there (backwards n.1) same (past_with b (inverse_of a') (inverse_of a) b' n.0 p t q past_inverse w))) (backwards n.2) is,
+          stays (not_after never_b n.0 n.1) (λ t q w. none_b (inverse_of a ∷ t) q (past_alike b (inverse_of a' ∷ n.0) c p (inverse_of a ∷ t) (inverse_of a ∷ t) q there (backwards n.1) same (past_with b (inverse_of a') (inverse_of a) b' n.0 p t q b_past w))) (backwards n.2) is,
         )
     where_stays d z (goes_past never w) =
         let there : HasRoom (a ∷ c1) = room_of_equivalent (a ∷ b ∷ c) (a ∷ c1) (after_one a (b ∷ c) c1 h) room_both in

@@ -7,7 +7,7 @@ use Rattle.camp_seq.proofs.ListEquivalence.{after_one, before, behind, equal_are
 use Rattle.camp_seq.proofs.NormalForms.{normal_form}
 use Rattle.camp_seq.proofs.NormalOrders.{has_normal_order}
 use Rattle.camp_seq.proofs.RoomSteps.{room_before, room_behind, room_of_equivalent}
-use Rattle.camp_ctx.proofs.EquivalentLists.{comes_first, passed_before}
+use Rattle.camp_seq.proofs.EquivalentLists.{comes_first, passed_before}
 use Rattle.camp_ctx.proofs.PastPatches.{Past, past_alike}
 
 -- the inverse of a does not come to the front of c
@@ -129,18 +129,27 @@ sum_left a c c' p d q room f (stays never none e is) =
     let there : HasRoom (a ∷ c') = room_of_equivalent (a ∷ c) (a ∷ c') (after_one a c c' f) room in
     stays (λ t g. never t (through f g)) (λ t z w. none t z (past_alike a c' c p t t z there (backwards f) same w)) (through (after_one a c' c (backwards f)) e) is
 
+-- what passes c and p comes to stand behind what they become
+pub past_whole : (a : Named) (c : List Named) (p : Named) (d : List Named) (q : Named) → (w : Past a c p d q) → (a ∷ (c ++ p ∷ [])) ~ ((d ++ q ∷ []) ++ w.behind ∷ [])
+past_whole a c p d q w =
+    through (passed_before a c w.left w.passing (p ∷ []) w.past_list) (through (behind w.left _ _ (swapped w.passing p q w.behind [] w.past_patch)) (through (before w.left d (q ∷ w.behind ∷ []) w.alike) (equal_are _ _ (sym (append_assoc d (q ∷ []) (w.behind ∷ []))))))
+
+-- what stays is a part of the sum
+pub stays_whole : (a : Named) (c : List Named) (p : Named) (d : List Named) (q : Named) → (a ∷ c) ~ d → q ≡ p → (a ∷ (c ++ p ∷ [])) ~ (d ++ q ∷ [])
+stays_whole a c p d q e is = through (before (a ∷ c) d (p ∷ []) e) (equal_are _ _ (ap (λ z. d ++ z ∷ []) (sym is)))
+
+-- a b <-> b' a', turned round
+pub inverse_past : (a b b' a' : Named) → Commute a b b' a' → Commute a' (inverse_of b) (inverse_of b') a
+inverse_past a b b' a' k = own_inverse (inverse_of b') a a' (inverse_of b) (square b' a' a b (own_inverse a b b' a' k))
+
 -- where a b <-> b' a', a before the sum of b has room
 pub room_of_sum : (a b b' a' : Named) (c : List Named) (p : Named) (d : List Named) (q : Named) → HasRoom (a ∷ b ∷ (c ++ p ∷ [])) → Commute a b b' a' → Sum b c p d q → HasRoom (a ∷ (d ++ q ∷ []))
 room_of_sum a b b' a' c p d q room k (undone e is) =
-    let back : Commute a' (inverse_of b) (inverse_of b') a =
-    own_inverse (inverse_of b') a a' (inverse_of b) (square b' a' a b (own_inverse a b b' a' k)) in
     let front : (a ∷ b ∷ (c ++ p ∷ [])) ~ (b' ∷ inverse_of b' ∷ a ∷ (d ++ p ∷ [])) =
-    through (swapped a b b' a' (c ++ p ∷ []) k) (after_one b' _ _ (through (after_one a' _ _ (before c (inverse_of b ∷ d) (p ∷ []) e)) (swapped a' (inverse_of b) (inverse_of b') a (d ++ p ∷ []) back))) in
+    through (swapped a b b' a' (c ++ p ∷ []) k) (after_one b' _ _ (through (after_one a' _ _ (before c (inverse_of b ∷ d) (p ∷ []) e)) (swapped a' (inverse_of b) (inverse_of b') a (d ++ p ∷ []) (inverse_past a b b' a' k)))) in
     let there : HasRoom (a ∷ (d ++ p ∷ [])) = room_behind (inverse_of b') _ (room_behind b' _ (room_of_equivalent _ _ front room)) in
     subst (λ z. HasRoom (a ∷ (d ++ z ∷ []))) (sym is) there
 room_of_sum a b b' a' c p d q room k (goes_past never w) =
-    let turned : (w.left ++ w.passing ∷ p ∷ []) ~ ((d ++ q ∷ []) ++ w.behind ∷ []) =
-    through (behind w.left _ _ (swapped w.passing p q w.behind [] w.past_patch)) (through (before w.left d (q ∷ w.behind ∷ []) w.alike) (equal_are _ _ (sym (append_assoc d (q ∷ []) (w.behind ∷ []))))) in
-    room_before (a ∷ (d ++ q ∷ [])) (w.behind ∷ []) (room_of_equivalent _ _ (after_one a _ _ (through (passed_before b c w.left w.passing (p ∷ []) w.past_list) turned)) room)
+    room_before (a ∷ (d ++ q ∷ [])) (w.behind ∷ []) (room_of_equivalent _ _ (after_one a _ _ (past_whole b c p d q w)) room)
 room_of_sum a b b' a' c p d q room k (stays never none e is) =
-    room_of_equivalent _ _ (after_one a _ _ (through (before (b ∷ c) d (p ∷ []) e) (equal_are _ _ (ap (λ z. d ++ z ∷ []) (sym is))))) room
+    room_of_equivalent _ _ (after_one a _ _ (stays_whole b c p d q e is)) room

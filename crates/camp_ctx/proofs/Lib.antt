@@ -10,12 +10,11 @@ pub mod ConflictSteps
 pub mod ContextsDecided
 pub mod Elsewhere
 pub mod EntrySteps
-pub mod EquivalentLists
 pub mod LinkSteps
 pub mod NamedDecided
 pub mod PastPatches
+pub mod RoomToAdd
 pub mod SetChanges
 pub mod SetSteps
 pub mod Standing
-pub mod TwoPass
 pub mod Words

@@ -5,8 +5,8 @@ use Rattle.camp_seq.specs.Room.{HasRoom}
 use Rattle.camp_seq.proofs.LawOfThree.{law_of_three}
 use Rattle.camp_seq.proofs.ListEquivalence.{after_one, before, equal_are, passed}
 use Rattle.camp_seq.proofs.RoomSteps.{room_before, room_of_equivalent}
-use Rattle.camp_ctx.proofs.EquivalentLists.{both_pass, passed_before, passes_alike, room_of_rest}
-use Rattle.camp_ctx.proofs.TwoPass.{two_pass}
+use Rattle.camp_seq.proofs.EquivalentLists.{both_pass, passed_before, passes_alike, room_of_rest}
+use Rattle.camp_seq.proofs.MergeOrders.{two_pass}
 
 -- a passes c and p, which become d, in whatever order, and q
 pub record Past (a : Named) (c : List Named) (p : Named) (d : List Named) (q : Named) : Type 0 where

@@ -1,8 +1,11 @@
 -- When a list has room to be added to a contexted patch.
-use Rattle.std.specs.Prelude.{List, ◌++◌}
+use Rattle.std.specs.Prelude.{◌≤◌, List, ◌++◌, All}
+use Rattle.camp_base.specs.Limits.{greatest_reach}
+use Rattle.camp_prim.specs.Effect.{InRange}
 use Rattle.camp_prim.specs.declared.named.Named.{Named}
 use Rattle.camp_seq.specs.Equivalence.{◌~◌}
 use Rattle.camp_seq.specs.Room.{HasRoom}
+use Rattle.camp_seq.specs.Shapes.{reach_of}
 use Rattle.camp_ctx.specs.Adding.{AddsAll}
 use Rattle.camp_ctx.specs.Contexts.{ContextedPatch, whole}
 
@@ -16,3 +19,9 @@ HasRoomToAdd r x =
 abbrev pub AddsInAnyOrder : Type 0
 AddsInAnyOrder =
     (r s : List Named) (x y : ContextedPatch) → HasRoomToAdd r x → r ~ s → AddsAll r x y → AddsAll s x y
+
+-- where a list, a context and its patch are in range, and so is the reach of all of them, the list has room to be added
+abbrev pub ReachGivesRoomToAdd : Type 0
+ReachGivesRoomToAdd =
+    (r : List Named) (x : ContextedPatch) → All (λ p. InRange p.prim) (r ++ whole x)
+    → reach_of (r ++ whole x) ≤ greatest_reach → HasRoomToAdd r x

@@ -1,5 +1,5 @@
 ghost use Rattle.camp_ctx.specs.Laws.{AddingGives, AreDetermined, AreSymmetric, EmptyChangesNothing, KeepValid};
-ghost use Rattle.camp_ctx.specs.Room.{AddsInAnyOrder};
+ghost use Rattle.camp_ctx.specs.Room.{AddsInAnyOrder, ReachGivesRoomToAdd};
 
 /// Adding, passing by, and merging behind a common part have at most one result.
 pub fn results_in_context_are_determined()
@@ -27,8 +27,15 @@ pub fn conflict_is_symmetric()
     ensures law { AreSymmetric }
 {}
 
+/// Where a list, a context and its patch are in range, and so is the reach of all of them, the list has
+/// room to be added.
+#[tactic(auto, using(crate::proofs::RoomToAdd::reach_gives_room_to_add))]
+pub fn reach_gives_room_to_add()
+    ensures law { ReachGivesRoomToAdd }
+{}
+
 /// Adding a list does not depend on the order of its elements, given room.
 #[tactic(auto, using(crate::proofs::AddOrders::adds_in_any_order))]
-pub fn list_is_added_in_any_order()
+pub fn list_adds_in_any_order()
     ensures law { AddsInAnyOrder }
 {}

@@ -16,6 +16,7 @@ pub use fast::conflict_behind;
 pub use joins::join;
 pub use laws::{
     adding_always_gives, adding_and_passing_keep_valid, adding_the_empty_list_changes_nothing,
-    conflict_is_symmetric, list_is_added_in_any_order, results_in_context_are_determined,
+    conflict_is_symmetric, list_adds_in_any_order, reach_gives_room_to_add,
+    results_in_context_are_determined,
 };
 pub use sets::CtxSet;

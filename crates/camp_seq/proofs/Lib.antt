@@ -1,5 +1,7 @@
+pub mod EquivalentLists
 pub mod ExchangeSteps
 pub mod FirstOrders
+pub mod FittingLists
 pub mod FrontSteps
 pub mod GatherSteps
 pub mod LabelSteps

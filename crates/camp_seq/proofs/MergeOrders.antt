@@ -9,7 +9,7 @@ use Rattle.camp_seq.proofs.MergeGrid.{merge_is_symmetric, merge_passes, passing_
 use Rattle.camp_seq.proofs.RoomSteps.{at_front, exchanges_before, exchanges_behind, room_before, room_behind, room_exchanged, room_of_equivalent, shared}
 
 -- two neighbours that pass a list also pass it in their other order, and leave the same list
-two_pass : (b : List Named) (p q q' p' : Named) (t b' : List Named) (q1 p1 : Named) → HasRoom (p ∷ q ∷ b) → Commute p q q' p' → Passes q b t q1 → Passes p t b' p1 → (u : List Named) × (p2 : Named) × (q2 : Named) × Passes p' b u p2 × Passes q' u b' q2 × Commute p1 q1 q2 p2
+pub two_pass : (b : List Named) (p q q' p' : Named) (t b' : List Named) (q1 p1 : Named) → HasRoom (p ∷ q ∷ b) → Commute p q q' p' → Passes q b t q1 → Passes p t b' p1 → (u : List Named) × (p2 : Named) × (q2 : Named) × Passes p' b u p2 × Passes q' u b' q2 × Commute p1 q1 q2 p2
 two_pass [] p q q' p' t b' q1 p1 room w v x =
     let y = subst (λ s. Passes p s b' p1) v.0 x in
     ([], p', q', (refl, refl), (y.0, refl), subst (λ z. Commute z q1 q' p') (sym y.1) (subst (λ z. Commute p z q' p') (sym v.1) w))

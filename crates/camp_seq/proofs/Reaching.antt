@@ -3,7 +3,8 @@ use Rattle.camp_seq.proofs.Words.{◌≡◌, ℕ, ◌+◌, ◌-◌, ◌≤◌, �
 use Rattle.camp_prim.specs.declared.primitives.Primitive.TheVariants.{Add, Remove, Hunk}
 use Rattle.camp_prim.proofs.FileEnds.{Steps, same_path_or_not, both_turned, olds_of, news_of, news_kept}
 
-abbrev Fits : List ℕ → ℕ → List Named → Type 0
+-- each primitive stands in the file of a path, which ends here before them
+abbrev pub Fits : List ℕ → ℕ → List Named → Type 0
 Fits path before [] = Unit {0}
 Fits path before (p ∷ s) = (behind : ℕ) × Steps path before p.prim behind × Fits path behind s
 
@@ -18,7 +19,7 @@ abbrev all_olds : List Named → ℕ
 all_olds [] = 0
 all_olds (p ∷ s) = olds_of p.prim + all_olds s
 
-abbrev all_news : List Named → ℕ
+abbrev pub all_news : List Named → ℕ
 all_news [] = 0
 all_news (p ∷ s) = news_of p.prim + all_news s
 
@@ -40,7 +41,7 @@ news_turned [] p q q' p' t w =
 news_turned (x ∷ s) p q q' p' t w = ap (λ n. news_of x.prim + n) (news_turned s p q q' p' t w)
 
 -- what a list reaches fits where the list does, and has as many new lines
-reached : (path : List ℕ) (before : ℕ) (s t : List Named) → Reaches s t → Fits path before s → Fits path before t × (all_news t ≡ all_news s)
+pub reached : (path : List ℕ) (before : ℕ) (s t : List Named) → Reaches s t → Fits path before s → Fits path before t × (all_news t ≡ all_news s)
 reached path before s t here f = (f, refl)
 reached path before s t (further {t = v} e r) f =
     let next : Fits path before v = subst (Fits path before) (sym e.becomes) (fits_turned path before e.before e.p e.q e.q' e.p' e.after e.turns.change (subst (Fits path before) e.was f)) in
@@ -69,7 +70,7 @@ every_fits path before top (p ∷ s) a g w =
     (c.0, c.1, every_fits path c.0 top s (All-tail (λ p. InRange p.prim) p s a) (omega arith) (omega arith))
 
 -- what stands in a file is in range where that and its new lines are
-in_range_there : (path : List ℕ) (before behind : ℕ) (p : Primitive) → Steps path before p behind → before + news_of p ≤ 2 ^ 30 → (path_of p ≡ path → InRange p) × (behind ≤ before + news_of p)
+pub in_range_there : (path : List ℕ) (before behind : ℕ) (p : Primitive) → Steps path before p behind → before + news_of p ≤ 2 ^ 30 → (path_of p ≡ path → InRange p) × (behind ≤ before + news_of p)
 in_range_there path before behind (Add at) s le = (λ e. tt, omega (arith, s))
 in_range_there path before behind (Remove at) s le = (λ e. tt, omega (arith, s))
 in_range_there path before behind (Hunk h) (line, sides, inr off) le = (λ e. absurd (off.0 e), omega (arith, off.1))
@@ -88,12 +89,23 @@ in_range_at path before (p ∷ s) f le =
 in_range_everywhere : (s : List Named) → ((path : List ℕ) → All (λ p. path_of p.prim ≡ path → InRange p.prim) s) → All (λ p. InRange p.prim) s
 in_range_everywhere s a k d within = a (path_of (get_or s k d).prim) k d within refl
 
+-- in the file of each path, a list fits, with all its new lines
+abbrev pub FitsEverywhere : List Named → Type 0
+FitsEverywhere s = (path : List ℕ) → (before : ℕ) × Fits path before s × (before + all_news s ≤ 2 ^ 30)
+
+pub fits_within : (s : List Named) → All (λ p. InRange p.prim) s → reach_of s ≤ 2 ^ 30 → FitsEverywhere s
+fits_within s a le path =
+    let sides : all_sides s ≡ all_olds s + all_news s = all_sides_are s in
+    (greatest_line s + all_olds s, every_fits path (greatest_line s + all_olds s) (greatest_line s) s a (omega arith) (omega arith), omega arith)
+
+pub room_where_it_fits : (s : List Named) → FitsEverywhere s → HasRoom s
+room_where_it_fits s fits t r = in_range_everywhere t (λ path.
+    let f = fits path in
+    let within : f.0 + all_news s ≤ 2 ^ 30 = f.2 in
+    let there = reached path f.0 s t r f.1 in
+    let news : all_news t ≡ all_news s = there.1 in
+    in_range_at path f.0 t there.0 (omega arith))
+
 -- a list of primitives in range has room where its reach is within the limit of a hunk
 pub room_within : (s : List Named) → All (λ p. InRange p.prim) s → reach_of s ≤ 2 ^ 30 → HasRoom s
-room_within s a le t r =
-    let before = greatest_line s + all_olds s in
-    let sides : all_sides s ≡ all_olds s + all_news s = all_sides_are s in
-    in_range_everywhere t (λ path.
-    let there = reached path before s t r (every_fits path before (greatest_line s) s a (omega arith) (omega arith)) in
-    let news : all_news t ≡ all_news s = there.1 in
-    in_range_at path before t there.0 (omega arith))
+room_within s a le = room_where_it_fits s (fits_within s a le)

@@ -1,10 +1,8 @@
 -- What comes to the front of a list with room, or passes it, does so in each list that is equivalent to it.
-use Rattle.camp_ctx.proofs.Words.{List, [], ◌∷◌, ◌++◌, refl, sym, ap, ◌∙◌, subst, inl, inr, append_assoc, inverse_of, label_of, key_of, Commute, Named, swap_unique, Fronts, Passes, one_front}
-use Rattle.camp_prim.proofs.CommuteLaws.{square}
-use Rattle.camp_seq.specs.Equivalence.{◌~◌, CommutesOnce, same, exchanged, backwards, through}
-use Rattle.camp_seq.specs.Room.{HasRoom}
+use Rattle.camp_seq.proofs.Words.{List, [], ◌∷◌, ◌++◌, refl, sym, ap, ◌∙◌, subst, inl, inr, append_assoc, inverse_of, label_of, key_of, Commute, Named, swap_unique, Fronts, Passes, square, ◌~◌, CommutesOnce, same, exchanged, backwards, through, HasRoom}
 use Rattle.camp_seq.proofs.LawOfThree.{law_of_three}
 use Rattle.camp_seq.proofs.ListEquivalence.{after_one, before, equal_are, fronted, passed, swapped}
+use Rattle.camp_seq.proofs.ListResults.{one_front}
 use Rattle.camp_seq.proofs.NormalForms.{Near, exchanged_front}
 use Rattle.camp_seq.proofs.RoomSteps.{at_front, exchanges_behind, kept_by_swaps, room_before, room_behind, room_exchanged, room_of_equivalent, shared}
 
