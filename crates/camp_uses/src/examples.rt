@@ -1,7 +1,11 @@
 //! The callers that stand in the READMEs of the crates, in their words.
 ghost use Rattle.std.specs.Prelude.{◌≡◌, IfOk, IfSome};
+ghost use Rattle.std.specs.Cmp.Lexicographic.{slice_cmp};
+ghost use Rattle.std.specs.FinMap.{remove};
+ghost use Rattle.std.specs.Ordering.{nat_cmp};
 ghost use Rattle.camp_base.specs.Trees.{Files};
 ghost use Rattle.camp_prim.specs.Effect.{Applies, Leads};
+ghost use Rattle.camp_share.specs.Maps.{map_of};
 
 use camp_base::{Apply, Line, Path, Tree};
 use camp_ctx::{Contexted, CtxSet, conflict};
@@ -11,18 +15,17 @@ use camp_seq::{Seq, apply_all, clean_merge, norm};
 use camp_share::{Share, Shared, SharedList, SharedMap};
 use std::alloc::{AllocError, Global};
 
-/// Puts a path into a map that is shared, and takes it out again: nothing is left; `camp_share`.
+/// Puts a path into a map that others share, and takes it out again: the map without the path; `camp_share`.
 pub fn put_and_remove(
-    alloc: Global,
+    map: &SharedMap<Path, Shared<SharedList<Line>>>,
     path: &Path,
     lines: SharedList<Line>,
-) -> Result<usize, AllocError>
-    ensures empty { IfOk result (λ count. count ≡ 0) }
+) -> Result<SharedMap<Path, Shared<SharedList<Line>>>, AllocError>
+    ensures exact { IfOk result (λ left.
+        map_of (slice_cmp nat_cmp) left ≡ remove (map_of (slice_cmp nat_cmp) map.now) path.now) }
 {
-    let empty: SharedMap<Path, Shared<SharedList<Line>>> = SharedMap::new(alloc);
-    let one = empty.inserted(path.share()?, Shared::new(alloc, lines)?)?;
-    let none = one.without(path)?;
-    Ok(none.len())
+    let one = map.inserted(path.share()?, Shared::new(map.allocator(), lines)?)?;
+    one.without(path)
 }
 
 /// A tree with one file of one line; `camp_base`.
