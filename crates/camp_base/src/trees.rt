@@ -1,11 +1,12 @@
 ghost use Rattle.std.specs.Prelude.{◌≡◌, ◌==◌, ◌↔◌, IfOk, IsTrue, MatchOption, None, Some, slice_get};
 ghost use Rattle.std.specs.FinMap as map;
+ghost use Rattle.std.specs.Map.Iter.{ShowsInOrder, deref};
 ghost use Rattle.camp_base.specs.Trees.{Adds, Removes, Splices};
 ghost use Rattle.camp_base.specs.Answers.{Answers};
 ghost use Rattle.camp_base.specs.Inside.Steps.{Steps, StandsAt};
 
 use crate::{Apply, Line, Path};
-use camp_share::{Share, Shared, SharedList, SharedMap};
+use camp_share::{Iter, Share, Shared, SharedList, SharedMap};
 use std::alloc::{AllocError, Global};
 use std::marker::Model;
 
@@ -83,6 +84,14 @@ impl Tree {
             }
             None => None,
         }
+    }
+
+    /// The files in the order of their paths, each with its lines.
+    pub fn iter(&self) -> Iter<'_, (Path, Shared<SharedList<Line>>)>
+        ensures rest { result ≡ map.entries self.now }
+        ensures runs { ShowsInOrder (deref {X = Path × Shared (SharedList Line)}) }
+    {
+        self.files.iter()
     }
 
     /// Adds a file without lines.

@@ -156,10 +156,7 @@ fn append_tree(text: &mut Vec<u8>, tree: &Tree) -> Result<(), AllocError>
     ensures { OnOk result (text.new.items ≡ text.old.items ++ tree_text tree.now) }
 {
     append_count(text, b"tree", tree.len() as u64)?;
-    for index in 0..tree.len() {
-        let Some((path, lines)) = tree.at(index) else {
-            unreachable!();
-        };
+    for (path, lines) in tree.iter() {
         append_file(text, path, lines)?;
     }
     Ok(())
