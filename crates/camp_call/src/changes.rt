@@ -5,53 +5,75 @@ use crate::MAX_CHANGES;
 use camp_prim::Primitive;
 use std::alloc::AllocError;
 use std::marker::Model;
+use std::slice;
 
 /// The changes of a patch in the order in which they are made: 1 to 64 of them.
 #[derive(Debug, Drop)]
 pub struct Changes {
-    prims: Vec<Primitive>,
+    prims: Kept,
+}
+
+#[derive(Debug, Drop)]
+enum Kept {
+    One(Primitive),
+    Many(Vec<Primitive>),
 }
 
 impl Model for Changes {
     ghost use Rattle.std.specs.Prelude.{List};
     ghost use Rattle.camp_prim.specs.declared.primitives.Primitive.{Primitive};
     ghost use Rattle.camp_call.specs.Patches.{IsPatchSized};
+    ghost use Rattle.camp_call.specs.Inside.ChangesFields.{changes_of};
 
     ghost Value = { List Primitive };
 
-    ghost view = { λ changes. changes.prims.items };
+    ghost view = { λ changes. changes_of changes.prims };
 
-    ghost invariant = { λ changes. IsPatchSized changes.prims.items };
+    ghost invariant = { λ changes. IsPatchSized (changes_of changes.prims) };
 }
 
 impl Changes {
     /// The changes of a patch, or `None` for no change and for more than 64. It takes no memory.
-    pub fn new(prims: Vec<Primitive>) -> Option<Changes>
+    pub fn new(mut prims: Vec<Primitive>) -> Option<Changes>
         ensures exact { MatchOption result
             (¬ (IsPatchSized prims.items))
             (λ changes. IsPatchSized prims.items × (changes ≡ prims.items)) }
     {
-        if prims.is_empty() || prims.len() > MAX_CHANGES {
+        if prims.len() > MAX_CHANGES {
             return None;
         }
-        Some(Changes { prims })
+        if prims.len() > 1 {
+            return Some(Changes {
+                prims: Kept::Many(prims),
+            });
+        }
+        match prims.pop() {
+            Some(prim) => Some(Changes {
+                prims: Kept::One(prim),
+            }),
+            None => None,
+        }
     }
 
     pub fn prims(&self) -> &[Primitive]
         ensures value { result.now ≡ self.now }
         ensures sized { IsPatchSized self.now }
     {
-        &self.prims
+        match &self.prims {
+            Kept::One(prim) => slice::from_ref(prim),
+            Kept::Many(prims) => prims,
+        }
     }
 
-    /// A copy, which shares the paths and the lines of the changes: memory is taken for their list alone.
+    /// A copy, which shares the paths and the lines of the changes. One change takes no memory, and more
+    /// take it for their list alone.
     pub fn try_clone(&self) -> Result<Changes, AllocError>
         ensures exact { IfOk result (λ copy. copy ≡ self.now) }
     {
-        let mut prims = Vec::with_capacity(*self.prims.allocator(), self.prims.len())?;
-        for prim in &self.prims {
-            prims.push(prim.try_clone()?)?;
-        }
+        let prims = match &self.prims {
+            Kept::One(prim) => Kept::One(prim.try_clone()?),
+            Kept::Many(prims) => Kept::Many(copies(prims)?),
+        };
         Ok(Changes { prims })
     }
 
@@ -59,14 +81,25 @@ impl Changes {
     pub fn is_same(&self, other: &Changes) -> bool
         ensures exact { IsTrue result ↔ (self.now ≡ other.now) }
     {
-        if self.prims.len() != other.prims.len() {
+        let (prims, others) = (self.prims(), other.prims());
+        if prims.len() != others.len() {
             return false;
         }
-        for (at, prim) in self.prims.iter().enumerate() {
-            if !prim.is_same(&other.prims[at]) {
+        for (at, prim) in prims.iter().enumerate() {
+            if !prim.is_same(&others[at]) {
                 return false;
             }
         }
         true
     }
+}
+
+fn copies(prims: &Vec<Primitive>) -> Result<Vec<Primitive>, AllocError>
+    ensures { IfOk result (λ copies. copies.items ≡ prims.now.items) }
+{
+    let mut copies = Vec::with_capacity(*prims.allocator(), prims.len())?;
+    for prim in prims {
+        copies.push(prim.try_clone()?)?;
+    }
+    Ok(copies)
 }

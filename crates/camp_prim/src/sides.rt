@@ -4,32 +4,47 @@ use camp_base::Line;
 use camp_share::{Share, Shared};
 use std::alloc::{AllocError, Global};
 use std::marker::Model;
+use std::slice;
 
-/// The lines of one side of a hunk. A copy shares them, and a side without lines takes no memory.
+/// The lines of one side of a hunk. A copy shares them, and a side of at most one line takes no memory.
 #[derive(Debug, Drop)]
 pub struct Lines {
-    lines: Option<Shared<Vec<Line>>>,
+    lines: Kept,
+}
+
+#[derive(Debug, Drop)]
+enum Kept {
+    None,
+    One(Line),
+    Many(Shared<Vec<Line>>),
 }
 
 impl Model for Lines {
-    ghost use Rattle.std.specs.Prelude.{List, [], ℕ};
-    ghost use Rattle.std.specs.Option.{option_map_or};
+    ghost use Rattle.std.specs.Prelude.{List, ℕ};
+    ghost use Rattle.camp_prim.specs.Inside.SideFields.{lines_of};
 
     ghost Value = { List (List ℕ) };
 
-    ghost view = { λ side. option_map_or (λ lines. lines.items) side.lines [] };
+    ghost view = { λ side. lines_of side.lines };
 }
 
 impl Lines {
     /// The side of these lines.
-    pub fn new(alloc: Global, lines: Vec<Line>) -> Result<Lines, AllocError>
+    pub fn new(alloc: Global, mut lines: Vec<Line>) -> Result<Lines, AllocError>
         ensures exact { IfOk result (λ side. side ≡ lines.items) }
     {
-        if lines.is_empty() {
-            return Ok(Lines { lines: None });
+        if lines.len() > 1 {
+            let lines = Shared::new(alloc, lines)?;
+            return Ok(Lines {
+                lines: Kept::Many(lines),
+            });
         }
-        let lines = Shared::new(alloc, lines)?;
-        Ok(Lines { lines: Some(lines) })
+        match lines.pop() {
+            Some(line) => Ok(Lines {
+                lines: Kept::One(line),
+            }),
+            None => Ok(Lines { lines: Kept::None }),
+        }
     }
 
     /// The lines, from the first to the last.
@@ -37,19 +52,20 @@ impl Lines {
         ensures exact { result.now ≡ self.now }
     {
         match &self.lines {
-            Some(lines) => lines,
-            None => &[],
+            Kept::None => &[],
+            Kept::One(line) => slice::from_ref(line),
+            Kept::Many(lines) => lines,
         }
     }
 }
 
 impl Share for Lines {
     fn share(&self) -> Result<Lines, AllocError> {
-        let Some(lines) = &self.lines else {
-            return Ok(Lines { lines: None });
+        let lines = match &self.lines {
+            Kept::None => Kept::None,
+            Kept::One(line) => Kept::One(line.share()?),
+            Kept::Many(lines) => Kept::Many(lines.share()?),
         };
-        Ok(Lines {
-            lines: Some(lines.share()?),
-        })
+        Ok(Lines { lines })
     }
 }

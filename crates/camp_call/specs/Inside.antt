@@ -1,0 +1,2 @@
+-- Words that serve only the model of changes.
+pub mod ChangesFields
