@@ -54,7 +54,7 @@ impl<T: Share + Drop> Change<T> {
         Ok(Change { parts, middle })
     }
 
-    // The same, with the last parts closed where they are many.
+    // The same, with the last parts closed.
     fn settled(self) -> Result<Change<T>, AllocError>
         ensures { IfOk result (λ change. change ≡ self) }
     {

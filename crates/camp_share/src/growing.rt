@@ -14,9 +14,6 @@ pub(crate) type Part<T> = Shared<Vec<T>>;
 /// The most elements of a part.
 pub(crate) const MAX_PART_LENGTH: usize = 24;
 
-// So many elements behind the closed parts are worth a part that the next lists share.
-const MANY: usize = 6;
-
 // A list that grows at its end: parts that are closed, and a last one that still takes elements.
 #[derive(Drop)]
 pub(crate) struct Growing<T> {
@@ -181,12 +178,12 @@ impl<T: Share + Drop> Growing<T> {
         Ok(())
     }
 
-    // Closes the last elements where they are many. The list is the same: what is closed is shared by
-    // one count, where the last elements take a count each. No clause asks for it.
+    // Closes the last elements. The list is the same: what is closed is shared by one count, where the
+    // last elements take a count each. No clause asks for it.
     pub(crate) fn settle(&mut self) -> Result<(), AllocError>
         ensures { OnOk result (self.new ≡ self.old) }
     {
-        if self.last.len() < MANY {
+        if self.last.is_empty() {
             return Ok(());
         }
         take_back(&mut self.closed, &mut self.last)?;
