@@ -32,9 +32,9 @@ module _ {K X : Type 0} (R : K → K → Ordering) where
   above_both k [] ys h all = all
   above_both k (x ∷ xs) ys h all = (h.0, above_both k xs ys h.1 all)
 
-  pub last_above : (k : K) (xs : List (K × X)) (e : K × X) → IsAbove R (xs ++ e ∷ []) k → R e.0 k ≡ Less
-  last_above k [] e h = h.0
-  last_above k (x ∷ xs) e h = last_above k xs e h.1
+  pub above_split : (k : K) (xs ys : List (K × X)) → IsAbove R (xs ++ ys) k → IsAbove R xs k × IsAbove R ys k
+  above_split k [] ys all = (tt, all)
+  above_split k (x ∷ xs) ys all = let rest = above_split k xs ys all.1 in ((all.0, rest.0), rest.1)
 
   pub would_behind : (k : K) (xs ys : List (K × X)) (i n : ℕ) → n ≡ length xs + i → IsAbove R xs k → WouldBeAt R ys k i → WouldBeAt R (xs ++ ys) k n
   would_behind k [] ys i n e h w = subst (WouldBeAt R ys k) {x = i} {y = n} (omega arith) w

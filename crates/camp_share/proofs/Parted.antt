@@ -1,27 +1,65 @@
 -- A key's place among entries in parts, from its place in one part.
-use Rattle.camp_share.proofs.Words.{◌≡◌, ◌↔◌, ℕ, ◌+◌, ◌-◌, ◌<◌, ◌≤◌, Bool, true, T, List, [], ◌∷◌, ◌++◌, length, get_or, take, drop, IsTrue, Some, sym, ap, subst, ◌∙◌, refl, arith, length-append, length-drop, append-nil, append_assoc, drop-drop, drop_at, get_or-drop, take-append-drop, take-append-le, take_all, take_more, get_or-append-add, get_or_append_left, flat_map-append, All-drop, All-take}
+use Rattle.camp_share.proofs.Words.{◌≡◌, ◌↔◌, ℕ, zero, suc, ◌+◌, ◌-◌, ◌<◌, ◌≤◌, Bool, true, false, true≢false, T, List, [], ◌∷◌, ◌++◌, length, get_or, slice_get, take, drop, IsTrue, Some, sym, ap, subst, ◌∙◌, refl, arith, length-append, length-drop, append-nil, drop_at, get_or-drop, take-append-drop, take_all, get_or-append-add, get_or_append_left, get_or_default, flat_map-append}
 use Rattle.camp_share.proofs.Words.{take-add, All, Ordering, Less, Equal, Greater, Vec, is_lt, IsTotalOrder, is_sorted, find, joined, IsPart, IsAt, WouldBeAt, IsAbove}
-use Rattle.camp_share.proofs.Entries.{is_less, present, at_within}
-use Rattle.camp_share.proofs.Found.{sorted_left, sorted_right, above_behind, above_both, last_above, above_would, would_behind, would_front, at_behind, at_front}
-use Rattle.camp_share.proofs.PartLemmas.{closed_passed, from_here, up_to_here}
+use Rattle.camp_share.proofs.Entries.{first, second, is_less, present, at_within}
+use Rattle.camp_share.proofs.Found.{sorted_left, sorted_right, above_behind, above_both, above_split, above_would, would_behind, would_front, at_behind, at_front}
+use Rattle.camp_share.proofs.PartLemmas.{closed_passed, divided_before, from_here, rest_from_here, up_to_here, part_is, length_grown, front_within}
+use Rattle.camp_share.specs.Inside.Places.{passes, ends_below}
+use Rattle.std.specs.List.Sorted.{IsPartitionedBy, IsPartitionPoint}
+use Rattle.std.proofs.Common.{take-take}
+use Rattle.std.proofs.lemmas.Option.{slice_get-get_or}
 
 less_told : (r : Ordering) → (is_lt r ≡ true → r ≡ Less) × (r ≡ Less → is_lt r ≡ true)
 less_told Less = (λ h. refl, λ h. refl)
 less_told Equal = (λ h. is_less Equal (subst T (sym h) tt), λ h. ap is_lt h)
 less_told Greater = (λ h. is_less Greater (subst T (sym h) tt), λ h. ap is_lt h)
 
--- a list that is not empty ends with its last element
-ends : {X : Type 0} (xs : List X) (x : X) → 0 < length xs → x ≡ get_or xs (length xs - 1) x → xs ≡ take (length xs - 1) xs ++ x ∷ []
-ends xs x some read =
-    sym (take_all (length xs - 1 + 1) xs (omega arith)) ∙ take_more xs (length xs - 1) x (omega arith) ∙ ap (λ y. take (length xs - 1) xs ++ y ∷ []) (sym read)
+-- the last key of the last part is below a key
+abbrev pub last_ends_below : {K X Z : Type 0} → (K → K → Ordering) → List (Vec (K × X) Z) → K → Bool
+last_ends_below order parts key = passes (λ part. ends_below order part.items key) (slice_get parts (length parts - 1))
+
+-- the last element of a list that is not empty
+last_of : {A : Type 0} (xs : List A) → 0 < length xs → (x : A) × (x ≡ get_or xs (length xs - 1) x) × (slice_get xs (length xs - 1) ≡ Some x)
+last_of [] some = absurd (omega arith)
+last_of (x ∷ xs) some =
+    let end = length (x ∷ xs) - 1 in
+    let y = get_or (x ∷ xs) end x in (y, get_or_default (x ∷ xs) end x y (omega arith), slice_get-get_or (x ∷ xs) end x (omega arith))
+
+from_first : (P : ℕ → Type 0) (n : ℕ) → P 0 → ((m : ℕ) → n ≡ m + 1 → P (m + 1)) → P n
+from_first P zero none some = none
+from_first P (suc m) none some = subst P {x = m + 1} {y = suc m} (omega arith) (some m (omega arith))
 
 module _ {K X : Type 0} (R : K → K → Ordering) (o : IsTotalOrder R) where
   -- the last key of entries in order tells whether a key is above them all
-  pub by_last : (es : List (K × X)) (e : K × X) (key : K) (told : Bool) → T (is_sorted R es) → 0 < length es → e ≡ get_or es (length es - 1) e → told ≡ is_lt (R e.0 key) → IsTrue told ↔ IsAbove R es key
-  by_last es e key told sorted some read is =
-      let parts = ends es e some read in (
-        λ yes. subst (λ xs. IsAbove R xs key) (sym parts) (above_behind R o key (take (length es - 1) es) (e ∷ []) (omega arith) (subst (λ xs. T (is_sorted R xs)) parts sorted) ((less_told _).0 (sym is ∙ yes), tt)),
-        λ all. is ∙ (less_told _).1 (last_above R key (take (length es - 1) es) e (subst (λ xs. IsAbove R xs key) parts all)),
+  by_last : (es : List (K × X)) (key : K) → T (is_sorted R es) → 0 < length es → IsTrue (ends_below R es key) ↔ IsAbove R es key
+  by_last [] key sorted some = absurd (omega arith)
+  by_last (e ∷ []) key sorted some = (λ yes. ((less_told _).0 yes, tt), λ all. (less_told _).1 all.0)
+  by_last (e ∷ f ∷ es) key sorted some =
+      let same : ends_below R (e ∷ f ∷ es) key ≡ ends_below R (f ∷ es) key = ap (λ n. passes (λ d. is_lt (R d.0 key)) (slice_get (e ∷ f ∷ es) n)) {x = suc (suc (length es)) - 1} {y = suc (suc (length es) - 1)} (omega arith) in
+      let rest = by_last (f ∷ es) key (second _ _ sorted) (omega arith) in
+      (λ yes. let all = rest.0 (sym same ∙ yes) in (o.trans e.0 f.0 key (is_less _ (first _ _ (first _ _ sorted))) all.0, all), λ all. same ∙ rest.1 all.1)
+
+  -- a key above parts is above fewer of them
+  above_fewer : {Z : Type 0} (parts : List (Vec (K × X) Z)) (key : K) (m k : ℕ) → m ≤ k → IsAbove R (joined (take k parts)) key → IsAbove R (joined (take m parts)) key
+  above_fewer {Z} parts key m k less all =
+      (above_split R key (joined (take m parts)) (joined (take (k - m) (drop m parts)))
+      (subst (λ xs. IsAbove R xs key)
+      (ap (λ j. joined (take j parts)) {x = k} {y = m + (k - m)} (omega arith) ∙ ap joined (take-add m (k - m) parts)
+      ∙ flat_map-append (λ (p : Vec (K × X) Z). p.items) (take m parts) (take (k - m) (drop m parts)))
+      all)).0
+
+  -- what a search by halves finds, where a test tells of each item whether a key is above the parts up to its end
+  pub by_halves : {A Z : Type 0} (parts : List (Vec (K × X) Z)) (key : K) (start : ℕ → ℕ) → ((i j : ℕ) → i ≤ j → start i ≤ start j) → IsAbove R (joined (take (start 0) parts)) key → (xs : List A) (test : A → Bool)
+      → ((i : ℕ) (x : A) → i < length xs → x ≡ get_or xs i x → IsTrue (test x) ↔ IsAbove R (joined (take (start (i + 1)) parts)) key)
+      → (n : ℕ) → n ≤ length xs → (IsPartitionedBy test xs → IsPartitionPoint (λ y. test y ≡ true) (λ y. test y ≡ false) xs n)
+      → IsAbove R (joined (take (start n) parts)) key × (n < length xs → ¬ (IsAbove R (joined (take (start (n + 1)) parts)) key))
+  by_halves {A} parts key start rises begins xs test told n within clause =
+      let at : (i : ℕ) (d : A) → i < length xs → IsTrue (test (get_or xs i d)) ↔ IsAbove R (joined (take (start (i + 1)) parts)) key
+      = λ i d inside. told i (get_or xs i d) inside (get_or_default xs i d _ inside) in
+      let point = clause (λ i j d less inside yes. (at i d (omega arith)).1 (above_fewer parts key _ _ (rises (i + 1) (j + 1) (omega arith)) ((at j d inside).0 yes))) in (
+        from_first (λ j. IsAbove R (joined (take (start j) parts)) key) n begins
+            (λ m is. let d = (last_of xs (omega arith)).0 in (at m d (omega arith)).0 (point.0 m d (omega arith) (omega arith))),
+        λ inside all. let d = (last_of xs (omega arith)).0 in true≢false (sym ((at n d inside).1 all) ∙ point.1 n d (omega arith) inside),
       )
 
   module _ {Z : Type 0} (parts : List (Vec (K × X) Z)) (sorted : T (is_sorted R (joined parts))) (key : K) (index : ℕ) where
@@ -41,21 +79,29 @@ module _ {K X : Type 0} (R : K → K → Ordering) (o : IsTotalOrder R) where
           sorted_left R part.items (joined (drop (index + 1) parts))
           (sorted_right R (joined (take index parts)) (part.items ++ joined (drop (index + 1) parts)) (subst (λ xs. T (is_sorted R xs)) divided sorted))
 
-      pub above_part : 0 < length part.items → IsAbove R part.items key → IsAbove R (joined (take (index + 1) parts)) key
+      above_part : 0 < length part.items → IsAbove R part.items key → IsAbove R (joined (take (index + 1) parts)) key
       above_part some all =
           let grown = up_to_here parts index part within read in
           subst (λ xs. IsAbove R xs key) (sym grown)
           (above_behind R o key (joined (take index parts)) part.items some (subst (λ xs. T (is_sorted R xs)) grown sorted_one_further) all)
+
+      -- the last key of a part tells whether a key is above all up to its end
+      pub tells : IsPart part → IsTrue (ends_below R part.items key) ↔ IsAbove R (joined (take (index + 1) parts)) key
+      tells is =
+          let last = by_last part.items key part_sorted is.0 in (
+            λ yes. above_part is.0 (last.0 yes),
+            λ all. last.1 (above_split R key (joined (take index parts)) part.items (subst (λ xs. IsAbove R xs key) (up_to_here parts index part within read) all)).1,
+          )
 
       pub at_in_part : (place : ℕ) → IsAt part.items key place → IsAt (joined parts) key (length (joined (take index parts)) + place)
       at_in_part place here =
           subst (λ xs. IsAt xs key (length (joined (take index parts)) + place)) (sym divided)
           (at_behind key (joined (take index parts)) (part.items ++ joined (drop (index + 1) parts)) place _ refl (at_front key part.items (joined (drop (index + 1) parts)) place here))
 
-      pub gap_in_part : (place : ℕ) → IsAbove R (joined (take index parts)) key → ¬ (IsAbove R part.items key) → WouldBeAt R part.items key place → WouldBeAt R (joined parts) key (length (joined (take index parts)) + place)
+      pub gap_in_part : (place : ℕ) → IsAbove R (joined (take index parts)) key → ¬ (IsAbove R (joined (take (index + 1) parts)) key) → WouldBeAt R part.items key place → WouldBeAt R (joined parts) key (length (joined (take index parts)) + place)
       gap_in_part place before reached here =
           subst (λ xs. WouldBeAt R xs key (length (joined (take index parts)) + place)) (sym divided)
-          (would_behind R key (joined (take index parts)) (part.items ++ joined (drop (index + 1) parts)) place _ refl before (would_front R key part.items (joined (drop (index + 1) parts)) place reached here))
+          (would_behind R key (joined (take index parts)) (part.items ++ joined (drop (index + 1) parts)) place _ refl before (would_front R key part.items (joined (drop (index + 1) parts)) place (λ all. reached (subst (λ xs. IsAbove R xs key) (sym (up_to_here parts index part within read)) (above_both R key _ part.items before all))) here))
 
       -- the value found in the part is the value in the map
       pub value_in_part : (place : ℕ) (e : K × X) → IsAt part.items key place → e ≡ get_or part.items place e → find R key (joined parts) ≡ Some e.1
@@ -72,46 +118,81 @@ module _ {K X : Type 0} (R : K → K → Ordering) (o : IsTotalOrder R) where
         let all : joined (take index parts) ≡ joined parts = ap joined (take_all index parts past) in
         subst (λ xs. WouldBeAt R xs key (length (joined (take index parts)))) all (above_would R key (joined (take index parts)) _ refl before)
 
-  -- what some parts behind others tell is told at their place among all
-  module _ {Z : Type 0} (parts some rest : List (Vec (K × X) Z)) (passed found : ℕ) (key : K) (stand : drop passed parts ≡ some ++ rest) (inside : passed ≤ length parts) (within : found ≤ length some) where
-    pub above_so_far : IsAbove R (joined (take passed parts)) key → IsAbove R (joined (take found some)) key → IsAbove R (joined (take (passed + found) parts)) key
-    above_so_far before here =
-        subst (λ xs. IsAbove R xs key)
-        (sym
-        (ap joined (take-add passed found parts ∙ ap (λ ps. take passed parts ++ take found ps) stand ∙ ap (λ ps. take passed parts ++ ps) (take-append-le found some rest within))
-        ∙ flat_map-append (λ (p : Vec (K × X) Z). p.items) (take passed parts) (take found some)))
-        (above_both R key (joined (take passed parts)) (joined (take found some)) before here)
+  -- some parts behind those that are passed, where a key is looked for among them alone
+  pub record Stands {Z : Type 0} (parts : List (Vec (K × X) Z)) (key : K) (passed : ℕ) (some : List (Vec (K × X) Z)) : Type 0 where
+    pub rest : List (Vec (K × X) Z)
+    pub stand : drop passed parts ≡ some ++ rest
+    pub inside : passed ≤ length parts
+    pub before : IsAbove R (joined (take passed parts)) key
+    pub ends : passed + length some < length parts → ¬ (IsAbove R (joined (take (passed + length some) parts)) key)
 
-    pub found_within : passed + found ≤ length parts
-    found_within = omega (arith, length-drop passed parts, ap length stand ∙ length-append some rest)
+  module _ {Z : Type 0} (parts : List (Vec (K × X) Z)) (sorted : T (is_sorted R (joined parts))) (all : All IsPart parts) (key : K) where
+    -- the last key of a part that stands behind others tells whether a key is above all up to its end
+    tells_behind : (some rest : List (Vec (K × X) Z)) (passed : ℕ) → drop passed parts ≡ some ++ rest → (i : ℕ) (part : Vec (K × X) Z) → i < length some → part ≡ get_or some i part → IsTrue (ends_below R part.items key) ↔ IsAbove R (joined (take (passed + i + 1) parts)) key
+    tells_behind some rest passed stand i part within read =
+        let inside : passed + i < length parts = omega (arith, length-drop passed parts, ap length stand ∙ length-append some rest) in
+        let got = read ∙ sym (get_or_append_left some rest part i within) ∙ ap (λ ps. get_or ps i part) (sym stand) ∙ get_or-drop passed parts i part in
+        tells parts sorted key (passed + i) part inside got (part_is parts (passed + i) part inside got all)
 
-    pub stands_there : (part : Vec (K × X) Z) → found < length some → part ≡ get_or parts (passed + found) part → part ≡ get_or some found part
-    stands_there part before read =
-        read ∙ sym (get_or-drop passed parts found part) ∙ ap (λ (ps : List (Vec (K × X) Z)). get_or ps found part) stand ∙ get_or_append_left some rest part found before
+    module _ {W : Type 0} (closed : List (Vec (Vec (K × X) Z) W)) (last : List (Vec (K × X) Z)) (whole : joined closed ++ last ≡ parts) where
+      -- the parts from a closed one on
+      behind : (i : ℕ) → drop (length (joined (take i closed))) parts ≡ joined (drop i closed) ++ last
+      behind i = ap (drop (length (joined (take i closed)))) (sym whole ∙ divided_before closed last i) ∙ drop_at (joined (take i closed)) (joined (drop i closed) ++ last) (length (joined (take i closed))) refl
 
-    pub parts_there : All IsPart parts → All IsPart some
-    parts_there all =
-        subst (All IsPart) (ap (take (length some)) stand ∙ take-append-le (length some) some rest (omega arith) ∙ take_all (length some) some (omega arith))
-        (All-take IsPart (length some) (drop passed parts) (All-drop IsPart passed parts all))
+      -- the last key of a closed part's last part tells whether a key is above all up to its end
+      tells_group : All IsPart closed → (i : ℕ) (group : Vec (Vec (K × X) Z) W) → i < length closed → group ≡ get_or closed i group → IsTrue (last_ends_below R group.items key) ↔ IsAbove R (joined (take (length (joined (take (i + 1) closed))) parts)) key
+      tells_group groups i group within read =
+          let some = (part_is closed i group within read groups).0 in
+          let end = last_of group.items some in
+          let before = length (joined (take i closed)) in
+          subst (λ n. IsTrue (last_ends_below R group.items key) ↔ IsAbove R (joined (take n parts)) key) {x = before + (length group.items - 1) + 1} {y = length (joined (take (i + 1) closed))} (omega (arith, length_grown closed i group within read))
+          (subst (λ (b : Bool). IsTrue b ↔ IsAbove R (joined (take (before + (length group.items - 1) + 1) parts)) key) (sym (ap (passes (λ part. ends_below R part.items key)) end.2))
+          (tells_behind group.items _ before (behind i ∙ rest_from_here closed last i group within read) (length group.items - 1) end.0 (omega arith) end.1))
 
-    pub sorted_there : T (is_sorted R (joined parts)) → T (is_sorted R (joined some))
-    sorted_there sorted =
-        sorted_left R (joined some) (joined rest)
-        (subst (λ xs. T (is_sorted R xs)) (ap joined stand ∙ flat_map-append (λ (p : Vec (K × X) Z). p.items) some rest)
-        (sorted_right R (joined (take passed parts)) (joined (drop passed parts))
-        (subst (λ xs. T (is_sorted R xs)) (ap joined (sym (take-append-drop passed parts)) ∙ flat_map-append (λ (p : Vec (K × X) Z). p.items) (take passed parts) (drop passed parts)) sorted)))
+      module _ (groups : All IsPart closed) (i : ℕ) (within : i ≤ length closed) (clause : IsPartitionedBy (λ group. last_ends_below R group.items key) closed → IsPartitionPoint (λ group. last_ends_below R group.items key ≡ true) (λ group. last_ends_below R group.items key ≡ false) closed i) where
+        group_found : IsAbove R (joined (take (length (joined (take i closed))) parts)) key × (i < length closed → ¬ (IsAbove R (joined (take (length (joined (take (i + 1) closed))) parts)) key))
+        group_found =
+            by_halves parts key (λ n. length (joined (take n closed)))
+            (λ m k less. subst (λ ps. length (joined ps) ≤ length (joined (take k closed))) (take-take m k closed less) (front_within (take k closed) m)) tt
+            closed (λ group. last_ends_below R group.items key) (tells_group groups) i within clause
 
-    pub goes_on : found ≡ length some → drop (passed + found) parts ≡ rest
-    goes_on all =
-        sym (drop-drop found passed parts) ∙ ap (drop found) stand ∙ drop_at some rest found (sym all)
+        inside_all : length (joined (take i closed)) ≤ length parts
+        inside_all = omega (arith, front_within closed i, ap length (sym whole) ∙ length-append (joined closed) last)
 
-module _ {A W : Type 0} (parts : List A) (closed : List (Vec A W)) (last : List A) (passed i : ℕ) (stand : drop passed parts ≡ joined (drop i closed) ++ last) where
-  -- a closed part stands before the closed ones behind it
-  pub group_stands : (group : Vec A W) → i < length closed → group ≡ get_or closed i group → (some : List A) → some ≡ group.items → drop passed parts ≡ some ++ (joined (drop (i + 1) closed) ++ last)
-  group_stands group within read some lent =
-      stand ∙ ap (λ xs. xs ++ last) (from_here closed i group within read) ∙ append_assoc group.items (joined (drop (i + 1) closed)) last
-      ∙ ap (λ xs. xs ++ (joined (drop (i + 1) closed) ++ last)) (sym lent)
+        pub stands_group : (group : Vec (Vec (K × X) Z) W) → i < length closed → group ≡ get_or closed i group → Stands parts key (length (joined (take i closed))) group.items
+        stands_group group before read = record {
+          rest = joined (drop (i + 1) closed) ++ last;
+          stand = behind i ∙ rest_from_here closed last i group before read;
+          inside = inside_all;
+          before = group_found.0;
+          ends = λ more. subst (λ n. ¬ (IsAbove R (joined (take n parts)) key)) (length_grown closed i group before read) (group_found.1 before);
+        }
 
-  -- behind the closed parts stand the last elements
-  pub last_stands : length closed ≤ i → drop passed parts ≡ last ++ []
-  last_stands past = stand ∙ closed_passed closed last i past ∙ sym (append-nil last)
+        pub stands_last : length closed ≤ i → Stands parts key (length (joined (take i closed))) last
+        stands_last past = record {
+          rest = [];
+          stand = behind i ∙ closed_passed closed last i past ∙ sym (append-nil last);
+          inside = inside_all;
+          before = group_found.0;
+          ends = λ more. absurd (omega (arith, ap length whole, length-append (joined closed) last, ap (λ ps. length (joined ps)) (take_all i closed past)));
+        }
+
+    -- the part that is found among them
+    module _ (some : List (Vec (K × X) Z)) (passed : ℕ) (s : Stands parts key passed some) (found : ℕ) (within : found ≤ length some) where
+      pub found_within : passed + found ≤ length parts
+      found_within = omega (arith, s.inside, length-drop passed parts, ap length s.stand ∙ length-append some s.rest)
+
+      pub found_there : (IsPartitionedBy (λ part. ends_below R part.items key) some → IsPartitionPoint (λ part. ends_below R part.items key ≡ true) (λ part. ends_below R part.items key ≡ false) some found)
+          → IsAbove R (joined (take (passed + found) parts)) key × (passed + found < length parts → ¬ (IsAbove R (joined (take (passed + found + 1) parts)) key))
+      found_there clause =
+          let up_to = λ (n : ℕ). IsAbove R (joined (take n parts)) key in
+          let there = by_halves parts key (λ n. passed + n) (λ m k less. omega arith) (subst up_to {x = passed} {y = passed + 0} (omega arith) s.before)
+          some (λ part. ends_below R part.items key)
+          (λ i part inside read. subst (λ n. IsTrue (ends_below R part.items key) ↔ up_to n) {x = passed + i + 1} {y = passed + (i + 1)} (omega arith) (tells_behind some s.rest passed s.stand i part inside read))
+          found within clause in (
+            there.0,
+            λ more above. from_first (λ left. found + left ≡ length some → ⊥) (length some - found)
+                (λ is. s.ends (omega arith) (subst up_to {x = passed + found} {y = passed + length some} (omega arith) there.0))
+                (λ m less is. there.1 (omega arith) (subst up_to {x = passed + found + 1} {y = passed + (found + 1)} (omega arith) above))
+                (omega arith),
+          )

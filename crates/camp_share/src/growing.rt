@@ -53,11 +53,7 @@ impl<T> Growing<T> {
         requires { length self.now < 2 ^ 64 }
         ensures { result ≡ length self.now }
     {
-        let mut sum = self.last.len();
-        for part in &self.closed {
-            sum += part.len();
-        }
-        sum
+        length_of(&self.closed) + self.last.len()
     }
 
     // The element at a place.
@@ -247,6 +243,18 @@ impl<T: Share + Drop> Share for Growing<T> {
         let last = copies(alloc, &self.last, self.last.len())?;
         Ok(Growing { closed, last })
     }
+}
+
+// How many elements parts have.
+pub(crate) fn length_of<T>(parts: &[Part<T>]) -> usize
+    requires { length (joined parts.now) < 2 ^ 64 }
+    ensures { result ≡ length (joined parts.now) }
+{
+    let mut sum = 0;
+    for part in parts {
+        sum += part.len();
+    }
+    sum
 }
 
 // Copies of the first elements, with room for the others and one more.

@@ -1,12 +1,12 @@
-ghost use Rattle.std.specs.Prelude.{◌≡◌, ◌↔◌, ℕ, ◌<◌, ◌≤◌, ◌^◌, T as Holds, IsTrue, IfOk, IfErr, length, take, slice_index_or};
+ghost use Rattle.std.specs.Prelude.{◌≡◌, ℕ, ◌+◌, ◌<◌, ◌≤◌, ◌^◌, T as Holds, IfOk, IfErr, length, take};
 ghost use Rattle.std.specs.List.{All};
 ghost use Rattle.std.specs.List.Sorted.{IsSearchInRange};
 ghost use Rattle.std.specs.FinMap.{is_sorted};
 ghost use Rattle.camp_share.specs.Inside.Parts.{joined, IsPart};
-ghost use Rattle.camp_share.specs.Inside.Places.{IsAt, WouldBeAt, IsAbove, IsInPart, WouldBeInPart};
+ghost use Rattle.camp_share.specs.Inside.Places.{ends_below, IsAt, WouldBeAt, IsAbove, IsInPart, WouldBeInPart};
 
 use crate::Key;
-use crate::growing::{Growing, Part};
+use crate::growing::{Growing, Part, length_of};
 
 // The first part that has a key which is not below the given one, or else the number of parts. Parts
 // of parts are passed by their last key.
@@ -16,52 +16,20 @@ pub(crate) fn part_for<K: Key, V>(parts: &Growing<Part<(K, V)>>, key: &K) -> usi
     requires fits { length (joined parts.now) < 2 ^ 64 }
     ensures within { result ≤ length parts.now }
     ensures before { IsAbove K.cmp (joined (take result parts.now)) key.now }
-    ensures reached { (part : _) → result < length parts.now → part ≡ slice_index_or parts.now result part → ¬ (IsAbove K.cmp part.items key.now) }
+    ensures reached { result < length parts.now → ¬ (IsAbove K.cmp (joined (take (result + 1) parts.now)) key.now) }
 {
     let (closed, last) = parts.divided();
-    let mut passed = 0;
-    for group in closed {
-        let found = part_among(group, key);
-        if found < group.len() {
-            return passed + found;
-        }
-        passed += found;
-    }
-    passed + part_among(last, key)
+    let at = closed.partition_point(|group| group.last().is_some_and(|part| ends_below(part, key)));
+    let passed = length_of(&closed[..at]);
+    let among = if at < closed.len() { &closed[at] } else { last };
+    passed + among.partition_point(|part| ends_below(part, key))
 }
 
-// The first of some parts that has a key which is not below the given one, or else their number.
-fn part_among<K: Key, V>(parts: &[Part<(K, V)>], key: &K) -> usize
-    requires parts { All IsPart parts.now }
-    requires sorted { Holds (is_sorted K.cmp (joined parts.now)) }
-    ensures within { result ≤ length parts.now }
-    ensures before { IsAbove K.cmp (joined (take result parts.now)) key.now }
-    ensures reached { (part : _) → result < length parts.now → part ≡ slice_index_or parts.now result part → ¬ (IsAbove K.cmp part.items key.now) }
-{
-    let len = parts.len();
-    if len > 0 && ends_below(&parts[len - 1], key) {
-        return len;
-    }
-    let (mut low, mut high) = (0, len);
-    while low < high {
-        let middle = low + (high - low) / 2;
-        if ends_below(&parts[middle], key) {
-            low = middle + 1;
-        } else {
-            high = middle;
-        }
-    }
-    low
-}
-
-// Whether all keys of a part are below a key, by its last one.
+// Whether the last key of a part is below a key.
 fn ends_below<K: Key, V>(part: &[(K, V)], key: &K) -> bool
-    requires some { 0 < length part.now }
-    requires sorted { Holds (is_sorted K.cmp part.now) }
-    ensures { IsTrue result ↔ IsAbove K.cmp part.now key.now }
+    ensures { result ≡ ends_below K.cmp part.now key.now }
 {
-    let last = &part[part.len() - 1];
-    last.0.cmp(key).is_lt()
+    part.last().is_some_and(|entry| entry.0.cmp(key).is_lt())
 }
 
 // Where a key is among entries, or where it would be.

@@ -1,5 +1,6 @@
 -- Where a key stands, or would stand, among entries in the order of their keys.
-use Rattle.std.specs.Prelude.{◌≡◌, ℕ, zero, suc, ◌+◌, ◌<◌, List, [], ◌∷◌, length, slice_index_or}
+use Rattle.std.specs.Prelude.{◌≡◌, ℕ, zero, suc, ◌+◌, ◌-◌, ◌<◌, Bool, false, List, [], ◌∷◌, Option, None, Some, length, slice_get, slice_index_or}
+use Rattle.std.specs.Ordering.{is_lt}
 use Rattle.std.specs.declared.cmp.Ordering.{Ordering}
 use Rattle.std.specs.declared.cmp.Ordering.TheVariants.{Less}
 use Rattle.std.specs.declared.vec.Vec.{Vec}
@@ -35,3 +36,12 @@ IsInPart {K} {X} {Z} parts key index place =
 abbrev pub WouldBeInPart : {K X Z : Type 0} → (K → K → Ordering) → List (Vec (K × X) Z) → K → ℕ → ℕ → Type 0
 WouldBeInPart order parts key index place =
     IsPlace parts index place × WouldBeAt order (joined parts) key (offset parts index place)
+
+-- a test that a value passes, where there is one
+abbrev pub passes : {A : Type 0} → (A → Bool) → Option A → Bool
+passes test None = false
+passes test (Some x) = test x
+
+-- the last key of entries is below a key
+abbrev pub ends_below : {K X : Type 0} → (K → K → Ordering) → List (K × X) → K → Bool
+ends_below order entries key = passes (λ entry. is_lt (order entry.0 key)) (slice_get entries (length entries - 1))

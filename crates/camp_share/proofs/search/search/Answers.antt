@@ -22,7 +22,7 @@ returns-in-Err-clause-absent g c =
     let gap = subst (λ xs. WouldBeAt g.K.Ord.cmp xs c.args.key.now c.in-Err.place) lent c.in-Err.ensures.absent in (
       place_inside c.args.parts.now c.part_for-index.result c.at.result.now (omega arith) c.at.ensures c.in-Err.place (would_be_within g.K.Ord.cmp c.at.result.now.items c.args.key.now c.in-Err.place gap),
       gap_in_part _ g.met.K.Ord.total c.args.parts.now c.requires.sorted c.args.key.now _ c.at.result.now (omega arith) c.at.ensures _ c.part_for-index.ensures.before
-          (c.part_for-index.ensures.reached c.at.result.now (omega arith) c.at.ensures) gap,
+          (c.part_for-index.ensures.reached (omega arith)) gap,
     )
 
 pub returns-in-Ok-clause-found : goal.returns-in-Ok-clause-found
