@@ -1,9 +1,8 @@
 -- Elements and ranges of lists in parts.
-use Rattle.camp_share.proofs.Words.{◌≡◌, ℕ, zero, suc, ◌+◌, ◌-◌, ◌<◌, ◌≤◌, List, [], ◌∷◌, ◌++◌, length, get_or, set, take, drop, Option, None, Some, Bor, sym, ap, subst, ◌∙◌, refl, arith, drop_all, drop-drop, get_or_default, get_or-drop, length-drop, append-nil, append_assoc, length-append, take_more, drop_more, take_all, take-append-drop, take-append-le, drop-append-le, get_or-append-add}
-use Rattle.camp_share.proofs.Words.{get_or_append_left, set_split, take-nil, take-append-add, drop-append-add, All, slice_get, slice_range, insert, remove, TakesFirst, deref, option_copied, flat_map-append, recursion_from_All, joined, IsPart, offset, IsPlace, Vec, vec_len}
+use Rattle.camp_share.proofs.Words.{◌≡◌, ℕ, zero, suc, ◌+◌, ◌-◌, ◌<◌, ◌≤◌, List, [], ◌∷◌, ◌++◌, length, get_or, set, take, drop, Option, None, Some, Bor, sym, ap, subst, ◌∙◌, refl, arith, drop_all, drop-drop, get_or_default, get_or-drop, length-drop, append-nil, append_assoc, length-append, take_more, drop_more, take_all, take-append-drop, take-append-le, drop-append-le}
+use Rattle.camp_share.proofs.Words.{set_split, take-nil, take-append-add, drop-append-add, All, slice_get, slice_range, insert, remove, TakesFirst, deref, option_copied, flat_map-append, recursion_from_All, joined, IsPart, offset, IsPlace, Vec, vec_len}
 use Rattle.std.proofs.lemmas.Option.{slice_get_past, slice_get_read}
 use Rattle.std.specs.List.{AllByRecursion, splice}
-use Rattle.std.proofs.lemmas.List.Folds.{length-flat_map-take}
 
 -- the length that a lent part tells
 pub length_told : {X Z : Type 0} (lent part : Vec X Z) (n : ℕ) → lent ≡ part → n ≡ vec_len lent → n ≡ length part.items
@@ -36,9 +35,6 @@ module _ {X Z : Type 0} (parts : List (Vec X Z)) (i : ℕ) (part : Vec X Z) (wit
   -- a place up to the end of a part is one
   pub place_inside : (place : ℕ) → place ≤ length part.items → IsPlace parts i place
   place_inside place inside = let longer = length_grown in (omega arith, omega arith)
-
-  pub length_within : length (joined (take i parts)) + length part.items ≤ length (joined parts)
-  length_within = subst (λ (p : Vec X Z). length (joined (take i parts)) + length p.items ≤ length (joined parts)) (sym read) (length-flat_map-take (λ (p : Vec X Z). p.items) parts i part within)
 
 -- the first parts have no more elements than all of them
 pub front_within : {X Z : Type 0} (parts : List (Vec X Z)) (n : ℕ) → length (joined (take n parts)) ≤ length (joined parts)
@@ -76,17 +72,6 @@ module _ {X Z : Type 0} (closed : List (Vec X Z)) (last : List X) (i : ℕ) (par
 
   pub rest_length : length (joined (drop i closed) ++ last) ≡ length part.items + length (joined (drop (i + 1) closed) ++ last)
   rest_length = ap length rest_from_here ∙ length-append part.items (joined (drop (i + 1) closed) ++ last)
-
-  pub read_here : (whole : List X) (left index : ℕ) (lent : Vec X Z) (x : X) → ((d : X) → get_or (joined (drop i closed) ++ last) left d ≡ get_or whole index d) → lent ≡ part → left < length part.items → x ≡ get_or lent.items left x → x ≡ get_or whole index x
-  read_here whole left index lent x all same here got =
-      got ∙ ap (λ (p : Vec X Z). get_or p.items left x) same ∙ sym (get_or_append_left part.items (joined (drop (i + 1) closed) ++ last) x left here)
-      ∙ ap (λ xs. get_or xs left x) (sym rest_from_here) ∙ all x
-
-  pub read_past : (whole : List X) (left index : ℕ) → ((d : X) → get_or (joined (drop i closed) ++ last) left d ≡ get_or whole index d) → length part.items ≤ left → (d : X) → get_or (joined (drop (i + 1) closed) ++ last) (left - length part.items) d ≡ get_or whole index d
-  read_past whole left index all past d =
-      sym (get_or-append-add part.items (joined (drop (i + 1) closed) ++ last) (left - length part.items) d)
-      ∙ ap (λ n. get_or (part.items ++ (joined (drop (i + 1) closed) ++ last)) n d) {x = length part.items + (left - length part.items)} {y = left} (omega arith)
-      ∙ ap (λ xs. get_or xs left d) (sym rest_from_here) ∙ all d
 
   -- the front of a list that grows, where it ends in one of its closed parts
   pub front_cut : (count left : ℕ) → left + length (joined (take i closed)) ≡ count → left ≤ length part.items → joined (take i closed) ++ take left part.items ≡ take count (joined closed ++ last)

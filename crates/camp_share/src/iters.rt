@@ -1,6 +1,7 @@
 ghost use Rattle.std.specs.Prelude.{◌≡◌, ◌++◌, length};
 ghost use Rattle.std.specs.List.{All};
 ghost use Rattle.std.specs.Iterator.{at_most};
+ghost use Rattle.std.specs.Cmp.Lexicographic.{pointwise};
 ghost use Rattle.std.specs.Map.Iter.{TakesFirst, ShowsInOrder, deref};
 ghost use Rattle.camp_share.specs.Inside.Parts.{joined, IsPart};
 
@@ -129,3 +130,17 @@ impl<'a, T> Iterator for Iter<'a, T> {
 }
 
 impl<'a, T> FusedIterator for Iter<'a, T> {}
+
+// Whether the elements of a list are equal to those of another one, which has as many.
+pub(crate) fn are_equal<T: PartialEq>(mine: Iter<'_, T>, others: Iter<'_, T>) -> bool
+    requires { length mine ≡ length others }
+    ensures { result ≡ pointwise T.eq mine.entry others.entry }
+{
+    let (mut mine, mut others) = (mine, others);
+    while let Some(item) = mine.next() {
+        if !others.next().is_some_and(|other| *item == *other) {
+            return false;
+        }
+    }
+    true
+}

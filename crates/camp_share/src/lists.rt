@@ -4,7 +4,7 @@ ghost use Rattle.std.specs.Option.{option_copied};
 ghost use Rattle.std.specs.Cmp.Lexicographic.{pointwise, lists_per, lists_equiv};
 ghost use Rattle.std.specs.Map.Iter.{ShowsInOrder, deref};
 
-use crate::iters::Steps;
+use crate::iters::{Steps, are_equal};
 use crate::pieces::{Front, Last, spliced, with_one};
 use crate::{Iter, Share};
 use std::alloc::{AllocError, Global};
@@ -230,16 +230,7 @@ impl<T: PartialEq> PartialEq for SharedList<T> {
     ghost laws = { lists_per T.laws };
 
     fn eq(&self, other: &SharedList<T>) -> bool {
-        if self.len != other.len {
-            return false;
-        }
-        let (mut mine, mut others) = (self.iter(), other.iter());
-        while let Some(item) = mine.next() {
-            if !others.next().is_some_and(|other| *item == *other) {
-                return false;
-            }
-        }
-        true
+        self.len == other.len && are_equal(self.iter(), other.iter())
     }
 }
 

@@ -8,6 +8,7 @@ ghost use Rattle.std.specs.Cmp.{on_per, and_per};
 ghost use Rattle.camp_share.specs.Maps.{map_of};
 
 use crate::changes::{inserted_at, removed_at, replaced_at};
+use crate::iters::are_equal;
 use crate::part_lists::PartList;
 use crate::search::{place_in, search};
 use crate::{Iter, Share};
@@ -171,7 +172,8 @@ impl<K: Key, V: PartialEq> PartialEq for SharedMap<K, V> {
     ghost laws = { lists_per (and_per (on_per (λ entry. entry.0) K.PartialEq.laws) (on_per (λ entry. entry.1) V.laws)) };
 
     fn eq(&self, other: &SharedMap<K, V>) -> bool {
-        self.entries == other.entries
+        let (mine, others) = (&self.entries, &other.entries);
+        mine.len() == others.len() && are_equal(mine.iter(), others.iter())
     }
 }
 

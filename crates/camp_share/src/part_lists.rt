@@ -3,7 +3,6 @@ ghost use Rattle.std.specs.List.{splice, insert, remove};
 ghost use Rattle.std.specs.List.{All};
 ghost use Rattle.camp_share.specs.Inside.Parts.{joined, IsPart};
 ghost use Rattle.std.specs.Option.{option_copied};
-ghost use Rattle.std.specs.Cmp.Lexicographic.{pointwise, lists_per, lists_equiv};
 ghost use Rattle.std.specs.Map.Iter.{ShowsInOrder, deref};
 
 use crate::changes::{Change, place_of, spliced_in_part};
@@ -205,24 +204,5 @@ impl<T: Drop> Share for PartList<T> {
             parts,
             len: self.len,
         })
-    }
-}
-
-impl<T: PartialEq> PartialEq for PartList<T> {
-    ghost eq = { pointwise T.eq };
-
-    ghost laws = { lists_per T.laws };
-
-    fn eq(&self, other: &PartList<T>) -> bool {
-        if self.len != other.len {
-            return false;
-        }
-        let (mut mine, mut others) = (self.iter(), other.iter());
-        while let Some(item) = mine.next() {
-            if !others.next().is_some_and(|other| *item == *other) {
-                return false;
-            }
-        }
-        true
     }
 }
