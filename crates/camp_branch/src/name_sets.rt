@@ -76,7 +76,18 @@ pub(crate) fn with_taken(names: &NameSet, taken: &[Shared<Catch>]) -> Result<Nam
     ensures { IfOk result (λ all. (name : List ℕ) →
         has_name all name ≡ (has_name names.now name || is_among (map name_of taken.now) name)) }
 {
-    let mut all = names.share()?;
+    match taken {
+        [] => names.share(),
+        [first, others @ ..] => with_more(names.inserted(*first.name(), ())?, others),
+    }
+}
+
+/// The same of names that nobody else has.
+fn with_more(names: NameSet, taken: &[Shared<Catch>]) -> Result<NameSet, AllocError>
+    ensures { IfOk result (λ all. (name : List ℕ) →
+        has_name all name ≡ (has_name names name || is_among (map name_of taken.now) name)) }
+{
+    let mut all = names;
     for catch in taken {
         all = all.inserted(*catch.name(), ())?;
     }
