@@ -9,8 +9,8 @@ use Rattle.camp_ctx.specs.Conflicts.{Conflict}
 use Rattle.camp_ctx.specs.Contexts.{ContextedPatch, ContextedPatches, with_member}
 use Rattle.camp_ctx.proofs.SetChanges.{unchanged}
 use Rattle.camp_catch.specs.Conflictors.{Becomes, joined_by, with_conflicts}
-use Rattle.camp_catch.specs.Inside.InPlace.{MergesBehind, MergesInPlace, with_gained}
-use Rattle.camp_catch.specs.Inside.Meetings.{EachGains}
+use Rattle.camp_catch.specs.Inside.InPlace.{CommutesInPlace, MergesBehind, MergesInPlace, with_gained}
+use Rattle.camp_catch.specs.Inside.Meetings.{EachGains, PassesGaining}
 use Rattle.camp_catch.specs.Inside.TwoConflictors.{EffectsMerge, JoinEachOther, TellsConflict}
 use Rattle.camp_catch.specs.Merging.{TwoConflictors}
 use Rattle.camp_catch.specs.Catches.{catch_key}
@@ -116,3 +116,16 @@ same_key gained (Catch.Conflictor k) = refl
 pub met_aside : (j k j-now k-now : Catch) (before beside : List ContextedPatch) → EachGains j k [] [] → with_gained before j ≡ j-now → with_gained beside k ≡ k-now → MergesInPlace (j-now, k-now) (j-now, k-now)
 met_aside j k j-now k-now before beside gains view k-view =
     rw (← view, ← k-view) (rw (append-nil before, append-nil beside) at (gains before beside))
+
+-- one that has gained lets the one behind it pass
+pub let_by : (j k k' j-now : Catch) (before these more : List ContextedPatch) → PassesGaining j k k' these → more ≡ before ++ these → with_gained before j ≡ j-now → CommutesInPlace (j-now, k) (with_gained more j, k')
+let_by j k k' j-now before these more passes is view = rw (is, ← view) (passes before)
+
+-- the same where neither changes
+pub let_by_aside : (j k j-now : Catch) (before : List ContextedPatch) → PassesGaining j k k [] → with_gained before j ≡ j-now → CommutesInPlace (j-now, k) (j-now, k)
+let_by_aside j k j-now before passes view = rw ← view (rw append-nil before at (passes before))
+
+-- what has gained nothing is as it was
+pub ungained : (gained : List ContextedPatch) (catch : Catch) → gained ≡ [] → with_gained gained catch ≡ catch
+ungained gained (Plain a) none = refl
+ungained gained (Catch.Conflictor k) none = ap (λ g. with_gained g (Catch.Conflictor k)) none

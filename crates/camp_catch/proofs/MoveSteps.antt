@@ -2,7 +2,7 @@
 use Rattle.std.proofs.lemmas.Cmp.{nat_list_cmp_total, eq_by_cmp_equiv}
 use Rattle.std.proofs.lemmas.Map.Views.{Contains-from_any, list_any-from_Contains, tells_apart}
 use Rattle.std.specs.Bool.{Decides}
-use Rattle.camp_catch.proofs.Words.{Contains, List, [], ap, arith, drop, get_or, inl, inr, length, refl, subst, suc, sym, take, ℕ, ◌++◌, ◌+◌, ◌<◌, ◌∙◌, ◌∷◌, ◌≡◌, ◌≢◌, ◌≤◌, append_assoc, drop_at, drop_more, length-append, length-take-le, length_push, take_at, slice_cmp, FinMap, contains_key, contains_key-keys, keys, nat_cmp-IsAntisymmetric, slice_cmp-IsAntisymmetric, nat_cmp, Key, Align, AlignSticks, Arrange, ArrangeSticks, ArrangesBehind, ComesBefore, ComesFirst, DoNotCommute, IsOf, SticksBehind, StopsAt, catch_key, ComesFirstInPlace, FirstWith, Lacks, Catch}
+use Rattle.camp_catch.proofs.Words.{Contains, List, [], ap, arith, drop, get_or, inl, inr, length, refl, subst, suc, sym, take, ℕ, ◌++◌, ◌+◌, ◌<◌, ◌∙◌, ◌∷◌, ◌≡◌, ◌≢◌, ◌≤◌, append_assoc, drop_at, drop_more, length-append, length-take-le, length_push, nil_from_length, take_at, slice_cmp, FinMap, contains_key, contains_key-keys, keys, nat_cmp-IsAntisymmetric, slice_cmp-IsAntisymmetric, nat_cmp, Key, Align, AlignSticks, Arrange, ArrangeSticks, ArrangesBehind, ComesBefore, ComesFirst, DoNotCommute, IsOf, SticksBehind, StopsAt, catch_key, ComesFirstInPlace, FirstWith, Lacks, Catch}
 use Rattle.camp_catch.proofs.ListResults.{coming}
 
 -- what stands at a place of a list, and what is behind it
@@ -49,6 +49,11 @@ module _ {key : Key} {list : List Catch} {at : ℕ} (w : FirstWith key list at) 
   pub stands_first : (take at list ≡ w.before) × (drop at list ≡ w.first ∷ w.after)
   stands_first =
       (ap (take at) w.is ∙ take_at w.before (w.first ∷ w.after) at w.stands, ap (drop at) w.is ∙ drop_at w.before (w.first ∷ w.after) at w.stands)
+
+  pub stands_there : at ≡ 0 → ComesFirstInPlace key list list
+  stands_there none =
+      let is : list ≡ w.first ∷ w.after = w.is ∙ ap (λ before. before ++ w.first ∷ w.after) (nil_from_length w.before (w.stands ∙ none)) in
+      (w.first, w.after, subst (λ l. ComesFirst key l w.first w.after) (sym is) (inl (w.labelled, refl, refl)), is)
 
   pub comes_first : (k' : Catch) (moved : List Catch) → ComesBefore w.before w.first k' moved → ComesFirst key list k' (moved ++ w.after)
   comes_first k' moved m = rw w.is (first_from key w.before w.first w.after k' moved w.lacks w.labelled m)

@@ -1,15 +1,20 @@
 -- Two conflictors without an effect commute as they are, but for their sets.
-use Rattle.std.proofs.Common.{◌≡◌, ◌≢◌, All, [], None, refl, subst, sym}
-use Rattle.std.specs.FinMap.{get}
+use Rattle.std.proofs.Common.{◌≡◌, ◌≢◌, ◌≤◌, ◌∙◌, ◌∷◌, ◌++◌, All, List, [], None, Some, ap, append-nil, inl, inr, refl, subst, sym}
+use Rattle.std.specs.FinMap.{get, len, remove}
+use Rattle.std.specs.List.{fold}
+use Rattle.std.proofs.lemmas.Grind.{fold-append}
 use Rattle.camp_seq.specs.Running.{inverse_all}
 use Rattle.camp_ctx.specs.Adding.{AddsAll}
-use Rattle.camp_ctx.specs.Contexts.{ContextedPatches, context_key, patch_key}
+use Rattle.camp_ctx.specs.Contexts.{ContextedPatch, ContextedPatches, context_key, patch_key, with_member}
 use Rattle.camp_ctx.proofs.SetChanges.{unchanged}
-use Rattle.camp_catch.specs.Commuting.{EffectsPass, TwoConflictorsApart}
-use Rattle.camp_catch.specs.Conflictors.{Becomes, joined_by, with_conflicts}
+use Rattle.camp_catch.specs.Commuting.{CommuteCatch, EffectsPass, TwoConflictorsApart}
+use Rattle.camp_catch.specs.Conflictors.{Becomes, joined_by, with_conflicts, without}
+use Rattle.camp_catch.specs.Inside.InPlace.{with_gained}
+use Rattle.camp_catch.specs.Inside.Meetings.{PassesGaining}
 use Rattle.camp_catch.specs.Inside.Pairs.{JoinsBehindEffects}
 use Rattle.camp_catch.specs.declared.catches.Catch.{Catch}
 use Rattle.camp_catch.specs.declared.catches.Conflictor.{Conflictor}
+use Rattle.camp_catch.proofs.CommuteSteps.{several_from}
 
 -- two empty effects commute
 none_pass : (ys : ContextedPatches) → EffectsPass [] [] ys [] []
@@ -30,7 +35,7 @@ none_pass ys = record {
 stays : (k : Conflictor) → k.effect ≡ [] → Becomes (λ t. t ≡ []) (AddsAll []) (AddsAll []) k k
 stays k none = record { effect = none; conflicts = unchanged k.conflicts; identity = refl }
 
-pub apart_without_effect : (j k : Conflictor) → j.effect ≡ [] → k.effect ≡ [] → get k.conflicts (context_key j.identity) ≡ None → All (λ p. patch_key p ≢ context_key j.identity) k.identity.context → TwoConflictorsApart j k (Catch.Conflictor k) (Catch.Conflictor j)
+apart_without_effect : (j k : Conflictor) → j.effect ≡ [] → k.effect ≡ [] → get k.conflicts (context_key j.identity) ≡ None → All (λ p. patch_key p ≢ context_key j.identity) k.identity.context → TwoConflictorsApart j k (Catch.Conflictor k) (Catch.Conflictor j)
 apart_without_effect j k none also apart unseen = record {
   apart = apart;
   unseen = unseen;
@@ -46,7 +51,7 @@ apart_without_effect j k none also apart unseen = record {
 }
 
 -- the first leaves the set of the second, which joins its own
-pub joins_without_effect : (j k : Conflictor) (zs : ContextedPatches) → j.effect ≡ [] → k.effect ≡ [] → JoinsBehindEffects j k zs (Catch.Conflictor (with_conflicts zs k)) (Catch.Conflictor (joined_by k.identity j))
+joins_without_effect : (j k : Conflictor) (zs : ContextedPatches) → j.effect ≡ [] → k.effect ≡ [] → JoinsBehindEffects j k zs (Catch.Conflictor (with_conflicts zs k)) (Catch.Conflictor (joined_by k.identity j))
 joins_without_effect j k zs none also = record {
   effect = [];
   rr' = [];
@@ -58,3 +63,17 @@ joins_without_effect j k zs none also = record {
   second = refl;
   first = refl;
 }
+
+-- whatever the first has gained
+module _ (j k : Conflictor) (none : j.effect ≡ []) (also : k.effect ≡ []) where
+  pub passes_aside : get k.conflicts (context_key j.identity) ≡ None → All (λ p. patch_key p ≢ context_key j.identity) k.identity.context → PassesGaining (Catch.Conflictor j) (Catch.Conflictor k) (Catch.Conflictor k) []
+  passes_aside apart unseen before =
+      let first = with_conflicts (fold with_member j.conflicts before) j in
+      subst (λ gained. CommuteCatch (Catch.Conflictor first) (Catch.Conflictor k) (Catch.Conflictor k) (with_gained gained (Catch.Conflictor j))) (sym (append-nil before)) (inl (apart_without_effect first k none also apart unseen))
+
+  pub passes_out : (z : ContextedPatch) → get k.conflicts (context_key j.identity) ≡ Some z → 2 ≤ len k.conflicts → (l : ContextedPatch) → l ≡ k.identity → PassesGaining (Catch.Conflictor j) (Catch.Conflictor k) (Catch.Conflictor (without (context_key j.identity) k)) (l ∷ [])
+  passes_out z member several l is before =
+      let first = with_conflicts (fold with_member j.conflicts before) j in
+      let gains : Catch.Conflictor (joined_by k.identity first) ≡ with_gained (before ++ l ∷ []) (Catch.Conflictor j) =
+      ap (λ m. Catch.Conflictor (joined_by m first)) (sym is) ∙ ap (λ zs. Catch.Conflictor (with_conflicts zs j)) (sym (fold-append with_member j.conflicts before (l ∷ []))) in
+      subst (CommuteCatch (Catch.Conflictor first) (Catch.Conflictor k) (Catch.Conflictor (without (context_key j.identity) k))) gains (inr (inr (several_from first k z member several _ _ (joins_without_effect first k (remove k.conflicts (context_key j.identity)) none also))))

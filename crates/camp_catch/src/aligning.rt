@@ -7,7 +7,8 @@ ghost use Rattle.camp_catch.specs.Catches.{catch_key};
 ghost use Rattle.camp_catch.specs.Inside.InPlace.{ComesFirstInPlace, FirstWith, Lacks};
 ghost use Rattle.camp_catch.specs.Making.{ComesTo};
 
-use crate::moves::{come_before, share_all};
+use crate::fast::{Gaining, all_gaining, all_settled};
+use crate::moves::come_before;
 use crate::{Catch, Unmade};
 use camp_prim::Key;
 use camp_share::Shared;
@@ -25,14 +26,15 @@ pub fn align(
         (λ aligned. Align order.now list.now aligned.items)
         (AlignSticks order.now list.now)) result }
 {
-    let mut aligned = share_all(alloc, list)?;
+    let mut aligned = all_gaining(alloc, list)?;
     put_in_order(alloc, &mut aligned, order)?;
-    Ok(aligned)
+    let settled = all_settled(alloc, &aligned)?;
+    Ok(settled)
 }
 
 /// Puts a list in the order in its place in memory. Where a label stops that, the list is left as it
 /// is then.
-fn put_in_order(alloc: Global, list: &mut [Shared<Catch>], order: &[Key]) -> Result<(), Unmade<Key>>
+fn put_in_order(alloc: Global, list: &mut [Gaining], order: &[Key]) -> Result<(), Unmade<Key>>
     ensures exact { ComesTo (λ answer. MatchResult answer
         (λ _. Align order.now list.old list.new)
         (AlignSticks order.now list.old)) result }
@@ -47,16 +49,21 @@ fn put_in_order(alloc: Global, list: &mut [Shared<Catch>], order: &[Key]) -> Res
 
 /// Brings the first catch with a label to the front. Where it can't come there, or there is none, the
 /// list is left as it is then.
-fn come_first(alloc: Global, list: &mut [Shared<Catch>], key: &Key) -> Result<bool, AllocError>
+fn come_first(alloc: Global, list: &mut [Gaining], key: &Key) -> Result<bool, AllocError>
     ensures exact { IfOk result (λ found. Finds (ComesFirstInPlace key.now list.old) (then_some found list.new)) }
 {
     let Some(at) = place_of(list, key) else {
         return Ok(false);
     };
+    if at == 0 {
+        return Ok(true);
+    }
     let (before, from) = list.split_at_mut(at);
-    match come_before(alloc, before, &mut from[0])? {
+    let mut coming = from[0].settled()?;
+    match come_before(before, &mut coming)? {
         Some(_) => Ok(false),
         None => {
+            from[0] = Gaining::new(alloc, coming);
             list[..at + 1].rotate_right(1);
             Ok(true)
         }
@@ -64,7 +71,7 @@ fn come_first(alloc: Global, list: &mut [Shared<Catch>], key: &Key) -> Result<bo
 }
 
 /// The place of the first catch with a label.
-fn place_of(list: &[Shared<Catch>], key: &Key) -> Option<usize>
+fn place_of(list: &[Gaining], key: &Key) -> Option<usize>
     ensures { MatchOption result (Lacks key.now list.now) (FirstWith key.now list.now) }
 {
     for (at, catch) in list.iter().enumerate() {
@@ -75,7 +82,7 @@ fn place_of(list: &[Shared<Catch>], key: &Key) -> Option<usize>
     None
 }
 
-fn has_key(catch: &Catch, key: &Key) -> bool
+fn has_key(catch: &Gaining, key: &Key) -> bool
     ensures { IsTrue result ↔ (catch_key catch.now ≡ key.now) }
 {
     catch.key() == *key

@@ -7,6 +7,7 @@ ghost use Rattle.camp_share.specs.Maps.{map_of};
 ghost use Rattle.camp_catch.specs.Arranging.{Arrange, ArrangeSticks, IsOf};
 ghost use Rattle.camp_catch.specs.Making.{ComesTo};
 
+use crate::fast::{Gaining, all_settled};
 use crate::moves::come_before;
 use crate::{Catch, Unmade};
 use camp_base::Name;
@@ -45,15 +46,16 @@ pub fn arrange<V>(
     for catch in list {
         let mut catch = catch.share()?;
         if !is_of(names, &catch) {
-            rest.push(catch)?;
+            rest.push(Gaining::new(alloc, catch))?;
             continue;
         }
         let patch = catch.key();
-        if let Some(on) = come_before(alloc, &mut rest, &mut catch)? {
+        if let Some(on) = come_before(&mut rest, &mut catch)? {
             return Err(Unmade::Blocked(Stuck { patch, on }));
         }
         first.push(catch)?;
     }
+    let rest = all_settled(alloc, &rest)?;
     Ok(Arranged { first, rest })
 }
 

@@ -1,4 +1,4 @@
-ghost use Rattle.std.specs.Prelude.{◌≡◌, ◌≢◌, ◌≤◌, ◌↔◌, [], All, IfOk, IsTrue, None, Some};
+ghost use Rattle.std.specs.Prelude.{◌≡◌, ◌≢◌, ◌≤◌, ◌↔◌, All, IfOk, IsTrue, None, Some};
 ghost use Rattle.std.specs.FinMap.{get, len};
 ghost use Rattle.camp_base.specs.Answers.{FindsPair};
 ghost use Rattle.camp_seq.specs.NormalOrder.{Splits};
@@ -7,7 +7,6 @@ ghost use Rattle.camp_catch.specs.Commuting.{CommuteConflictors, EffectsPass, On
 ghost use Rattle.camp_catch.specs.Inside.Pairs.{JoinsBehindEffects, PlainAndUndone};
 ghost use Rattle.camp_catch.specs.Inside.Seen.{JoinsInOrder};
 
-use crate::fast::have_no_effects;
 use crate::seen::{
     all_pass_before, both_behind, has_no_context, joined, joined_behind, others_before, takes_back,
 };
@@ -121,33 +120,7 @@ fn one_of_several_conflicts(
     ensures { IfOk result (FindsPair (OneOfSeveralConflicts j.now k.now)) }
 {
     let others = k.conflicts.without(&j.identity.key())?;
-    if have_no_effects(j, k) {
-        let pair = joins_without_effects(j, k, others)?;
-        return Ok(Some(pair));
-    }
     joins_behind_effects(alloc, j, k, &others)
-}
-
-/// `([], X, i) ([], Z, l) <-> ([], Z, l) ([], X and l, i)`
-fn joins_without_effects(
-    j: &Conflictor,
-    k: &Conflictor,
-    others: CtxSet,
-) -> Result<(Catch, Catch), AllocError>
-    requires first { j.now.effect ≡ [] }
-    requires second { k.now.effect ≡ [] }
-    ensures { IfOk result (λ pair. JoinsBehindEffects j.now k.now others pair.0 pair.1) }
-{
-    let effect = k.effect.try_clone()?;
-    let identity = k.identity.try_clone()?;
-    let copy = j.try_clone()?;
-    let own = joined(copy, &k.identity)?;
-    let moved = Conflictor {
-        effect,
-        conflicts: others,
-        identity,
-    };
-    Ok((Catch::Conflictor(moved), Catch::Conflictor(own)))
 }
 
 /// `(common rr, X, i) (s, Z, l) <-> (common s', Z', l') (rr', X' and l, i')`

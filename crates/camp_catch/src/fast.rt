@@ -20,8 +20,9 @@
 //!   its set is made once for all of them, when another step looks at it.
 mod behind;
 mod gaining;
+mod passing;
 mod unmoved;
 
 pub(crate) use behind::merge_behind_all;
-pub(crate) use gaining::{Gaining, all_gaining};
-pub(crate) use unmoved::{commute_as_they_are, have_no_effects, merge_as_they_are};
+pub(crate) use gaining::{Gaining, all_gaining, all_settled};
+pub(crate) use unmoved::{commute_as_they_are, merge_as_they_are};

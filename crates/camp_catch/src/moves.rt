@@ -3,17 +3,16 @@ ghost use Rattle.camp_base.specs.Answers.{Changes};
 ghost use Rattle.camp_catch.specs.Arranging.{ComesBefore, StopsAt};
 ghost use Rattle.camp_catch.specs.Inside.InPlace.{CommutesInPlace};
 
-use crate::fast::commute_as_they_are;
+use crate::fast::{Gaining, commute_as_they_are};
 use crate::{Catch, commute};
 use camp_prim::Key;
-use camp_share::{Share, Shared};
+use camp_share::Shared;
 use std::alloc::{AllocError, Global};
 
 /// Commutes a catch, which stands behind a list, to before all of the list. `Some` with the absolute
 /// label of the one that it can't pass, if there is one; both are then left as they are.
 pub(crate) fn come_before(
-    alloc: Global,
-    list: &mut [Shared<Catch>],
+    list: &mut [Gaining],
     coming: &mut Shared<Catch>,
 ) -> Result<Option<Key>, AllocError>
     ensures exact { IfOk result (λ stopped. MatchOption stopped
@@ -21,7 +20,7 @@ pub(crate) fn come_before(
         (StopsAt list.old coming.old)) }
 {
     for at in (0..list.len()).rev() {
-        if !commute_in_place(alloc, &mut list[at], coming)? {
+        if !list[at].let_pass(coming)? {
             return Ok(Some(list[at].key()));
         }
     }
@@ -29,7 +28,7 @@ pub(crate) fn come_before(
 }
 
 /// Commutes `j` and the `k` behind it, where each stays in its place in memory.
-fn commute_in_place(
+pub(crate) fn commute_in_place(
     alloc: Global,
     j: &mut Shared<Catch>,
     k: &mut Shared<Catch>,
@@ -46,18 +45,4 @@ fn commute_in_place(
     *k = Shared::new(alloc, before)?;
     *j = behind;
     Ok(true)
-}
-
-/// A copy of a list, which shares its catches.
-pub(crate) fn share_all(
-    alloc: Global,
-    list: &[Shared<Catch>],
-) -> Result<Vec<Shared<Catch>>, AllocError>
-    ensures { IfOk result (λ copy. copy.items ≡ list.now) }
-{
-    let mut copy = Vec::with_capacity(alloc, list.len())?;
-    for catch in list {
-        copy.push(catch.share()?)?;
-    }
-    Ok(copy)
 }

@@ -12,6 +12,7 @@ pub mod Elsewhere
 pub mod EntrySteps
 pub mod LinkSteps
 pub mod NamedDecided
+pub mod PassedOrders
 pub mod PastPatches
 pub mod RoomToAdd
 pub mod SetChanges

@@ -7,15 +7,16 @@ ghost use Rattle.camp_prim.specs.declared.named.Named.{Named};
 ghost use Rattle.camp_seq.specs.NormalOrder.{Norm};
 ghost use Rattle.camp_seq.specs.Passing.{Fronts};
 ghost use Rattle.camp_ctx.specs.Adding.{Adds, AddsAll, PassesBy, PassesByAll};
-ghost use Rattle.camp_ctx.specs.Inside.InPlace.{behind};
+ghost use Rattle.camp_ctx.specs.Inside.InPlace.{KeepsOrder, behind};
 
 use crate::Contexted;
 use crate::conflicts::has_label;
-use crate::fast::{becomes_context, changing, linked, stays};
+use crate::fast::{becomes_context, changing, linked};
 use crate::joins::push_all;
 use camp_prim::{Named, commute};
 use camp_seq::{
-    Seq, are_own_orders, are_own_orders_of_chain, front, pass_by, past, put_first, put_in_order,
+    Seq, are_own_orders, are_own_orders_of_chain, front, has_room_to_merge, pass_by, past,
+    put_first, put_in_order,
 };
 use std::alloc::{AllocError, Global};
 use std::slice;
@@ -76,13 +77,16 @@ impl Contexted {
     pub fn past_one(a: &Named, x: &Contexted) -> Result<Option<Contexted>, AllocError>
         ensures exact { IfOk result (Finds (PassesBy a.now x.now)) }
     {
-        let Some((mut context, a)) = past(a, x.context())? else {
+        if x.stays_behind(a) {
+            return Ok(Some(x.try_clone()?));
+        }
+        let Some((mut context, moved)) = past(a, x.context())? else {
             return Ok(None);
         };
-        let Some(patch) = patch_before(&a, x.patch())? else {
+        let Some(patch) = patch_before(&moved, x.patch())? else {
             return Ok(None);
         };
-        let told = put_in_order(&mut context);
+        let told = order_passed(a, &mut context, &patch, x.context_is_ordered());
         let before = made(x.allocator(), context, patch, told)?;
         Ok(Some(before))
     }
@@ -124,19 +128,32 @@ fn add_to(a: &Named, context: &mut Seq, patch: &mut Named, told: bool) -> Result
     ensures adds { IfOk result (λ told. Adds a.now (behind context.old patch.old) (behind context.new patch.new)) }
     ensures own { IfOk result (λ told. IsTrue told → Norm context.new context.new) }
 {
-    if stays(a, context, patch, told) {
-        return Ok(told);
-    }
     if let Some(rest) = behind_inverse(a, context)? {
         *context = rest;
         return Ok(put_in_order(context));
     }
-    let mut a = a.try_clone()?;
-    if pass_by(&mut a, context, patch) {
-        return Ok(put_in_order(context));
+    let mut moving = a.try_clone()?;
+    if pass_by(&mut moving, context, patch) {
+        return Ok(order_passed(a, context, patch, told));
     }
-    let told = put_first(a, context, told)?;
+    let told = put_first(moving, context, told)?;
     Ok(told)
+}
+
+/// Puts a context in normal order that a primitive has passed, as it has the patch behind it. It is so where it was
+/// so before, and there is room. The answer tells whether it is known to be its own normal order then.
+fn order_passed(a: &Named, context: &mut Seq, patch: &Named, told: bool) -> bool
+    requires { IsTrue told → KeepsOrder a.now context.old patch.now }
+    ensures order { Norm context.old context.new }
+    ensures own { IsTrue result → Norm context.new context.new }
+{
+    if !told {
+        return put_in_order(context);
+    }
+    if !has_room_to_merge(&[], a, context.items(), patch) {
+        return put_in_order(context);
+    }
+    true
 }
 
 /// `Some` of what is behind the inverse of `a` at the front of a list. None where what comes to the front there is

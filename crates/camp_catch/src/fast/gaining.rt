@@ -2,12 +2,14 @@
 ghost use Rattle.std.specs.Prelude.{◌≡◌, IfOk};
 ghost use Rattle.camp_base.specs.Answers.{Changes};
 ghost use Rattle.camp_catch.specs.Catches.{catch_key};
-ghost use Rattle.camp_catch.specs.Inside.InPlace.{MergesBehind, MergesInPlace, with_gained};
+ghost use Rattle.camp_catch.specs.Inside.InPlace.{CommutesInPlace, MergesBehind, MergesInPlace, with_gained};
 ghost use Rattle.camp_catch.specs.Inside.Meetings.{MeetAs};
 ghost use Rattle.camp_catch.specs.declared.catches.Catch.{Catch as AnyCatch};
 
 use crate::fast::behind::merge_behind;
+use crate::fast::passing::{Passing, passing_of};
 use crate::merging_lists::merge_one;
+use crate::moves::commute_in_place;
 use crate::{Catch, Conflictor};
 use camp_ctx::{Contexted, conflict};
 use camp_prim::Key;
@@ -92,6 +94,27 @@ impl Gaining {
         }
     }
 
+    /// Commutes with the `k` behind it, where each stays in its place in memory.
+    pub(crate) fn let_pass(&mut self, k: &mut Shared<Catch>) -> Result<bool, AllocError>
+        ensures exact { IfOk result (λ done. Changes CommutesInPlace (self.old, k.old) done (self.new, k.new)) }
+    {
+        let alloc = *self.gained.allocator();
+        match passing_of(&self.catch, k)? {
+            Passing::Aside => Ok(true),
+            Passing::Leaves(moved, gained) => {
+                *k = Shared::new(alloc, moved)?;
+                self.gained.push(gained)?;
+                Ok(true)
+            }
+            Passing::Unknown => {
+                if !self.gained.is_empty() {
+                    return pass_settled(self, k);
+                }
+                commute_in_place(alloc, &mut self.catch, k)
+            }
+        }
+    }
+
     /// Merges with the `j` of the same state, and becomes what it is behind `j`. What `j` becomes
     /// is not made, since nobody reads it.
     pub(crate) fn go_behind(&mut self, j: &Gaining) -> Result<bool, AllocError>
@@ -119,6 +142,17 @@ pub(crate) fn all_gaining(alloc: Global, list: &[Shared<Catch>]) -> Result<Vec<G
     Ok(copy)
 }
 
+/// These catches as they are by now.
+pub(crate) fn all_settled(alloc: Global, list: &[Gaining]) -> Result<Vec<Shared<Catch>>, AllocError>
+    ensures { IfOk result (λ copy. copy.items ≡ list.now) }
+{
+    let mut copy = Vec::with_capacity(alloc, list.len())?;
+    for catch in list {
+        copy.push(catch.settled()?)?;
+    }
+    Ok(copy)
+}
+
 /// Merges two catches of one state, whose sets are made first.
 fn merge_settled(j: &mut Gaining, k: &mut Gaining) -> Result<bool, AllocError>
     ensures exact { IfOk result (λ done. Changes MergesInPlace (j.old, k.old) done (j.new, k.new)) }
@@ -131,6 +165,19 @@ fn merge_settled(j: &mut Gaining, k: &mut Gaining) -> Result<bool, AllocError>
     }
     *j = Gaining::new(alloc, first);
     *k = Gaining::new(alloc, second);
+    Ok(true)
+}
+
+/// Commutes `j`, whose set is made first, and the `k` behind it.
+fn pass_settled(j: &mut Gaining, k: &mut Shared<Catch>) -> Result<bool, AllocError>
+    ensures exact { IfOk result (λ done. Changes CommutesInPlace (j.old, k.old) done (j.new, k.new)) }
+{
+    let alloc = *j.gained.allocator();
+    let mut settled = j.settled()?;
+    if !commute_in_place(alloc, &mut settled, k)? {
+        return Ok(false);
+    }
+    *j = Gaining::new(alloc, settled);
     Ok(true)
 }
 

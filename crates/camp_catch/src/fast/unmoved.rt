@@ -1,15 +1,14 @@
 //! Catches that commute, or merge, as they are.
-ghost use Rattle.std.specs.Prelude.{◌≡◌, ◌↔◌, [], IfOk, IsTrue};
+ghost use Rattle.std.specs.Prelude.{IfOk, IsTrue};
 ghost use Rattle.camp_ctx.specs.Adding.{Adds, PassesBy};
 ghost use Rattle.camp_seq.specs.NormalOrder.{Norm};
 ghost use Rattle.camp_seq.specs.Passing.{Passes};
-ghost use Rattle.camp_catch.specs.Commuting.{CommuteCatch, ConflictorPastPlain, PlainPastConflictor, TwoConflictorsApart};
+ghost use Rattle.camp_catch.specs.Commuting.{CommuteCatch, ConflictorPastPlain, PlainPastConflictor};
 ghost use Rattle.camp_catch.specs.Conflictors.{Becomes};
 ghost use Rattle.camp_catch.specs.Merging.{MergeCatch, MergePlainConflictor};
 ghost use Rattle.camp_catch.specs.declared.catches.Catch.{Catch as AnyCatch};
 ghost use Rattle.camp_catch.specs.declared.catches.Catch.TheVariants.{Plain};
 
-use crate::conflictors::lacks_key;
 use crate::merging::conflicts_with;
 use crate::values::inverse;
 use crate::{Catch, Conflictor};
@@ -26,7 +25,7 @@ pub(crate) fn commute_as_they_are(j: &Catch, k: &Catch) -> Result<bool, AllocErr
         (Catch::Plain(a), Catch::Plain(b)) => Ok(stay(a, b)),
         (Catch::Plain(a), Catch::Conflictor(k)) => Ok(passes_as_it_is(a, k)),
         (Catch::Conflictor(j), Catch::Plain(b)) => comes_before_as_it_is(j, b),
-        (Catch::Conflictor(j), Catch::Conflictor(k)) => Ok(pass_without_effect(j, k)),
+        _ => Ok(false),
     }
 }
 
@@ -48,22 +47,6 @@ fn comes_before_as_it_is(j: &Conflictor, b: &Named) -> Result<bool, AllocError>
     Ok(stays_behind(&back, j))
 }
 
-/// `([], X, i) ([], Y, l) <-> ([], Y, l) ([], X, i)`
-fn pass_without_effect(j: &Conflictor, k: &Conflictor) -> bool
-    ensures { IsTrue result → TwoConflictorsApart j.now k.now (AnyCatch.Conflictor k.now) (AnyCatch.Conflictor j.now) }
-{
-    if !have_no_effects(j, k) {
-        return false;
-    }
-    if !lacks_key(k.identity.context().items(), &j.identity.key()) {
-        return false;
-    }
-    match k.conflicts.get(&j.identity.key()) {
-        Some(_) => false,
-        None => true,
-    }
-}
-
 /// Whether two catches of one state stand behind one another as they are. Where it says no, they may
 /// still do.
 pub(crate) fn merge_as_they_are(alloc: Global, j: &Catch, k: &Catch) -> Result<bool, AllocError>
@@ -78,24 +61,6 @@ pub(crate) fn merge_as_they_are(alloc: Global, j: &Catch, k: &Catch) -> Result<b
         (Catch::Conflictor(j), Catch::Plain(b)) => stand_aside(alloc, b, j),
         _ => Ok(false),
     }
-}
-
-/// Whether two conflictors have no effect.
-pub(crate) fn have_no_effects(j: &Conflictor, k: &Conflictor) -> bool
-    ensures first { IsTrue result → j.now.effect ≡ [] }
-    ensures second { IsTrue result → k.now.effect ≡ [] }
-{
-    if !has_no_effect(j) {
-        return false;
-    }
-    has_no_effect(k)
-}
-
-/// Whether a conflictor has no effect.
-fn has_no_effect(k: &Conflictor) -> bool
-    ensures { IsTrue result ↔ (k.now.effect ≡ []) }
-{
-    k.effect.items().is_empty()
 }
 
 /// `[a] | (s, Y, l) -> (s, Y, l) | [a]`

@@ -7,7 +7,7 @@ returns-then-has_key c =
     let s : List Catch = c.args.list.now in
     let at = c.loop-at.at in
     let next = stands_at s at c.index-list-at.result c.index-list-at.result (omega arith) c.index-list-at.is in
-    let labelled = ap catch_key (sym c.deref.ensures) ∙ c.if-has_key.ensures.0 refl in
+    let labelled = c.if-has_key.ensures.0 refl in
     record { before = take at s; first = _; after = _; is = whole s at _ next; stands = length-take-le at s (omega arith); labelled = labelled; lacks = c.loop-at.invariant }
 
 pub returns : goal.returns

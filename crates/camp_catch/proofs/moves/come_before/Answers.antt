@@ -13,8 +13,8 @@ returns-then-not-branch c =
     let i = c.loop-at.at - 1 in
     let e : c.loop-at.at ≡ i + 1 = omega arith in
     let next = at_last s0 c.loop-at.list i c.index-list-at.result (omega arith) (rw e at c.loop-at.invariant.waiting) in
-    let stopped = rw c.if-not-branch.true at c.in_ok-commute_in_place.ensures.exact in
-    let is = c.key.ensures.exact ∙ ap catch_key (c.deref.ensures ∙ get_or-set_same c.loop-at.list i _ _ (omega arith) ∙ ap (λ x. x.0) stopped.1) in
+    let stopped = rw c.if-not-branch.true at c.in_ok-let_pass.ensures.exact in
+    let is = c.key.ensures ∙ ap catch_key (get_or-set_same c.loop-at.list i _ _ (omega arith) ∙ ap (λ x. x.0) stopped.1) in
     let stops = stops_behind (take i s0) _ _ _ _ _ (rw e at c.loop-at.invariant.came) (λ k' j'. stopped.0 (j', k')) in
     record { exact = rw (is, whole s0 i _ next) stops }
 
@@ -26,8 +26,8 @@ loop-at-preserved c =
     let e : c.loop-at.at ≡ i + 1 = omega arith in
     let waiting = rw e at c.loop-at.invariant.waiting in
     record {
-      came = rw (at_last s0 s i c.index-list-at.result (omega arith) waiting, drop-set s i c.commute_in_place.new.j (omega arith)) (_, _, drop (i + 1) s, rw e at c.loop-at.invariant.came, rw c.if-not-branch.false at c.in_ok-commute_in_place.ensures.exact, refl);
-      waiting = take_last s0 s i c.commute_in_place.new.j waiting;
+      came = rw (at_last s0 s i c.index-list-at.result (omega arith) waiting, drop-set s i c.let_pass.new.self (omega arith)) (_, _, drop (i + 1) s, rw e at c.loop-at.invariant.came, rw c.if-not-branch.false at c.in_ok-let_pass.ensures.exact, refl);
+      waiting = take_last s0 s i c.let_pass.new.self waiting;
     }
 
 pub returns : goal.returns

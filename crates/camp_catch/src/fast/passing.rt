@@ -1,0 +1,90 @@
+//! Conflictors without an effect that pass one another.
+ghost use Rattle.std.specs.Prelude.{◌≡◌, ◌↔◌, [], IfOk, IsTrue, None, Some};
+ghost use Rattle.std.specs.FinMap.{get};
+ghost use Rattle.camp_ctx.specs.Contexts.{context_key, ContextedPatch};
+ghost use Rattle.camp_catch.specs.Inside.Meetings.{PassAs};
+ghost use Rattle.camp_catch.specs.declared.catches.Catch.{Catch as AnyCatch};
+
+use crate::conflictors::lacks_key;
+use crate::{Catch, Conflictor};
+use camp_ctx::Contexted;
+use std::alloc::AllocError;
+
+/// How a catch passes the one before it, as far as a look tells.
+#[derive(Drop)]
+pub(crate) enum Passing {
+    /// Both stay as they are.
+    Aside,
+    /// It becomes this, and the one before it gains that, and nothing else changes.
+    Leaves(Catch, Contexted),
+    /// A look does not tell.
+    Unknown,
+}
+
+/// How `k` passes the `j` before it, whatever that has gained.
+pub(crate) fn passing_of(j: &Catch, k: &Catch) -> Result<Passing, AllocError>
+    ensures { IfOk result (PassAs j.now k.now) }
+{
+    match (j, k) {
+        (Catch::Conflictor(j), Catch::Conflictor(k)) => passing_of_two(j, k),
+        _ => Ok(Passing::Unknown),
+    }
+}
+
+/// How a conflictor passes another one where neither has an effect: it may have that in its set, or not.
+fn passing_of_two(j: &Conflictor, k: &Conflictor) -> Result<Passing, AllocError>
+    ensures { IfOk result (PassAs (AnyCatch.Conflictor j.now) (AnyCatch.Conflictor k.now)) }
+{
+    if !has_no_effect(j) {
+        return Ok(Passing::Unknown);
+    }
+    if !has_no_effect(k) {
+        return Ok(Passing::Unknown);
+    }
+    match k.conflicts.get(&j.identity.key()) {
+        None => Ok(passing_aside(j, k)),
+        Some(_) => passing_out(j, k),
+    }
+}
+
+/// `([], X, i) ([], Y, l) <-> ([], Y, l) ([], X, i)`, but where `j` is in the context of `l`
+fn passing_aside(j: &Conflictor, k: &Conflictor) -> Passing
+    requires first { j.now.effect ≡ [] }
+    requires second { k.now.effect ≡ [] }
+    requires apart { get k.now.conflicts (context_key j.now.identity) ≡ None }
+    ensures { PassAs (AnyCatch.Conflictor j.now) (AnyCatch.Conflictor k.now) result }
+{
+    if lacks_key(k.identity.context().items(), &j.identity.key()) {
+        return Passing::Aside;
+    }
+    Passing::Unknown
+}
+
+/// `([], X, i) ([], Y, l) <-> ([], Y without j, l) ([], X and l, i)`, but where `j` is alone in `Y`
+fn passing_out(j: &Conflictor, k: &Conflictor) -> Result<Passing, AllocError>
+    requires first { j.now.effect ≡ [] }
+    requires second { k.now.effect ≡ [] }
+    requires member { (z : ContextedPatch) × (get k.now.conflicts (context_key j.now.identity) ≡ Some z) }
+    ensures { IfOk result (PassAs (AnyCatch.Conflictor j.now) (AnyCatch.Conflictor k.now)) }
+{
+    if k.conflicts.len() < 2 {
+        return Ok(Passing::Unknown);
+    }
+    let effect = k.effect.try_clone()?;
+    let conflicts = k.conflicts.without(&j.identity.key())?;
+    let identity = k.identity.try_clone()?;
+    let left = Conflictor {
+        effect,
+        conflicts,
+        identity,
+    };
+    let gained = k.identity.try_clone()?;
+    Ok(Passing::Leaves(Catch::Conflictor(left), gained))
+}
+
+/// Whether a conflictor has no effect.
+fn has_no_effect(k: &Conflictor) -> bool
+    ensures { IsTrue result ↔ (k.now.effect ≡ []) }
+{
+    k.effect.items().is_empty()
+}
