@@ -8,7 +8,8 @@
 //!   A plain one comes before a conflictor so where its inverse passes it so, by the square law of commuting.
 //! - Two conflictors without an effect commute as they are where the first is not in the set of the
 //!   second, nor in the context of its identity: what would be added to the sets is empty. Where the first is
-//!   one of several in the set of the second, it leaves that set, and the second joins its own.
+//!   one of several in the set of the second, it leaves that set, and the second joins its own, whatever has joined
+//!   that before.
 //! - A plain catch and a conflictor of one state stay as they are where the inverse of the plain one
 //!   passes the conflictor so, and the two do not conflict.
 //! - Of the last catch of a pull the other side is not made: what the branch itself would become beside
@@ -16,8 +17,8 @@
 //!   gives something.
 //! - What a catch gains on its way joins its set at the end. Where two conflictors have no effect, merging
 //!   them changes nothing but their sets: where they conflict, the identity of each joins the set of the
-//!   other, whatever has joined it before. So two lists that merge keep beside each catch what it gains, and
-//!   its set is made once for all of them, when another step looks at it.
+//!   other, whatever has joined it before. So two lists that merge, and one that is arranged or aligned, keep
+//!   beside each catch what it gains, and its set is made once for all of them, when another step looks at it.
 mod behind;
 mod gaining;
 mod passing;

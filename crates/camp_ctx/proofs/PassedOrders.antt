@@ -1,5 +1,5 @@
 -- A list in normal order is so too when a primitive has passed it, if there is room.
-use Rattle.camp_ctx.proofs.Words.{List, [], ◌∷◌, ◌++◌, ◌⊎◌, inl, inr, Less, refl, sym, ap, ◌∙◌, subst, ◌≡◌, ◌≢◌, inverse_of, Label, label_cmp, label_of, Commute, Named, Norm, Fronts, Passes}
+use Rattle.camp_ctx.proofs.Words.{List, [], ◌∷◌, ◌++◌, inl, inr, Less, refl, sym, ap, ◌∙◌, subst, ◌≡◌, inverse_of, label_cmp, label_of, Commute, Named, Norm, Fronts, Passes}
 use Rattle.camp_prim.proofs.CommuteLaws.{square}
 use Rattle.camp_seq.specs.Equivalence.{◌~◌, through}
 use Rattle.camp_seq.specs.NormalOrder.{IsLeast}
@@ -25,13 +25,13 @@ order_before b (y ∷ t) s b' room w own =
     let turned = room_exchanged _ _ (at_front b y w.0 w.1 t w.3) room in
     let least : IsLeast (label_of y) (y ∷ t) =
     λ other z u f less.
-        let v = passes_alike b (y ∷ t) (z ∷ u) s b' room (fronted other (y ∷ t) z u f) w in
-        let x = v.1 in
-        let there = room_before s (b' ∷ []) (room_of_equivalent (b ∷ y ∷ t) (s ++ b' ∷ []) (passed b (y ∷ t) s b' w) room) in
-        let come = comes_first x.0 s x.2 there (through v.2 (equal_are _ _ x.5)) in
-        let same : other ≡ label_of x.0 = sym (label-front other (y ∷ t) z u f) ∙ sym x.3.anywhere.second in
-        first.0 (label_of x.0) x.0 come.0 (subst (λ l. Fronts (label_of x.0) l x.0 come.0) w.5 come.1)
-        (subst (λ l. label_cmp l (label_of w.0) ≡ Less) same (subst (λ l. label_cmp other l ≡ Less) (sym w.3.anywhere.second) less)) in
+    let v = passes_alike b (y ∷ t) (z ∷ u) s b' room (fronted other (y ∷ t) z u f) w in
+    let x = v.1 in
+    let there = room_before s (b' ∷ []) (room_of_equivalent (b ∷ y ∷ t) (s ++ b' ∷ []) (passed b (y ∷ t) s b' w) room) in
+    let come = comes_first x.0 s x.2 there (through v.2 (equal_are _ _ x.5)) in
+    let same : other ≡ label_of x.0 = sym (label-front other (y ∷ t) z u f) ∙ sym x.3.anywhere.second in
+    first.0 (label_of x.0) x.0 come.0 (subst (λ l. Fronts (label_of x.0) l x.0 come.0) w.5 come.1)
+    (subst (λ l. label_cmp l (label_of w.0) ≡ Less) same (subst (λ l. label_cmp other l ≡ Less) (sym w.3.anywhere.second) less)) in
     (t, inl (refl, refl, refl), least, order_before w.1 t w.2 b' (room_behind w.0 (w.1 ∷ t) turned) w.4 first.1)
 
 -- where a passes a context in normal order, and there is room, the context stays so

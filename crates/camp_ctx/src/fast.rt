@@ -12,6 +12,8 @@
 //! - What a primitive passes as it is, and what is its own normal order then, stays as it is where the
 //!   primitive is added, and is shared. So are the elements at the end of a list that all leave a contexted patch so: the
 //!   context is copied where the first comes that may not.
+//! - A context in normal order is so too when a primitive has passed it, if there is room. So it is not put in order
+//!   anew.
 //! - Whether a look tells that the context, and the whole, is its own normal order is found out once, when a
 //!   contexted patch is made, and kept with it (`Contexted::context_is_ordered`, `whole_is_ordered`). Of a chain the
 //!   last element alone is looked at, where the patch doesn't pass that. A context that was put in order is known to
