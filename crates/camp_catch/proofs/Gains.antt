@@ -1,6 +1,6 @@
 -- What two conflictors without an effect gain from each other.
-use Rattle.std.proofs.Common.{◌≡◌, ◌==◌, ◌∙◌, ◌↔◌, Bool, IsTrue, List, [], ◌∷◌, ◌++◌, append-nil, false, inl, inr, length, true, refl, sym, ap, subst, arith, eqb-true}
-use Rattle.camp_prim.specs.declared.named.Named.{Named}
+use Rattle.std.proofs.Common.{◌≡◌, ◌==◌, ◌∙◌, ◌↔◌, Bool, IfOk, IsTrue, Result, List, [], ◌∷◌, ◌++◌, append-nil, false, inl, inr, length, true, refl, sym, ap, subst, arith, eqb-true}
+use Rattle.camp_base.specs.Answers.{Changes}
 use Rattle.std.specs.List.{fold}
 use Rattle.std.proofs.lemmas.Grind.{fold-append}
 use Rattle.camp_seq.specs.Running.{inverse_all}
@@ -20,7 +20,7 @@ use Rattle.camp_catch.specs.declared.catches.Conflictor.{Conflictor}
 use Rattle.camp_catch.proofs.MergeSteps.{two_from}
 
 -- what has no element is nothing
-pub is_nothing : (s items : List Named) (test : Bool) → test ≡ (length items == 0) → test ≡ true → items ≡ s → s ≡ []
+pub is_nothing : {X : Type 0} (s items : List X) (test : Bool) → test ≡ (length items == 0) → test ≡ true → items ≡ s → s ≡ []
 is_nothing s [] test is counts same = sym same
 is_nothing s (p ∷ items) test is counts same =
     let none : length (p ∷ items) ≡ 0 = eqb-true _ _ (sym is ∙ counts) in
@@ -123,9 +123,14 @@ let_by j k k' j-now before these more passes is view = rw (is, ← view) (passes
 
 -- the same where neither changes
 pub let_by_aside : (j k j-now : Catch) (before : List ContextedPatch) → PassesGaining j k k [] → with_gained before j ≡ j-now → CommutesInPlace (j-now, k) (j-now, k)
-let_by_aside j k j-now before passes view = rw ← view (rw append-nil before at (passes before))
+let_by_aside j k j-now before passes view = rw (← view) (rw (append-nil before) at (passes before))
 
 -- what has gained nothing is as it was
-pub ungained : (gained : List ContextedPatch) (catch : Catch) → gained ≡ [] → with_gained gained catch ≡ catch
+ungained : (gained : List ContextedPatch) (catch : Catch) → gained ≡ [] → with_gained gained catch ≡ catch
 ungained gained (Plain a) none = refl
 ungained gained (Catch.Conflictor k) none = ap (λ g. with_gained g (Catch.Conflictor k)) none
+
+-- one that has gained nothing commutes as it is
+pub commuted_alone : {E : Type 0} (gained : List ContextedPatch) (j j-now j' k k' : Catch) (answer : Result Bool E) → gained ≡ [] → with_gained gained j ≡ j-now → IfOk answer (λ done. Changes CommutesInPlace (j, k) done (j', k')) → IfOk answer (λ done. Changes CommutesInPlace (j-now, k) done (with_gained gained j', k'))
+commuted_alone gained j j-now j' k k' answer none view w =
+    subst (λ x. IfOk answer (λ done. Changes CommutesInPlace (x, k) done (with_gained gained j', k'))) (sym (ungained gained j none) ∙ view) (subst (λ y. IfOk answer (λ done. Changes CommutesInPlace (j, k) done (y, k'))) (sym (ungained gained j' none)) w)

@@ -102,8 +102,9 @@ impl Gaining {
         match passing_of(&self.catch, k)? {
             Passing::Aside => Ok(true),
             Passing::Leaves(moved, gained) => {
-                *k = Shared::new(alloc, moved)?;
+                let next = Shared::new(alloc, moved)?;
                 self.gained.push(gained)?;
+                *k = next;
                 Ok(true)
             }
             Passing::Unknown => {

@@ -17,9 +17,10 @@ returns-in-Some-2 c =
 pub returns-in-None : goal.returns-in-None
 returns-in-None c =
     let w = c.in-Some.ensures in
-    let k = c.come_before.new.coming in
+    let k = c.new.result in
     let s = c.come_before.new.list in
     let (front, back) = stands_first w in
     let all = ap (λ x. s ++ set x 0 k) (c.split_at_mut-before.ensures.back ∙ back) in
     let long = c.come_before.auto.list ∙ ap (λ x. length x) (c.split_at_mut-before.ensures.front ∙ front) ∙ w.stands in
-    record { exact = (k, s ++ w.after, comes_first w k s (rw (c.in-None.is, c.split_at_mut-before.ensures.front, front, c.split_at_mut-before.ensures.back, back) at c.in_ok-come_before.ensures.exact), turned_right _ s k w.after c.rotate_right.new.self c.in-Some.at all long c.rotate_right.ensures.after) }
+    let came = rw (c.in-None.is, c.in_ok-coming.ensures, c.split_at_mut-before.ensures.front, front, c.split_at_mut-before.ensures.back, back) at c.in_ok-come_before.ensures.exact in
+    record { exact = (k, s ++ w.after, rw c.new.ensures (comes_first w c.come_before.new.coming s came), turned_right _ s k w.after c.rotate_right.new.self c.in-Some.at all long c.rotate_right.ensures.after) }

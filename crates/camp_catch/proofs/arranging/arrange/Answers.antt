@@ -6,7 +6,7 @@ pub loop-catch-preserved-then-not-is_of : goal.loop-catch-preserved-then-not-is_
 loop-catch-preserved-then-not-is_of g c =
     let next = stands_at c.args.list.now c.loop-catch.catch-index c.catch-item.result c.in_ok-catch.catch (omega arith) (c.in_ok-catch.ensures ∙ c.catch-item.is) in
     let other = told_not _ c.if-not-is_of.true (rw c.deref.ensures at c.is_of.ensures) in
-    rw c.in_ok-push.ensures.items (arranged_with_other (rw next at c.loop-catch.invariant) other)
+    rw (c.in_ok-push.ensures.items, c.new.ensures) (arranged_with_other (rw next at c.loop-catch.invariant) other)
 
 pub returns-in-Some : goal.returns-in-Some
 returns-in-Some g c =
@@ -24,4 +24,4 @@ loop-catch-preserved g c =
 
 pub returns : goal.returns
 returns g c =
-    record { exact = rw append-nil at ((rw (drop_all c.loop-catch.catch-index c.args.list.now (omega arith)) at c.loop-catch.invariant).goes [] c.loop-catch.rest.items (refl, refl)) }
+    record { exact = rw (c.in_ok-rest.ensures, c.deref-2.ensures.value) (rw append-nil at ((rw (drop_all c.loop-catch.catch-index c.args.list.now (omega arith)) at c.loop-catch.invariant).goes [] c.loop-catch.rest.items (refl, refl))) }

@@ -1,4 +1,5 @@
-use Rattle.camp_catch.proofs.Gains.{let_by, let_by_aside, ungained}
+use Rattle.std.proofs.Common.{ap, refl, ◌==◌, ◌∙◌}
+use Rattle.camp_catch.proofs.Gains.{commuted_alone, is_nothing, let_by, let_by_aside}
 use Rattle.camp_catch.proofs.fast.gaining.Gaining.let_pass.Goals as goal
 
 pub returns-in-Aside : goal.returns-in-Aside
@@ -9,7 +10,10 @@ returns-in-Aside c =
 pub returns-in_ok-push-in-Leaves : goal.returns-in_ok-push-in-Leaves
 returns-in_ok-push-in-Leaves c =
     let passes = rw c.in-Leaves.is at c.in_ok-passing_of.ensures in
-    record { exact = let_by _ _ _ _ c.self.inside.gained.items _ _ (rw (c.deref.ensures, c.deref-2.ensures) at passes) c.in_ok-push-in-Leaves.ensures.items c.self.view_is }
+    record { exact = rw c.in_ok-next-in-Leaves.ensures.exact (let_by _ _ _ _ c.self.inside.gained.items _ _ (rw (c.deref.ensures, c.deref-2.ensures) at passes) c.in_ok-push-in-Leaves.ensures.items c.self.view_is) }
 
-pub returns-in-Unknown : goal.returns-in-Unknown
-returns-in-Unknown c = ?
+pub returns-else-not-is_empty : goal.returns-else-not-is_empty
+returns-else-not-is_empty c =
+    let gained = c.self.inside.gained.items in
+    let none = is_nothing gained gained _ (c.is_empty.ensures ∙ ap (λ n. n == 0) c.self.inside.gained.ok.0) c.if-not-is_empty.false refl in
+    record { exact = commuted_alone gained _ _ _ _ _ c.commute_in_place.result none c.self.view_is c.commute_in_place.ensures.exact }
