@@ -86,7 +86,7 @@ fn plain_past_conflictor(a: &Named, k: &Conflictor) -> Result<Option<(Catch, Cat
     let Some((passed, a)) = past(a, &k.effect)? else {
         return Ok(None);
     };
-    match passes_before(&a, &passed, k)? {
+    match passes_before(&a, passed, k)? {
         None => Ok(None),
         Some(moved) => Ok(Some((Catch::Conflictor(moved), Catch::Plain(a)))),
     }
@@ -103,7 +103,7 @@ fn conflictor_past_plain(
     let Some((second, left)) = comes_before(alloc, &j.effect, b)? else {
         return Ok(None);
     };
-    match inverse_passes_before(b, &left, j)? {
+    match inverse_passes_before(b, left, j)? {
         None => Ok(None),
         Some(moved) => Ok(Some((Catch::Plain(second), Catch::Conflictor(moved)))),
     }
@@ -113,11 +113,11 @@ fn conflictor_past_plain(
 /// passes by `i`. None where it can't.
 fn inverse_passes_before(
     b: &Named,
-    s: &Seq,
+    s: Seq,
     j: &Conflictor,
 ) -> Result<Option<Conflictor>, AllocError>
     ensures { IfOk result (Finds
-        (Becomes (Norm s.now) (Adds (inverse_of b.now)) (PassesBy (inverse_of b.now)) j.now)) }
+        (Becomes (Norm s) (Adds (inverse_of b.now)) (PassesBy (inverse_of b.now)) j.now)) }
 {
     let back = inverse(b)?;
     passes_before(&back, s, j)
@@ -197,7 +197,7 @@ fn plain_leaves_the_set(
     let Some(rest) = behind_inverse(a, &k.effect)? else {
         return Ok(None);
     };
-    let second = without_member(&a.label().key(), &rest, k)?;
+    let second = without_member(&a.label().key(), rest, k)?;
     let first = in_conflict_with(alloc, &k.identity, z)?;
     Ok(Some((Catch::Conflictor(second), Catch::Conflictor(first))))
 }

@@ -111,7 +111,7 @@ fn plain_beside_conflictor(a: &Named, k: &Conflictor) -> Result<Option<(Catch, C
     let Some((merged, back)) = past_inverse(a, &k.effect)? else {
         return Ok(None);
     };
-    let moved = one_before(&back, &merged, k)?;
+    let moved = one_before(&back, merged, k)?;
     Ok(Some((Catch::Conflictor(moved), Catch::Plain(back.invert()))))
 }
 

@@ -12,16 +12,16 @@ use crate::Conflictor;
 use crate::values::{alone, bare, bare_alone, inverse, undone};
 use camp_ctx::{Contexted, CtxSet, join};
 use camp_prim::{Key, Named};
-use camp_seq::{Seq, invert_all, norm, ordered};
+use camp_seq::{Seq, invert_all, ordered};
 use std::alloc::{AllocError, Global};
 use std::slice;
 
 /// `(s', X', i)`, where `s'` is `s` in normal order, and `a` added to `X` gives `X'`
-fn set_before(a: &Named, s: &Seq, k: &Conflictor, i: Contexted) -> Result<Conflictor, AllocError>
-    ensures { IfOk result (Becomes (Norm s.now) (Adds a.now) (λ old new. new ≡ i) k.now) }
+fn set_before(a: &Named, s: Seq, k: &Conflictor, i: Contexted) -> Result<Conflictor, AllocError>
+    ensures { IfOk result (Becomes (Norm s) (Adds a.now) (λ old new. new ≡ i) k.now) }
 {
-    let effect = norm(s)?;
     let conflicts = CtxSet::add_one(a, &k.conflicts)?;
+    let effect = ordered(s);
     Ok(Conflictor {
         effect,
         conflicts,
@@ -33,10 +33,10 @@ fn set_before(a: &Named, s: &Seq, k: &Conflictor, i: Contexted) -> Result<Confli
 /// passes by `i`. None where it can't.
 pub(crate) fn passes_before(
     a: &Named,
-    s: &Seq,
+    s: Seq,
     k: &Conflictor,
 ) -> Result<Option<Conflictor>, AllocError>
-    ensures { IfOk result (Finds (Becomes (Norm s.now) (Adds a.now) (PassesBy a.now) k.now)) }
+    ensures { IfOk result (Finds (Becomes (Norm s) (Adds a.now) (PassesBy a.now) k.now)) }
 {
     let Some(identity) = Contexted::past_one(a, &k.identity)? else {
         return Ok(None);
@@ -46,8 +46,8 @@ pub(crate) fn passes_before(
 }
 
 /// `(s', X', i')`, where `s'` is `s` in normal order, and `a` added to `X` and `i` gives `X'` and `i'`
-pub(crate) fn one_before(a: &Named, s: &Seq, k: &Conflictor) -> Result<Conflictor, AllocError>
-    ensures { IfOk result (Becomes (Norm s.now) (Adds a.now) (Adds a.now) k.now) }
+pub(crate) fn one_before(a: &Named, s: Seq, k: &Conflictor) -> Result<Conflictor, AllocError>
+    ensures { IfOk result (Becomes (Norm s) (Adds a.now) (Adds a.now) k.now) }
 {
     let identity = Contexted::add_one(a, &k.identity)?;
     set_before(a, s, k, identity)
@@ -159,12 +159,12 @@ fn with_undone(alloc: Global, a: &Named, s: &Seq) -> Result<Seq, AllocError>
 }
 
 /// `(s', X without a label, i)`, where `s'` is `s` in normal order
-pub(crate) fn without_member(key: &Key, s: &Seq, k: &Conflictor) -> Result<Conflictor, AllocError>
-    ensures { IfOk result (LeavesSet key.now s.now k.now) }
+pub(crate) fn without_member(key: &Key, s: Seq, k: &Conflictor) -> Result<Conflictor, AllocError>
+    ensures { IfOk result (LeavesSet key.now s k.now) }
 {
-    let effect = norm(s)?;
     let conflicts = k.conflicts.without(key)?;
     let identity = k.identity.try_clone()?;
+    let effect = ordered(s);
     Ok(Conflictor {
         effect,
         conflicts,

@@ -10,6 +10,6 @@ pub returns-in-None : goal.returns-in-None
 returns-in-None c =
     λ pair w. leads_nowhere (λ (p : List Named × Named). Becomes (Norm p.0) (Adds p.1) (PassesBy p.1) c.args.k.now) (one_passes c.args.a.now c.args.k.now.effect) _ (rw c.in-Some.is at c.in_ok-passed.ensures.exact) (rw c.in-None.is at c.in_ok-passes_before.ensures) (w.passed, w.a') w.passes w.moved w.becomes
 
-pub returns : goal.returns
-returns c =
+pub returns-in-Some-2 : goal.returns-in-Some-2
+returns-in-Some-2 c =
     record { apart = c.requires; passed = _; a' = _; passes = rw c.in-Some.is at c.in_ok-passed.ensures.exact; moved = _; becomes = rw c.in-Some-2.is at c.in_ok-passes_before.ensures; second = refl; first = refl }
