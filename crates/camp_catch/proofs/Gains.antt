@@ -126,7 +126,7 @@ pub let_by_aside : (j k j-now : Catch) (before : List ContextedPatch) → Passes
 let_by_aside j k j-now before passes view = rw (← view) (rw (append-nil before) at (passes before))
 
 -- what has gained nothing is as it was
-ungained : (gained : List ContextedPatch) (catch : Catch) → gained ≡ [] → with_gained gained catch ≡ catch
+pub ungained : (gained : List ContextedPatch) (catch : Catch) → gained ≡ [] → with_gained gained catch ≡ catch
 ungained gained (Plain a) none = refl
 ungained gained (Catch.Conflictor k) none = ap (λ g. with_gained g (Catch.Conflictor k)) none
 

@@ -28,7 +28,7 @@ pub fn align(
 {
     let mut aligned = all_gaining(alloc, list)?;
     put_in_order(alloc, &mut aligned, order)?;
-    let settled = all_settled(alloc, &aligned)?;
+    let settled = all_settled(alloc, aligned)?;
     Ok(settled)
 }
 

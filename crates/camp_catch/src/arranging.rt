@@ -55,7 +55,7 @@ pub fn arrange<V>(
         }
         first.push(catch)?;
     }
-    let rest = all_settled(alloc, &rest)?;
+    let rest = all_settled(alloc, rest)?;
     Ok(Arranged { first, rest })
 }
 

@@ -79,6 +79,16 @@ impl Gaining {
         Shared::new(alloc, catch)
     }
 
+    /// The same of a catch that is given away. It is not shared where it has gained nothing.
+    fn into_settled(self) -> Result<Shared<Catch>, AllocError>
+        ensures { IfOk result (λ catch. catch ≡ self) }
+    {
+        if !self.gained.is_empty() {
+            return self.settled();
+        }
+        Ok(self.catch)
+    }
+
     /// Merges with the `k` of the same state, where each stays in its place in memory.
     pub(crate) fn meet(&mut self, k: &mut Gaining) -> Result<bool, AllocError>
         ensures exact { IfOk result (λ done. Changes MergesInPlace (self.old, k.old) done (self.new, k.new)) }
@@ -144,14 +154,17 @@ pub(crate) fn all_gaining(alloc: Global, list: &[Shared<Catch>]) -> Result<Vec<G
 }
 
 /// These catches as they are by now.
-pub(crate) fn all_settled(alloc: Global, list: &[Gaining]) -> Result<Vec<Shared<Catch>>, AllocError>
-    ensures { IfOk result (λ copy. copy.items ≡ list.now) }
+pub(crate) fn all_settled(
+    alloc: Global,
+    list: Vec<Gaining>,
+) -> Result<Vec<Shared<Catch>>, AllocError>
+    ensures { IfOk result (λ settled. settled.items ≡ list.items) }
 {
-    let mut copy = Vec::with_capacity(alloc, list.len())?;
+    let mut settled = Vec::with_capacity(alloc, list.len())?;
     for catch in list {
-        copy.push(catch.settled()?)?;
+        settled.push(catch.into_settled()?)?;
     }
-    Ok(copy)
+    Ok(settled)
 }
 
 /// Merges two catches of one state, whose sets are made first.

@@ -24,4 +24,4 @@ loop-catch-preserved g c =
 
 pub returns : goal.returns
 returns g c =
-    record { exact = rw (c.in_ok-rest.ensures, c.deref-2.ensures.value) (rw append-nil at ((rw (drop_all c.loop-catch.catch-index c.args.list.now (omega arith)) at c.loop-catch.invariant).goes [] c.loop-catch.rest.items (refl, refl))) }
+    record { exact = rw c.in_ok-rest.ensures (rw append-nil at ((rw (drop_all c.loop-catch.catch-index c.args.list.now (omega arith)) at c.loop-catch.invariant).goes [] c.loop-catch.rest.items (refl, refl))) }
