@@ -2,7 +2,7 @@
 use Rattle.camp_prim.proofs.CommuteLaws.{own_inverse, square}
 use Rattle.camp_seq.proofs.GatherSteps.{length-passes}
 use Rattle.camp_catch.specs.Inside.Pairs.{JoinsBehindEffects}
-use Rattle.camp_catch.proofs.Words.{Bool, IfOk, List, None, Option, Result, Some, [], ap, arith, eqb-true, inl, inr, length, refl, sym, true, ◌==◌, ◌∙◌, ◌∷◌, ◌≡◌, ◌≤◌, nil_from_length, IfOk-weaker, empty_of_len, get, get-empty, len, remove, FindsPair, inverse_of, key_cmp, Key, Named, Passes, PassesAll, ContextedPatch, ContextedPatches, bare, context_key, patch_key, CommuteConflictors, CommutePlainConflictor, ConflictDissolves, OneOfSeveralConflicts, OnlyConflictGoes, PlainLeavesTheSet, PlainPastConflictor, TwoConflictorsApart, Catch, Conflictor}
+use Rattle.camp_catch.proofs.Words.{Bool, Commute, IfOk, List, None, Option, Result, Some, [], ap, arith, eqb-true, inl, inr, length, refl, sym, true, ◌==◌, ◌∙◌, ◌∷◌, ◌≡◌, ◌≤◌, nil_from_length, IfOk-weaker, empty_of_len, get, get-empty, len, remove, FindsPair, inverse_of, key_cmp, Key, Named, Passes, PassesAll, ContextedPatch, ContextedPatches, bare, context_key, patch_key, CommuteConflictors, CommutePlainConflictor, MergeCatch, Plain, ConflictDissolves, OneOfSeveralConflicts, OnlyConflictGoes, PlainLeavesTheSet, PlainPastConflictor, TwoConflictorsApart, Catch, Conflictor}
 use Rattle.camp_catch.proofs.CommuteCases.{its_only, lacks_its_only, not_none, only_is_one}
 
 -- what one relation finds, another finds that has the same results
@@ -99,3 +99,7 @@ comes_before_from x [] r' x' w = (ap (λ y. inverse_of y ∷ []) (sym w.1), w.0)
 comes_before_from x (q ∷ s) r' x' w =
     let swapped = own_inverse (inverse_of x) w.0 q (inverse_of w.1) (square x q w.0 w.1 w.3) in
     (inverse_of w.1 ∷ [], w.0, w.2, comes_before_from w.1 s w.2 x' w.4, (inverse_of x, w.0, [], swapped, (refl, refl), refl), w.5)
+
+-- plain catches that commute as they are merge as they are
+pub plains_stay : (a b : Named) → Commute a b b a → MergeCatch (Plain a) (Plain b) (Plain b) (Plain a)
+plains_stay a b stays = inl (record { b' = b; a' = a; merge = square a b b a stays; after = refl; beside = refl })

@@ -12,7 +12,7 @@ use crate::merging_lists::merge_one;
 use crate::moves::commute_in_place;
 use crate::{Catch, Conflictor};
 use camp_ctx::{Contexted, conflict};
-use camp_prim::Key;
+use camp_prim::{Key, stay};
 use camp_share::{Share, Shared};
 use std::alloc::{AllocError, Global};
 use std::marker::Model;
@@ -215,6 +215,7 @@ fn meeting_of(j: &Catch, k: &Catch) -> Result<Meeting, AllocError>
 {
     match (j, k) {
         (Catch::Conflictor(j), Catch::Conflictor(k)) => meeting_of_two(j, k),
+        (Catch::Plain(a), Catch::Plain(b)) if stay(a, b) => Ok(Meeting::Aside),
         _ => Ok(Meeting::Unknown),
     }
 }

@@ -53,10 +53,7 @@ pub(crate) fn merge_as_they_are(alloc: Global, j: &Catch, k: &Catch) -> Result<b
     ensures { IfOk result (λ yes. IsTrue yes → MergeCatch j.now k.now k.now j.now) }
 {
     match (j, k) {
-        (Catch::Plain(a), Catch::Plain(b)) => {
-            let back = inverse(a)?;
-            Ok(stay(&back, b))
-        }
+        (Catch::Plain(a), Catch::Plain(b)) => Ok(stay(a, b)),
         (Catch::Plain(a), Catch::Conflictor(k)) => stand_aside(alloc, a, k),
         (Catch::Conflictor(j), Catch::Plain(b)) => stand_aside(alloc, b, j),
         _ => Ok(false),
