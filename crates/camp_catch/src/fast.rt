@@ -1,7 +1,7 @@
 //! Faster ways to the results of the rules. Each says when it may be taken; there its result is that
 //! of the rule.
 //!
-//! - Two plain catches that keep their lines commute, or merge, as they are. So no catch is made
+//! - Two plain catches that keep their lines commute as they are, and so they merge, by the square law. No catch is made
 //!   anew. One that is made is not compared with the one before, which takes longer than to keep both.
 //! - A plain catch and a conflictor commute as they are where the plain one is not in the
 //!   conflictor's set, passes its effect as it is, and leaves its conflicts and its identity as they are.

@@ -47,13 +47,12 @@ fn comes_before_as_it_is(j: &Conflictor, b: &Named) -> Result<bool, AllocError>
     Ok(stays_behind(&back, j))
 }
 
-/// Whether two catches of one state stand behind one another as they are. Where it says no, they may
-/// still do.
+/// Whether a plain catch and a conflictor of one state stand behind one another as they are. Where it
+/// says no, they may still do.
 pub(crate) fn merge_as_they_are(alloc: Global, j: &Catch, k: &Catch) -> Result<bool, AllocError>
     ensures { IfOk result (λ yes. IsTrue yes → MergeCatch j.now k.now k.now j.now) }
 {
     match (j, k) {
-        (Catch::Plain(a), Catch::Plain(b)) => Ok(stay(a, b)),
         (Catch::Plain(a), Catch::Conflictor(k)) => stand_aside(alloc, a, k),
         (Catch::Conflictor(j), Catch::Plain(b)) => stand_aside(alloc, b, j),
         _ => Ok(false),
