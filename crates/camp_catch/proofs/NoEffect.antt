@@ -1,5 +1,5 @@
 -- Two conflictors without an effect commute as they are, but for their sets.
-use Rattle.std.proofs.Common.{◌≡◌, ◌≢◌, ◌≤◌, ◌∙◌, ◌∷◌, ◌++◌, All, List, [], None, Some, ap, append-nil, inl, inr, refl, subst, sym}
+use Rattle.std.proofs.Common.{◌≡◌, ◌≢◌, ◌≤◌, ◌∙◌, ◌∷◌, ◌++◌, All, [], None, Some, ap, append-nil, inl, inr, refl, subst, sym}
 use Rattle.std.specs.FinMap.{get, len, remove}
 use Rattle.std.specs.List.{fold}
 use Rattle.std.proofs.lemmas.Grind.{fold-append}

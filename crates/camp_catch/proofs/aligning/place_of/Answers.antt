@@ -1,4 +1,4 @@
-use Rattle.camp_catch.proofs.Words.{List, ap, arith, refl, sym, take, ◌∙◌, length-take-le, take_all, whole, catch_key, Catch}
+use Rattle.camp_catch.proofs.Words.{List, arith, refl, take, length-take-le, take_all, whole, Catch}
 use Rattle.camp_catch.proofs.MoveSteps.{stands_at}
 use Rattle.camp_catch.proofs.aligning.place_of.Goals as goal
 
