@@ -7,4 +7,4 @@ pub returns-in-Plain-Plain : goal.returns-in-Plain-Plain
 returns-in-Plain-Plain c before beside =
     let case = c.in-Plain-Plain in
     subst (λ (x : Catch × Catch). MergeCatch (with_gained before x.0) (with_gained beside x.1) (with_gained (beside ++ []) x.1) (with_gained (before ++ []) x.0)) (λ i. (sym case.is-0 i, sym case.is-1 i))
-      (plains_stay case.a case.b (c.stay.ensures.exact.0 c.if-stay.true))
+    (plains_stay case.a case.b (c.stay.ensures.exact.0 c.if-stay.true))
