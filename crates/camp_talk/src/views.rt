@@ -1,6 +1,7 @@
 //! Requests that are asked of a state, which stays.
-ghost use Rattle.std.specs.Prelude.{◌≡◌, ◌++◌, ◌+◌, List, Ok, Result, IfErr, IfOk, OnErr, true, ℕ};
+ghost use Rattle.std.specs.Prelude.{◌≡◌, ◌++◌, ◌+◌, ◌^◌, ◌<◌, List, Ok, Result, IfErr, IfOk, OnErr, length, true, ℕ};
 ghost use Rattle.camp_script.specs.Gives.{Gives};
+ghost use Rattle.camp_script.specs.Lines.{lines_of};
 ghost use Rattle.camp_script.specs.declared.faults.LineFault.{LineFault as SaidFault};
 ghost use Rattle.camp_talk.specs.Inside.Said.{IsNotWriting};
 ghost use Rattle.camp_talk.specs.Inside.Viewing.{SeesTurn};
@@ -11,7 +12,7 @@ ghost use Rattle.camp_talk.specs.declared.questions.Asked.{Asked as SaidAsked};
 use crate::answers::fault_text;
 use crate::lines::hold;
 use crate::questions::{Asked, Question};
-use crate::readings::{count_lines, read_command};
+use crate::readings::{Command, count_lines, read_command};
 use crate::tellings::answer_at;
 use crate::told::joined;
 use crate::{State, TalkFault};
@@ -65,6 +66,25 @@ fn see<R: BufRead>(
     ensures unwritten { IfErr result IsNotWriting }
 {
     let command = read_command(alloc, reader)?;
+    append_view(alloc, state, lines, &command, answer)?;
+    Ok(command.is_whole)
+}
+
+// Puts what a view tells of a command behind an answer, and counts the lines of the command. After a fault the answer
+// is as it was.
+fn append_view(
+    alloc: Global,
+    state: &State,
+    lines: &mut u64,
+    command: &Command,
+    answer: &mut Vec<u8>,
+) -> Result<(), TalkFault>
+    ensures shows { IfOk result (λ _. (text : List ℕ) × (answer.new.items ≡ answer.old.items ++ text)
+        × ((reading : Result SaidAsked SaidFault) → Gives command.now.asked reading → Shows state.now lines.old reading text)) }
+    ensures counts { IfOk result (λ _. (lines.new ≡ lines.old + length (lines_of command.now.bytes.items)) × (lines.new < 2 ^ 64)) }
+    ensures kept { OnErr result (answer.new.items ≡ answer.old.items) }
+    ensures unwritten { IfErr result IsNotWriting }
+{
     let Some(after) = lines.checked_add(count_lines(&command.bytes)) else {
         return Err(TalkFault::Internal);
     };
@@ -73,7 +93,7 @@ fn see<R: BufRead>(
     };
     hold(answer, &text)?;
     *lines = after;
-    Ok(command.is_whole)
+    Ok(())
 }
 
 // What a view tells of a state where this is asked, by the number of the lines before it.
