@@ -1,12 +1,11 @@
 -- A key's place among entries in parts, from its place in one part.
 use Rattle.camp_share.proofs.Words.{◌≡◌, ◌↔◌, ℕ, zero, suc, ◌+◌, ◌-◌, ◌<◌, ◌≤◌, Bool, true, false, true≢false, T, List, [], ◌∷◌, ◌++◌, length, get_or, slice_get, take, drop, IsTrue, Some, sym, ap, subst, ◌∙◌, refl, arith, length-append, length-drop, append-nil, drop_at, get_or-drop, take-append-drop, take_all, get_or-append-add, get_or_append_left, get_or_default, flat_map-append}
-use Rattle.camp_share.proofs.Words.{take-add, All, Ordering, Less, Equal, Greater, Vec, is_lt, IsTotalOrder, is_sorted, find, joined, IsPart, IsAt, WouldBeAt, IsAbove}
+use Rattle.camp_share.proofs.Words.{All, Bor, Ordering, Less, Equal, Greater, Vec, is_lt, IsTotalOrder, is_sorted, find, joined, IsPart, IsAt, WouldBeAt, IsAbove}
 use Rattle.camp_share.proofs.Entries.{first, second, is_less, present, at_within}
 use Rattle.camp_share.proofs.Found.{sorted_left, sorted_right, above_behind, above_both, above_split, above_would, would_behind, would_front, at_behind, at_front}
 use Rattle.camp_share.proofs.PartLemmas.{closed_passed, divided_before, from_here, rest_from_here, up_to_here, part_is, length_grown, front_within}
-use Rattle.camp_share.specs.Inside.Places.{passes, ends_below}
-use Rattle.std.specs.List.Sorted.{IsPartitionedBy, IsPartitionPoint}
-use Rattle.std.proofs.Common.{take-take}
+use Rattle.camp_share.specs.Inside.Places.{passes, ends_below, IsBorder}
+use Rattle.std.specs.Fn.{Shared, FnReturnsAt}
 use Rattle.std.proofs.lemmas.Option.{slice_get-get_or}
 
 less_told : (r : Ordering) → (is_lt r ≡ true → r ≡ Less) × (r ≡ Less → is_lt r ≡ true)
@@ -29,6 +28,14 @@ from_first : (P : ℕ → Type 0) (n : ℕ) → P 0 → ((m : ℕ) → n ≡ m +
 from_first P zero none some = none
 from_first P (suc m) none some = subst P {x = m + 1} {y = suc m} (omega arith) (some m (omega arith))
 
+-- a border of what a closure answers is one of the test that it computes
+pub border_of : {F A : Type 0} (g : Shared F (Bor A × Unit {0}) Bool) (f : F) (test : A → Bool) (xs : List A) (n : ℕ) → ((y : Bor A) (b : Bool) → g.post f (y, tt) b → b ≡ test y.now)
+    → IsBorder (λ x. FnReturnsAt g f x true) (λ x. FnReturnsAt g f x false) xs n n → IsBorder (λ x. test x ≡ true) (λ x. test x ≡ false) xs n n
+border_of {F} {A} g f test xs n computes border =
+    let told : (x : A) (b : Bool) → FnReturnsAt g f x b → test x ≡ b
+    = λ x b said. subst (λ y. test y ≡ b) said.shows (sym (computes said.shown b said.says.met)) in
+    (λ x some read. told x true (border.0 x some read), λ x more read. told x false (border.1 x more read))
+
 module _ {K X : Type 0} (R : K → K → Ordering) (o : IsTotalOrder R) where
   -- the last key of entries in order tells whether a key is above them all
   by_last : (es : List (K × X)) (key : K) → T (is_sorted R es) → 0 < length es → IsTrue (ends_below R es key) ↔ IsAbove R es key
@@ -39,27 +46,17 @@ module _ {K X : Type 0} (R : K → K → Ordering) (o : IsTotalOrder R) where
       let rest = by_last (f ∷ es) key (second _ _ sorted) (omega arith) in
       (λ yes. let all = rest.0 (sym same ∙ yes) in (o.trans e.0 f.0 key (is_less _ (first _ _ (first _ _ sorted))) all.0, all), λ all. same ∙ rest.1 all.1)
 
-  -- a key above parts is above fewer of them
-  above_fewer : {Z : Type 0} (parts : List (Vec (K × X) Z)) (key : K) (m k : ℕ) → m ≤ k → IsAbove R (joined (take k parts)) key → IsAbove R (joined (take m parts)) key
-  above_fewer {Z} parts key m k less all =
-      (above_split R key (joined (take m parts)) (joined (take (k - m) (drop m parts)))
-      (subst (λ xs. IsAbove R xs key)
-      (ap (λ j. joined (take j parts)) {x = k} {y = m + (k - m)} (omega arith) ∙ ap joined (take-add m (k - m) parts)
-      ∙ flat_map-append (λ (p : Vec (K × X) Z). p.items) (take m parts) (take (k - m) (drop m parts)))
-      all)).0
-
   -- what a search by halves finds, where a test tells of each item whether a key is above the parts up to its end
-  pub by_halves : {A Z : Type 0} (parts : List (Vec (K × X) Z)) (key : K) (start : ℕ → ℕ) → ((i j : ℕ) → i ≤ j → start i ≤ start j) → IsAbove R (joined (take (start 0) parts)) key → (xs : List A) (test : A → Bool)
+  pub by_halves : {A Z : Type 0} (parts : List (Vec (K × X) Z)) (key : K) (start : ℕ → ℕ) → IsAbove R (joined (take (start 0) parts)) key → (xs : List A) (test : A → Bool)
       → ((i : ℕ) (x : A) → i < length xs → x ≡ get_or xs i x → IsTrue (test x) ↔ IsAbove R (joined (take (start (i + 1)) parts)) key)
-      → (n : ℕ) → n ≤ length xs → (IsPartitionedBy test xs → IsPartitionPoint (λ y. test y ≡ true) (λ y. test y ≡ false) xs n)
+      → (n : ℕ) → n ≤ length xs → IsBorder (λ y. test y ≡ true) (λ y. test y ≡ false) xs n n
       → IsAbove R (joined (take (start n) parts)) key × (n < length xs → ¬ (IsAbove R (joined (take (start (n + 1)) parts)) key))
-  by_halves {A} parts key start rises begins xs test told n within clause =
-      let at : (i : ℕ) (d : A) → i < length xs → IsTrue (test (get_or xs i d)) ↔ IsAbove R (joined (take (start (i + 1)) parts)) key
-      = λ i d inside. told i (get_or xs i d) inside (get_or_default xs i d _ inside) in
-      let point = clause (λ i j d less inside yes. (at i d (omega arith)).1 (above_fewer parts key _ _ (rises (i + 1) (j + 1) (omega arith)) ((at j d inside).0 yes))) in (
+  by_halves {A} parts key start begins xs test told n within border =
+      let item : (i : ℕ) → i < length xs → (x : A) × (x ≡ get_or xs i x)
+      = λ i inside. let d = (last_of xs (omega arith)).0 in (get_or xs i d, get_or_default xs i d _ inside) in (
         from_first (λ j. IsAbove R (joined (take (start j) parts)) key) n begins
-            (λ m is. let d = (last_of xs (omega arith)).0 in (at m d (omega arith)).0 (point.0 m d (omega arith) (omega arith))),
-        λ inside all. let d = (last_of xs (omega arith)).0 in true≢false (sym ((at n d inside).1 all) ∙ point.1 n d (omega arith) inside),
+            (λ m is. let x = item m (omega arith) in (told m x.0 (omega arith) x.1).0 (border.0 x.0 (omega arith) (x.1 ∙ ap (λ j. get_or xs j x.0) {x = m} {y = n - 1} (omega arith)))),
+        λ inside all. let x = item n inside in true≢false (sym ((told n x.0 inside x.1).1 all) ∙ border.1 x.0 inside x.1),
       )
 
   module _ {Z : Type 0} (parts : List (Vec (K × X) Z)) (sorted : T (is_sorted R (joined parts))) (key : K) (index : ℕ) where
@@ -149,12 +146,11 @@ module _ {K X : Type 0} (R : K → K → Ordering) (o : IsTotalOrder R) where
           (subst (λ (b : Bool). IsTrue b ↔ IsAbove R (joined (take (before + (length group.items - 1) + 1) parts)) key) (sym (ap (passes (λ part. ends_below R part.items key)) end.2))
           (tells_behind group.items _ before (behind i ∙ rest_from_here closed last i group within read) (length group.items - 1) end.0 (omega arith) end.1))
 
-      module _ (groups : All IsPart closed) (i : ℕ) (within : i ≤ length closed) (clause : IsPartitionedBy (λ group. last_ends_below R group.items key) closed → IsPartitionPoint (λ group. last_ends_below R group.items key ≡ true) (λ group. last_ends_below R group.items key ≡ false) closed i) where
+      module _ (groups : All IsPart closed) (i : ℕ) (within : i ≤ length closed) (border : IsBorder (λ group. last_ends_below R group.items key ≡ true) (λ group. last_ends_below R group.items key ≡ false) closed i i) where
         group_found : IsAbove R (joined (take (length (joined (take i closed))) parts)) key × (i < length closed → ¬ (IsAbove R (joined (take (length (joined (take (i + 1) closed))) parts)) key))
         group_found =
-            by_halves parts key (λ n. length (joined (take n closed)))
-            (λ m k less. subst (λ ps. length (joined ps) ≤ length (joined (take k closed))) (take-take m k closed less) (front_within (take k closed) m)) tt
-            closed (λ group. last_ends_below R group.items key) (tells_group groups) i within clause
+            by_halves parts key (λ n. length (joined (take n closed))) tt
+            closed (λ group. last_ends_below R group.items key) (tells_group groups) i within border
 
         inside_all : length (joined (take i closed)) ≤ length parts
         inside_all = omega (arith, front_within closed i, ap length (sym whole) ∙ length-append (joined closed) last)
@@ -182,14 +178,14 @@ module _ {K X : Type 0} (R : K → K → Ordering) (o : IsTotalOrder R) where
       pub found_within : passed + found ≤ length parts
       found_within = omega (arith, s.inside, length-drop passed parts, ap length s.stand ∙ length-append some s.rest)
 
-      pub found_there : (IsPartitionedBy (λ part. ends_below R part.items key) some → IsPartitionPoint (λ part. ends_below R part.items key ≡ true) (λ part. ends_below R part.items key ≡ false) some found)
+      pub found_there : IsBorder (λ part. ends_below R part.items key ≡ true) (λ part. ends_below R part.items key ≡ false) some found found
           → IsAbove R (joined (take (passed + found) parts)) key × (passed + found < length parts → ¬ (IsAbove R (joined (take (passed + found + 1) parts)) key))
-      found_there clause =
+      found_there border =
           let up_to = λ (n : ℕ). IsAbove R (joined (take n parts)) key in
-          let there = by_halves parts key (λ n. passed + n) (λ m k less. omega arith) (subst up_to {x = passed} {y = passed + 0} (omega arith) s.before)
+          let there = by_halves parts key (λ n. passed + n) (subst up_to {x = passed} {y = passed + 0} (omega arith) s.before)
           some (λ part. ends_below R part.items key)
           (λ i part inside read. subst (λ n. IsTrue (ends_below R part.items key) ↔ up_to n) {x = passed + i + 1} {y = passed + (i + 1)} (omega arith) (tells_behind some s.rest passed s.stand i part inside read))
-          found within clause in (
+          found within border in (
             there.0,
             λ more above. from_first (λ left. found + left ≡ length some → ⊥) (length some - found)
                 (λ is. s.ends (omega arith) (subst up_to {x = passed + found} {y = passed + length some} (omega arith) there.0))

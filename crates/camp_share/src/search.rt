@@ -1,9 +1,10 @@
-ghost use Rattle.std.specs.Prelude.{◌≡◌, ℕ, ◌+◌, ◌<◌, ◌≤◌, ◌^◌, T as Holds, IfOk, IfErr, length, take};
+ghost use Rattle.std.specs.Prelude.{◌≡◌, ℕ, ◌+◌, ◌<◌, ◌≤◌, ◌^◌, true, false, T as Holds, IfOk, IfErr, length, take};
+ghost use Rattle.std.specs.Fn.{FnReturnsAt};
 ghost use Rattle.std.specs.List.{All};
 ghost use Rattle.std.specs.List.Sorted.{IsSearchInRange};
 ghost use Rattle.std.specs.FinMap.{is_sorted};
 ghost use Rattle.camp_share.specs.Inside.Parts.{joined, IsPart};
-ghost use Rattle.camp_share.specs.Inside.Places.{ends_below, IsAt, WouldBeAt, IsAbove, IsInPart, WouldBeInPart};
+ghost use Rattle.camp_share.specs.Inside.Places.{ends_below, IsBorder, IsAt, WouldBeAt, IsAbove, IsInPart, WouldBeInPart};
 
 use crate::Key;
 use crate::growing::{Growing, Part, length_of};
@@ -19,10 +20,32 @@ pub(crate) fn part_for<K: Key, V>(parts: &Growing<Part<(K, V)>>, key: &K) -> usi
     ensures reached { result < length parts.now → ¬ (IsAbove K.cmp (joined (take (result + 1) parts.now)) key.now) }
 {
     let (closed, last) = parts.divided();
-    let at = closed.partition_point(|group| group.last().is_some_and(|part| ends_below(part, key)));
+    let at = by_halves(
+        closed,
+        |group| group.last().is_some_and(|part| ends_below(part, key)),
+    );
     let passed = length_of(&closed[..at]);
     let among = if at < closed.len() { &closed[at] } else { last };
-    passed + among.partition_point(|part| ends_below(part, key))
+    passed + by_halves(among, |part| ends_below(part, key))
+}
+
+// How many items stand before the first that is not passed, where those that are passed stand first.
+fn by_halves<T, F: Fn(&T) -> bool>(items: &[T], passed: F) -> usize
+    requires { F.IsAlwaysCallable passed }
+    ensures within { result ≤ length items.now }
+    ensures border { IsBorder (λ item. FnReturnsAt F.Fn passed item true) (λ item. FnReturnsAt F.Fn passed item false) items.now result result }
+{
+    let mut low = 0;
+    let mut high = items.len();
+    while low < high {
+        let middle = low + (high - low) / 2;
+        if passed(&items[middle]) {
+            low = middle + 1;
+        } else {
+            high = middle;
+        }
+    }
+    low
 }
 
 // Whether the last key of a part is below a key.

@@ -45,3 +45,9 @@ passes test (Some x) = test x
 -- the last key of entries is below a key
 abbrev pub ends_below : {K X : Type 0} → (K → K → Ordering) → List (K × X) → K → Bool
 ends_below order entries key = passes (λ entry. is_lt (order entry.0 key)) (slice_get entries (length entries - 1))
+
+-- the item before one place is passed, and the one at another is not, where there are such items
+abbrev pub IsBorder : {A : Type 0} → (A → Type 0) → (A → Type 0) → List A → ℕ → ℕ → Type 0
+IsBorder {A} Passed Stops items low high =
+    ((item : A) → 0 < low → item ≡ slice_index_or items (low - 1) item → Passed item)
+    × ((item : A) → high < length items → item ≡ slice_index_or items high item → Stops item)
