@@ -178,7 +178,7 @@ impl<K: Key, V: PartialEq> PartialEq for SharedMap<K, V> {
 }
 
 /// Entries that are put into a map one after the other, each where it stands. They are in one vector,
-/// and become parts once all are there.
+/// and become parts once all are there: where they are few, the vector is the one part.
 #[derive(Drop)]
 pub struct MapBuilder<K: Key, V> {
     entries: Vec<(K, V)>,
@@ -222,8 +222,7 @@ impl<K: Key, V: Share + Drop> MapBuilder<K, V> {
     pub fn into_map(self) -> Result<SharedMap<K, V>, AllocError>
         ensures exact { IfOk result (λ map. map_of K.cmp map ≡ map_of K.cmp self) }
     {
-        let alloc = *self.entries.allocator();
-        let entries = PartList::from_items(alloc, &self.entries)?;
+        let entries = PartList::from_vec(self.entries)?;
         Ok(SharedMap { entries })
     }
 }

@@ -6,9 +6,9 @@ ghost use Rattle.std.specs.Option.{option_copied};
 ghost use Rattle.std.specs.Map.Iter.{ShowsInOrder, deref};
 
 use crate::changes::{Change, place_of, spliced_in_part};
-use crate::growing::{Growing, Part, append_copies};
+use crate::growing::{Growing, MAX_PART_LENGTH, Part, append_copies};
 use crate::iters::Steps;
-use crate::{Iter, Share};
+use crate::{Iter, Share, Shared};
 use std::alloc::{AllocError, Global};
 use std::marker::Model;
 
@@ -141,6 +141,20 @@ impl<T: Share + Drop> PartList<T> {
             parts,
             len: items.len(),
         })
+    }
+
+    // The list of these elements. Where one part can hold them, their vector is that part.
+    pub(crate) fn from_vec(items: Vec<T>) -> Result<PartList<T>, AllocError>
+        ensures exact { IfOk result (λ list. list ≡ items.items) }
+    {
+        let alloc = *items.allocator();
+        let len = items.len();
+        if len == 0 || len > MAX_PART_LENGTH {
+            return PartList::from_items(alloc, &items);
+        }
+        let mut parts = Growing::new(alloc);
+        parts.push(Shared::new(alloc, items)?)?;
+        Ok(PartList { parts, len })
     }
 
     // Copies of all elements, in one vector.
