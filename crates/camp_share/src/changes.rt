@@ -54,7 +54,7 @@ impl<T: Share + Drop> Change<T> {
         Ok(Change { parts, middle })
     }
 
-    // The same, with the last parts closed.
+    // The same, with the last parts closed where others are.
     fn settled(self) -> Result<Change<T>, AllocError>
         ensures { IfOk result (λ change. change ≡ self) }
     {

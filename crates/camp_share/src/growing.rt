@@ -174,12 +174,13 @@ impl<T: Share + Drop> Growing<T> {
         Ok(())
     }
 
-    // Closes the last elements. The list is the same: what is closed is shared by one count, where the
-    // last elements take a count each. No clause asks for it.
+    // Closes the last elements where parts are closed already. The list is the same: what is closed is
+    // shared by one count, where the last elements take a count each. Where none is closed, the list is
+    // short, and the vector of those that are would take more than it saves. No clause asks for it.
     pub(crate) fn settle(&mut self) -> Result<(), AllocError>
         ensures { OnOk result (self.new ≡ self.old) }
     {
-        if self.last.is_empty() {
+        if self.closed.is_empty() || self.last.is_empty() {
             return Ok(());
         }
         take_back(&mut self.closed, &mut self.last)?;

@@ -13,7 +13,7 @@ use std::alloc::{AllocError, Global};
 use std::marker::Model;
 
 // A list in parts of up to 24 elements, which it shares with the lists that it was made from. It is
-// copied by a count for each part of parts, and for each of the few parts behind them.
+// copied by a count for each part of parts, and for each of the up to 24 parts behind them.
 #[derive(Drop)]
 pub(crate) struct PartList<T> {
     parts: Growing<Part<T>>,

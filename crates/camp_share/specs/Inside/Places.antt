@@ -37,16 +37,16 @@ abbrev pub WouldBeInPart : {K X Z : Type 0} → (K → K → Ordering) → List 
 WouldBeInPart order parts key index place =
     IsPlace parts index place × WouldBeAt order (joined parts) key (offset parts index place)
 
--- a test that a value passes, where there is one
+-- whether there is a value, and it passes a test
 abbrev pub passes : {A : Type 0} → (A → Bool) → Option A → Bool
 passes test None = false
 passes test (Some x) = test x
 
--- the last key of entries is below a key
+-- whether there are entries, and the key of the last one is below a key
 abbrev pub ends_below : {K X : Type 0} → (K → K → Ordering) → List (K × X) → K → Bool
 ends_below order entries key = passes (λ entry. is_lt (order entry.0 key)) (slice_get entries (length entries - 1))
 
--- the item before one place is passed, and the one at another is not, where there are such items
+-- an item before one place is of the one kind, and the item at another place of the other kind, where there are such items
 abbrev pub IsBorder : {A : Type 0} → (A → Type 0) → (A → Type 0) → List A → ℕ → ℕ → Type 0
 IsBorder {A} Passed Stops items low high =
     ((item : A) → 0 < low → item ≡ slice_index_or items (low - 1) item → Passed item)
