@@ -189,7 +189,9 @@ fn change_of(alloc: Global, word: &[u8], path: &[u8]) -> Result<Primitive, Notat
 fn read_hunk(path: &[u8], line: &[u8], cursor: &mut Cursor) -> Result<Primitive, NotationError> {
     let path = Path::new(cursor.alloc, path)?;
     match read_sides(line, cursor) {
-        Ok((line, old, new)) => Primitive::hunk(path, line, old, new).ok_or(NotationError::NoHunk),
+        Ok((line, old, new)) => {
+            Primitive::hunk(cursor.alloc, path, line, old, new)?.ok_or(NotationError::NoHunk)
+        }
         Err(why) => Err(why),
     }
 }

@@ -58,9 +58,9 @@ swap_unique p q q' p' r' o' x y =
     (same_named q' r' (x.anywhere.second ∙ sym y.anywhere.second) prims.0, same_named p' o' (x.anywhere.first ∙ sym y.anywhere.first) prims.1)
 
 pub both_commute_alike : BothCommuteAlike
-both_commute_alike p q first second None true never w = absurd (never (first, second) w)
-both_commute_alike p q first second None false never w = refl
-both_commute_alike p q first second (Some found) true v w =
-    let pair = swap_unique p q found.0 found.1 first second v w in
+both_commute_alike p q p' q' None true never w = absurd (never (q', p') w)
+both_commute_alike p q p' q' None false never w = refl
+both_commute_alike p q p' q' (Some found) true v w =
+    let pair = swap_unique p q found.0 found.1 q' p' v w in
     λ i. Some (pair.0 i, pair.1 i)
-both_commute_alike p q first second (Some found) false v w = absurd (w.0 found v)
+both_commute_alike p q p' q' (Some found) false v w = absurd (w.0 (found.1, found.0) v)

@@ -75,6 +75,6 @@ pub record Commute (p q q' p' : Named) : Type 0 where
   pub anywhere : CommuteAnywhere p q q' p'
   pub ranges : AreInRange p.prim q.prim q'.prim p'.prim
 
--- the same of pairs: the second pair is what the first one becomes by commuting
-abbrev pub CommutedNeighbours : Named × Named → Named × Named → Type 0
-CommutedNeighbours old new = Commute old.0 old.1 new.0 new.1
+-- p and the q behind it, each in its own place: p becomes p', and q becomes q'
+abbrev pub CommutesInPlace : Named × Named → Named × Named → Type 0
+CommutesInPlace old new = Commute old.0 old.1 new.1 new.0

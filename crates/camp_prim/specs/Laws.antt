@@ -3,7 +3,7 @@ use Rattle.std.specs.Prelude.{◌≡◌, ◌↔◌, Bool, Option, None, Some, if
 use Rattle.camp_base.specs.Answers.{Changes, FindsPair}
 use Rattle.camp_base.specs.Trees.{Files}
 use Rattle.camp_prim.specs.Effect.{inverse_of, Leads}
-use Rattle.camp_prim.specs.Commuting.{Commute, CommutedNeighbours}
+use Rattle.camp_prim.specs.Commuting.{Commute, CommutesInPlace}
 use Rattle.camp_prim.specs.declared.named.Named.{Named}
 
 -- what two primitives become when they commute is determined
@@ -33,12 +33,13 @@ pub record CommuteLaws (p q q' p' : Named) : Type 0 where
   pub square : Square p q q' p'
   pub effect : SameEffect p q q' p'
 
--- `commute` and `commute_neighbours` agree: None is answered exactly where false is, and else both give the same two
+-- `commute` and `commute_in_place` agree: None is answered exactly where false is, and else both give the same two, of
+-- which the second one leaves each in its place
 abbrev pub BothCommuteAlike : Type 0
 BothCommuteAlike =
-    (p q first second : Named) (found : Option (Named × Named)) (done : Bool)
-    → FindsPair (Commute p q) found → Changes CommutedNeighbours (p, q) done (first, second)
-    → found ≡ (if done then Some (first, second) else None)
+    (p q p' q' : Named) (found : Option (Named × Named)) (done : Bool)
+    → FindsPair (Commute p q) found → Changes CommutesInPlace (p, q) done (p', q')
+    → found ≡ (if done then Some (q', p') else None)
 
 -- the six orders of p q r, each one turn of neighbours from the next, round about:
 --   p q r    q' p' r    q' r2 p2    y q2 p2    y p1 q1    p r1 q1    p q r

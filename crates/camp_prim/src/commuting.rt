@@ -43,7 +43,7 @@ pub fn commute_has_laws()
     ensures law { (p q q' p' : Named) → Commute p q q' p' → CommuteLaws p q q' p' }
 {}
 
-/// `commute` answers None exactly where `commute_neighbours` answers false, and else both give the same two.
+/// `commute` answers None exactly where `commute_in_place` answers false, and else both give the same two.
 pub fn both_commute_alike()
     ensures law { BothCommuteAlike }
 {}

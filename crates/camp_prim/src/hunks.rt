@@ -1,4 +1,4 @@
-ghost use Rattle.std.specs.Prelude.{◌≡◌, ◌+◌, ◌≤◌, ◌↔◌, IfOk, IsTrue, MatchOption};
+ghost use Rattle.std.specs.Prelude.{◌≡◌, ◌+◌, ◌≤◌, ◌↔◌, IfErr, IfOk, IsTrue, MatchOption};
 ghost use Rattle.camp_base.specs.Limits.{greatest_reach};
 ghost use Rattle.camp_prim.specs.Effect.{flipped};
 ghost use Rattle.camp_prim.specs.Hunks.{Edit, IsInRange};
@@ -6,8 +6,8 @@ ghost use Rattle.camp_prim.specs.Commuting.{at_line};
 
 use crate::Lines;
 use camp_base::{Line, Path};
-use camp_share::Share;
-use std::alloc::AllocError;
+use camp_share::{Share, Shared};
+use std::alloc::{AllocError, Global};
 use std::marker::Model;
 
 /// The greatest sum of a hunk's line and the numbers of its old and of its new lines.
@@ -17,8 +17,16 @@ const MAX_REACH: usize = 1 << 30;
 /// empty; and the line and the numbers of old and of new lines add up to 2^30 at most.
 #[derive(Debug, Drop)]
 pub struct Hunk {
-    path: Path,
+    body: Shared<Body>,
     line: u32,
+    // Whether the sides of the body have changed over.
+    flipped: bool,
+}
+
+// What a hunk has wherever it stands. Copies share it by one count.
+#[derive(Debug, Drop)]
+struct Body {
+    path: Path,
     old: Lines,
     new: Lines,
 }
@@ -36,19 +44,27 @@ impl Model for Hunk {
 }
 
 impl Hunk {
-    pub(crate) fn from_parts(path: Path, line: u32, old: Lines, new: Lines) -> Option<Hunk>
-        ensures { let edit : Edit = record { path = path; line = line; old = old; new = new } in
-            MatchOption result (¬ (IsInRange edit)) (λ hunk. IsInRange edit × (hunk ≡ edit)) }
+    pub(crate) fn from_parts(
+        alloc: Global,
+        path: Path,
+        line: u32,
+        old: Lines,
+        new: Lines,
+    ) -> Result<Option<Hunk>, AllocError>
+        ensures exact { let edit : Edit = record { path = path; line = line; old = old; new = new } in
+            IfOk result (λ found. MatchOption found (¬ (IsInRange edit)) (λ hunk. IsInRange edit × (hunk ≡ edit))) }
+        ensures memory { let edit : Edit = record { path = path; line = line; old = old; new = new } in
+            IfErr result (λ error. IsInRange edit) }
     {
         if !is_in_range(line, old.as_slice().len(), new.as_slice().len()) {
-            return None;
+            return Ok(None);
         }
-        Some(Hunk {
-            path,
+        let body = Shared::new(alloc, Body { path, old, new })?;
+        Ok(Some(Hunk {
+            body,
             line,
-            old,
-            new,
-        })
+            flipped: false,
+        }))
     }
 
     /// The path of the file.
@@ -56,7 +72,7 @@ impl Hunk {
         ensures value { result.now ≡ self.now.path }
         ensures in_range { IsInRange self.now }
     {
-        &self.path
+        &self.body.path
     }
 
     /// The line at which the old lines begin, and then the new ones.
@@ -71,14 +87,20 @@ impl Hunk {
     pub fn old(&self) -> &[Line]
         ensures exact { result.now ≡ self.now.old }
     {
-        self.old.as_slice()
+        if self.flipped {
+            return self.body.new.as_slice();
+        }
+        self.body.old.as_slice()
     }
 
     /// The lines that it puts in their place.
     pub fn new(&self) -> &[Line]
         ensures exact { result.now ≡ self.now.new }
     {
-        self.new.as_slice()
+        if self.flipped {
+            return self.body.old.as_slice();
+        }
+        self.body.new.as_slice()
     }
 
     /// The hunk with its sides changed over, which takes it back.
@@ -86,16 +108,14 @@ impl Hunk {
         ensures { result ≡ flipped self }
     {
         let Hunk {
-            path,
+            body,
             line,
-            old,
-            new,
+            flipped,
         } = self;
         Hunk {
-            path,
+            body,
             line,
-            old: new,
-            new: old,
+            flipped: !flipped,
         }
     }
 
@@ -114,18 +134,15 @@ impl Hunk {
         self.line = line;
     }
 
-    /// The same hunk. It shares its path and its lines with this one and takes no memory.
+    /// The same hunk. It shares its path and its lines with this one, by one count, and takes no memory.
     pub fn try_clone(&self) -> Result<Hunk, AllocError>
         ensures exact { IfOk result (λ copy. copy ≡ self.now) }
     {
-        let path = self.path.try_clone()?;
-        let old = self.old.share()?;
-        let new = self.new.share()?;
+        let body = self.body.share()?;
         Ok(Hunk {
-            path,
+            body,
             line: self.line,
-            old,
-            new,
+            flipped: self.flipped,
         })
     }
 
@@ -133,7 +150,7 @@ impl Hunk {
     pub fn is_same(&self, other: &Hunk) -> bool
         ensures exact { IsTrue result ↔ (self.now ≡ other.now) }
     {
-        if self.path != other.path {
+        if self.path() != other.path() {
             return false;
         }
         if self.line != other.line {

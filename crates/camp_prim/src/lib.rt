@@ -17,7 +17,7 @@ pub use effect::{applied_is_applies, inverse_leads_back};
 pub use hunks::Hunk;
 pub use labels::{Key, Label, has_less_label, have_same_key, keys_are_ordered, labels_are_ordered};
 pub use named::Named;
-pub use neighbours::commute_neighbours;
+pub use neighbours::commute_in_place;
 pub use primitives::Primitive;
 pub use sides::Lines;
 pub use stays::{commutes, stay};

@@ -2,28 +2,26 @@ ghost use Rattle.std.specs.Prelude.{◌≡◌, ℕ, Some};
 ghost use Rattle.camp_base.specs.Answers.{Changes};
 ghost use Rattle.camp_prim.specs.Effect.{InRange};
 ghost use Rattle.camp_prim.specs.Inside.Targets.{moved};
-ghost use Rattle.camp_prim.specs.Commuting.{CommutedNeighbours};
+ghost use Rattle.camp_prim.specs.Commuting.{CommutesInPlace};
 
 use crate::commuting::targets_of;
 use crate::labels::have_same_key;
 use crate::{Named, Primitive};
-use std::mem;
 
-/// Commutes two neighbours of a list where they stand: `first` then holds what the second one has
-/// become, and `second` what the first one has become. Answers false where they don't commute, and
-/// leaves both as they were. It takes no memory.
-pub fn commute_neighbours(first: &mut Named, second: &mut Named) -> bool
-    ensures exact { Changes CommutedNeighbours (first.old, second.old) result (first.new, second.new) }
+/// Commutes `p` and the `q` behind it, where each stays in its place in memory: `p` becomes what it is
+/// behind `q`, and `q` what it is before `p`. So it is for the caller to put `q` first. Answers false
+/// where they don't commute, and leaves both as they were. It takes no memory.
+pub fn commute_in_place(p: &mut Named, q: &mut Named) -> bool
+    ensures exact { Changes CommutesInPlace (p.old, q.old) result (p.new, q.new) }
 {
-    if have_same_key(first, second) {
+    if have_same_key(p, q) {
         return false;
     }
-    match targets_of(&first.prim, &second.prim) {
+    match targets_of(&p.prim, &q.prim) {
         None => false,
         Some(targets) => {
-            mem::swap(first, second);
-            move_to(&mut first.prim, targets.second);
-            move_to(&mut second.prim, targets.first);
+            move_to(&mut q.prim, targets.second);
+            move_to(&mut p.prim, targets.first);
             true
         }
     }

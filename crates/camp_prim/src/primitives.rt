@@ -1,4 +1,4 @@
-ghost use Rattle.std.specs.Prelude.{◌≡◌, ◌↔◌, IfOk, IsTrue, MatchOption};
+ghost use Rattle.std.specs.Prelude.{◌≡◌, ◌↔◌, IfErr, IfOk, IsTrue, MatchOption};
 ghost use Rattle.camp_base.specs.Answers.{Answers};
 ghost use Rattle.camp_prim.specs.Effect.{Applies, InRange, inverted};
 ghost use Rattle.camp_prim.specs.Commuting.{path_of};
@@ -6,7 +6,7 @@ ghost use Rattle.camp_prim.specs.Hunks.{Edit, IsInRange};
 
 use crate::{Hunk, Lines};
 use camp_base::{Apply, Path, Tree};
-use std::alloc::AllocError;
+use std::alloc::{AllocError, Global};
 
 /// The smallest changes to a tree.
 #[derive(Debug, Drop)]
@@ -22,12 +22,22 @@ pub enum Primitive {
 impl Primitive {
     /// The hunk of these parts. None where the line is 0, where both sides are empty, or where the
     /// line and the numbers of old and of new lines add up to more than 2^30.
-    pub fn hunk(path: Path, line: u32, old: Lines, new: Lines) -> Option<Primitive>
+    pub fn hunk(
+        alloc: Global,
+        path: Path,
+        line: u32,
+        old: Lines,
+        new: Lines,
+    ) -> Result<Option<Primitive>, AllocError>
         ensures exact { let edit : Edit = record { path = path; line = line; old = old; new = new } in
-            MatchOption result (¬ (IsInRange edit)) (λ made. IsInRange edit × (made ≡ Primitive.Hunk edit)) }
+            IfOk result (λ found. MatchOption found (¬ (IsInRange edit)) (λ made. IsInRange edit × (made ≡ Primitive.Hunk edit))) }
+        ensures memory { let edit : Edit = record { path = path; line = line; old = old; new = new } in
+            IfErr result (λ error. IsInRange edit) }
     {
-        let hunk = Hunk::from_parts(path, line, old, new)?;
-        Some(Primitive::Hunk(hunk))
+        match Hunk::from_parts(alloc, path, line, old, new)? {
+            Some(hunk) => Ok(Some(Primitive::Hunk(hunk))),
+            None => Ok(None),
+        }
     }
 
     /// The path of the file that it changes.

@@ -9,23 +9,24 @@ use std::slice;
 /// The lines of one side of a hunk. A copy shares them, and a side of at most one line takes no memory.
 #[derive(Debug, Drop)]
 pub struct Lines {
-    lines: Kept,
+    lines: Held,
 }
 
+// Most sides have one line or none. A copy of these takes no memory.
 #[derive(Debug, Drop)]
-enum Kept {
-    None,
+enum Held {
+    Empty,
     One(Line),
     Many(Shared<Vec<Line>>),
 }
 
 impl Model for Lines {
     ghost use Rattle.std.specs.Prelude.{List, ℕ};
-    ghost use Rattle.camp_prim.specs.Inside.SideFields.{lines_of};
+    ghost use Rattle.camp_prim.specs.Inside.SideFields.{held_lines};
 
     ghost Value = { List (List ℕ) };
 
-    ghost view = { λ side. lines_of side.lines };
+    ghost view = { λ side. held_lines side.lines };
 }
 
 impl Lines {
@@ -36,14 +37,14 @@ impl Lines {
         if lines.len() > 1 {
             let lines = Shared::new(alloc, lines)?;
             return Ok(Lines {
-                lines: Kept::Many(lines),
+                lines: Held::Many(lines),
             });
         }
         match lines.pop() {
             Some(line) => Ok(Lines {
-                lines: Kept::One(line),
+                lines: Held::One(line),
             }),
-            None => Ok(Lines { lines: Kept::None }),
+            None => Ok(Lines { lines: Held::Empty }),
         }
     }
 
@@ -52,9 +53,9 @@ impl Lines {
         ensures exact { result.now ≡ self.now }
     {
         match &self.lines {
-            Kept::None => &[],
-            Kept::One(line) => slice::from_ref(line),
-            Kept::Many(lines) => lines,
+            Held::Empty => &[],
+            Held::One(line) => slice::from_ref(line),
+            Held::Many(lines) => lines,
         }
     }
 }
@@ -62,9 +63,9 @@ impl Lines {
 impl Share for Lines {
     fn share(&self) -> Result<Lines, AllocError> {
         let lines = match &self.lines {
-            Kept::None => Kept::None,
-            Kept::One(line) => Kept::One(line.share()?),
-            Kept::Many(lines) => Kept::Many(lines.share()?),
+            Held::Empty => Held::Empty,
+            Held::One(line) => Held::One(line.share()?),
+            Held::Many(lines) => Held::Many(lines.share()?),
         };
         Ok(Lines { lines })
     }

@@ -239,7 +239,7 @@ fn hunk_moved(alloc: Global, hunk: &Hunk, line: u32) -> Result<Primitive, AllocE
     let path = hunk.path().try_clone()?;
     let old = lines_of(alloc, hunk.old())?;
     let new = lines_of(alloc, hunk.new())?;
-    let Some(moved) = Primitive::hunk(path, line, old, new) else {
+    let Some(moved) = Primitive::hunk(alloc, path, line, old, new)? else {
         unreachable!();
     };
     Ok(moved)

@@ -272,7 +272,7 @@ fn close(alloc: Global, number: u64, edit: OpenEdit) -> Result<Primitive, Script
         new,
     } = edit;
     let (old, new) = (Lines::new(alloc, old)?, Lines::new(alloc, new)?);
-    let Some(change) = Primitive::hunk(path, line, old, new) else {
+    let Some(change) = Primitive::hunk(alloc, path, line, old, new)? else {
         unreachable!();
     };
     Ok(change)

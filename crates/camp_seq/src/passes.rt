@@ -1,14 +1,13 @@
 ghost use Rattle.std.specs.Prelude.{IfOk};
 ghost use Rattle.std.specs.Bool.{then_some};
 ghost use Rattle.camp_base.specs.Answers.{Changes, FindsPair};
-ghost use Rattle.camp_seq.specs.Inside.InPlace.{ComesUpTo, CommutesInPlace, GoesPast, PassesInPlace, PrecedesInPlace};
+ghost use Rattle.camp_seq.specs.Inside.InPlace.{ComesUpTo, GoesPast, PassesInPlace, PrecedesInPlace};
 ghost use Rattle.camp_seq.specs.Passing.{Passes, PassesAll, PassesWithLast};
 
 use crate::Seq;
 use crate::fast::is_stopped;
-use camp_prim::{Named, commute_neighbours};
+use camp_prim::{Named, commute_in_place};
 use std::alloc::AllocError;
-use std::mem;
 
 /// `Some((s', p'))` where `p` and then `s` are the same as `s'` and then `p'`: `p` is commuted past
 /// every primitive of `s`. None where it can't pass.
@@ -143,15 +142,4 @@ pub(crate) fn come_forward(s: &mut [Named], p: &mut Named) -> usize
         }
     }
     0
-}
-
-/// Commutes `p` and the `q` behind it, where each stays in its place in memory.
-pub(crate) fn commute_in_place(p: &mut Named, q: &mut Named) -> bool
-    ensures exact { Changes CommutesInPlace (p.old, q.old) result (p.new, q.new) }
-{
-    if !commute_neighbours(p, q) {
-        return false;
-    }
-    mem::swap(p, q);
-    true
 }

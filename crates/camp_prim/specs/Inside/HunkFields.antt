@@ -1,10 +1,16 @@
 -- How a hunk lies in its fields.
+use Rattle.std.specs.Prelude.{if◌then◌else◌}
 use Rattle.camp_prim.specs.Hunks.{Edit, IsInRange}
 use Rattle.camp_prim.specs.declared.hunks.Hunk.TheInside.{Inside}
 
 -- the hunk that the fields stand for
 abbrev pub edit_of : Inside → Edit
-edit_of hunk = record { path = hunk.path; line = hunk.line; old = hunk.old; new = hunk.new }
+edit_of hunk = record {
+  path = hunk.body.path;
+  line = hunk.line;
+  old = if hunk.flipped then hunk.body.new else hunk.body.old;
+  new = if hunk.flipped then hunk.body.old else hunk.body.new;
+}
 
 -- it is in range
 abbrev pub IsHunk : Inside → Type 0

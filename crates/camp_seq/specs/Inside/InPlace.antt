@@ -6,10 +6,6 @@ use Rattle.camp_prim.specs.declared.labels.Label.{Label}
 use Rattle.camp_prim.specs.declared.named.Named.{Named}
 use Rattle.camp_seq.specs.Passing.{Passes, Fronts, Parts}
 
--- p and the q behind it, each in its own place: p becomes p', and q becomes q'
-abbrev pub CommutesInPlace : Named × Named → Named × Named → Type 0
-CommutesInPlace old new = Commute old.0 old.1 new.1 new.0
-
 -- s p ~ p' s': p is commuted to before every element of s
 abbrev pub Precedes : List Named → Named → Named → List Named → Type 0
 Precedes [] p p' s' = (p' ≡ p) × (s' ≡ [])

@@ -5,8 +5,8 @@ ghost use Rattle.camp_seq.specs.Inside.Insertions.{GoesBack, Placed, StandsAt, S
 ghost use Rattle.camp_seq.specs.NormalOrder.{Norm};
 ghost use Rattle.camp_seq.specs.Room.{HasRoom};
 
-use crate::passes::{come_forward, commute_in_place};
-use camp_prim::{Named, has_less_label};
+use crate::passes::come_forward;
+use camp_prim::{Named, commute_in_place, has_less_label};
 
 /// Puts a list with room in normal order: one element after the other is put in its place among
 /// those before it. n elements take at most n * (n - 1) commuting steps.
