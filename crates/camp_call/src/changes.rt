@@ -10,11 +10,12 @@ use std::slice;
 /// The changes of a patch in the order in which they are made: 1 to 64 of them.
 #[derive(Debug, Drop)]
 pub struct Changes {
-    prims: Kept,
+    prims: Held,
 }
 
+// Most patches have one change. A copy of it takes no memory.
 #[derive(Debug, Drop)]
-enum Kept {
+enum Held {
     One(Primitive),
     Many(Vec<Primitive>),
 }
@@ -23,13 +24,13 @@ impl Model for Changes {
     ghost use Rattle.std.specs.Prelude.{List};
     ghost use Rattle.camp_prim.specs.declared.primitives.Primitive.{Primitive};
     ghost use Rattle.camp_call.specs.Patches.{IsPatchSized};
-    ghost use Rattle.camp_call.specs.Inside.ChangesFields.{changes_of};
+    ghost use Rattle.camp_call.specs.Inside.ChangesFields.{held_changes};
 
     ghost Value = { List Primitive };
 
-    ghost view = { λ changes. changes_of changes.prims };
+    ghost view = { λ changes. held_changes changes.prims };
 
-    ghost invariant = { λ changes. IsPatchSized (changes_of changes.prims) };
+    ghost invariant = { λ changes. IsPatchSized (held_changes changes.prims) };
 }
 
 impl Changes {
@@ -44,12 +45,12 @@ impl Changes {
         }
         if prims.len() > 1 {
             return Some(Changes {
-                prims: Kept::Many(prims),
+                prims: Held::Many(prims),
             });
         }
         match prims.pop() {
             Some(prim) => Some(Changes {
-                prims: Kept::One(prim),
+                prims: Held::One(prim),
             }),
             None => None,
         }
@@ -60,8 +61,8 @@ impl Changes {
         ensures sized { IsPatchSized self.now }
     {
         match &self.prims {
-            Kept::One(prim) => slice::from_ref(prim),
-            Kept::Many(prims) => prims,
+            Held::One(prim) => slice::from_ref(prim),
+            Held::Many(prims) => prims,
         }
     }
 
@@ -71,8 +72,8 @@ impl Changes {
         ensures exact { IfOk result (λ copy. copy ≡ self.now) }
     {
         let prims = match &self.prims {
-            Kept::One(prim) => Kept::One(prim.try_clone()?),
-            Kept::Many(prims) => Kept::Many(copies(prims)?),
+            Held::One(prim) => Held::One(prim.try_clone()?),
+            Held::Many(prims) => Held::Many(copies(prims)?),
         };
         Ok(Changes { prims })
     }
