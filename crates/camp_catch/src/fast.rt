@@ -1,15 +1,15 @@
 //! Faster ways to the results of the rules. Each says when it may be taken; there its result is that
 //! of the rule.
 //!
-//! - Two plain catches that keep their lines commute as they are, and so they merge, by the square law. No catch is made
+//! - Two plain catches that keep their lines commute as they are, and merge as they are too, by the square law. No catch is made
 //!   anew. One that is made is not compared with the one before, which takes longer than to keep both.
 //! - A plain catch and a conflictor commute as they are where the plain one is not in the
 //!   conflictor's set, passes its effect as it is, and leaves its conflicts and its identity as they are.
 //!   A plain one comes before a conflictor so where its inverse passes it so, by the square law of commuting.
 //! - Two conflictors without an effect commute as they are where the first is not in the set of the
 //!   second, nor in the context of its identity: what would be added to the sets is empty. Where the first is
-//!   one of several in the set of the second, it leaves that set, and the second joins its own, whatever has joined
-//!   that before.
+//!   one of several in the set of the second, it leaves that set, and the second joins the set of the first,
+//!   whatever has joined that before.
 //! - A plain catch and a conflictor of one state stay as they are where the inverse of the plain one
 //!   passes the conflictor so, and the two do not conflict.
 //! - Of the last catch of a pull the other side is not made: what the branch itself would become beside

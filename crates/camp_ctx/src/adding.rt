@@ -121,8 +121,8 @@ fn copy_with_room(x: &Contexted, more: usize) -> Result<Seq, AllocError>
     Ok(copy)
 }
 
-/// Adds a primitive to a context and the patch behind it, in their places in memory. What is told is whether the
-/// context is known to be its own normal order, and so is what is answered.
+/// Adds a primitive to a context and the patch behind it, in their places in memory. `told` and the answer: whether
+/// the context is known to be its own normal order, before and then.
 fn add_to(a: &Named, context: &mut Seq, patch: &mut Named, told: bool) -> Result<bool, AllocError>
     requires { IsTrue told → Norm context.old context.old }
     ensures adds { IfOk result (λ told. Adds a.now (behind context.old patch.old) (behind context.new patch.new)) }
@@ -140,8 +140,9 @@ fn add_to(a: &Named, context: &mut Seq, patch: &mut Named, told: bool) -> Result
     Ok(told)
 }
 
-/// Puts a context in normal order that a primitive has passed, as it has the patch behind it. It is so where it was
-/// so before, and there is room. The answer tells whether it is known to be its own normal order then.
+/// Puts a context in normal order that `a` has passed, as it has the patch behind it. It is so where it was so
+/// before, and `a^`, the context and the patch have room: they do where `a` and these have room to merge, since `a^`
+/// reaches as far as `a`. The answer: whether it is known to be its own normal order then.
 fn order_passed(a: &Named, context: &mut Seq, patch: &Named, told: bool) -> bool
     requires { IsTrue told → KeepsOrder a.now context.old patch.now }
     ensures order { Norm context.old context.new }

@@ -1,4 +1,4 @@
-//! Catches that go behind others one by one, and gain conflicts on the way.
+//! Catches that go behind others one by one, or let others pass, and gain conflicts on the way.
 ghost use Rattle.std.specs.Prelude.{◌≡◌, IfOk};
 ghost use Rattle.camp_base.specs.Answers.{Changes};
 ghost use Rattle.camp_catch.specs.Catches.{catch_key};
@@ -7,7 +7,7 @@ ghost use Rattle.camp_catch.specs.Inside.Meetings.{MeetAs};
 ghost use Rattle.camp_catch.specs.declared.catches.Catch.{Catch as AnyCatch};
 
 use crate::fast::behind::merge_behind;
-use crate::fast::passing::{Passing, passing_of};
+use crate::fast::passing::{Passing, has_no_effect, passing_of};
 use crate::merging_lists::merge_one;
 use crate::moves::commute_in_place;
 use crate::{Catch, Conflictor};
@@ -225,10 +225,10 @@ fn meeting_of(j: &Catch, k: &Catch) -> Result<Meeting, AllocError>
 fn meeting_of_two(j: &Conflictor, k: &Conflictor) -> Result<Meeting, AllocError>
     ensures { IfOk result (MeetAs (AnyCatch.Conflictor j.now) (AnyCatch.Conflictor k.now)) }
 {
-    if !j.effect.items().is_empty() {
+    if !has_no_effect(j) {
         return Ok(Meeting::Unknown);
     }
-    if !k.effect.items().is_empty() {
+    if !has_no_effect(k) {
         return Ok(Meeting::Unknown);
     }
     let in_conflict = conflict(&j.identity, &k.identity)?;

@@ -31,7 +31,8 @@ pub(crate) fn passing_of(j: &Catch, k: &Catch) -> Result<Passing, AllocError>
     }
 }
 
-/// How a conflictor passes another one where neither has an effect: it may have that in its set, or not.
+/// How a conflictor passes another one where neither has an effect: where it has that in its set, that leaves
+/// it; else both stay.
 fn passing_of_two(j: &Conflictor, k: &Conflictor) -> Result<Passing, AllocError>
     ensures { IfOk result (PassAs (AnyCatch.Conflictor j.now) (AnyCatch.Conflictor k.now)) }
 {
@@ -47,7 +48,7 @@ fn passing_of_two(j: &Conflictor, k: &Conflictor) -> Result<Passing, AllocError>
     }
 }
 
-/// `([], X, i) ([], Y, l) <-> ([], Y, l) ([], X, i)`, but where `j` is in the context of `l`
+/// `([], X, i) ([], Y, l) <-> ([], Y, l) ([], X, i)`, unless `j` is in the context of `l`
 fn passing_aside(j: &Conflictor, k: &Conflictor) -> Passing
     requires first { j.now.effect ≡ [] }
     requires second { k.now.effect ≡ [] }
@@ -60,7 +61,7 @@ fn passing_aside(j: &Conflictor, k: &Conflictor) -> Passing
     Passing::Unknown
 }
 
-/// `([], X, i) ([], Y, l) <-> ([], Y without j, l) ([], X and l, i)`, but where `j` is alone in `Y`
+/// `([], X, i) ([], Y, l) <-> ([], Y without j, l) ([], X and l, i)`, unless `j` is alone in `Y`
 fn passing_out(j: &Conflictor, k: &Conflictor) -> Result<Passing, AllocError>
     requires first { j.now.effect ≡ [] }
     requires second { k.now.effect ≡ [] }
@@ -83,7 +84,7 @@ fn passing_out(j: &Conflictor, k: &Conflictor) -> Result<Passing, AllocError>
 }
 
 /// Whether a conflictor has no effect.
-fn has_no_effect(k: &Conflictor) -> bool
+pub(crate) fn has_no_effect(k: &Conflictor) -> bool
     ensures { IsTrue result ↔ (k.now.effect ≡ []) }
 {
     k.effect.items().is_empty()
