@@ -1,9 +1,10 @@
 -- The stages of a pull, put together.
+use Rattle.std.specs.Prelude.{MatchOption}
 use Rattle.std.specs.Result.{MatchResult}
 use Rattle.camp_catch.specs.Making.{ComesTo}
 use Rattle.camp_catch.specs.declared.faults.Unmade.{Unmade}
 use Rattle.camp_catch.proofs.Making.{blocks_too}
-use Rattle.camp_branch.proofs.Words.{ℕ, List, ◌++◌, Result, Ok, Err, refl, ap, inl, inr, Arrange, Align, keys_of, MergeLists, Catch, DependsIn, DivergesFrom, DivergesIn, DoesNotMerge, PullBy, Blocked, ◌≡◌, DiffersAt}
+use Rattle.camp_branch.proofs.Words.{Option, None, Some, false, true≢false, is_some, ℕ, List, [], ◌∷◌, ◌++◌, append-nil, append_assoc, arith, subst, ArrangesBehind, Result, Ok, Err, refl, ap, inl, inr, Arrange, Align, keys_of, MergeLists, Catch, DependsIn, DivergesFrom, DivergesIn, DoesNotMerge, PullBy, Blocked, ◌≡◌, DiffersAt}
 
 -- what is said of either answer follows from what is said of it before
 pub either_answer : {X W : Type 0} (P P' : X → Type 0) (Q Q' : W → Type 0) → ((x : X) → P x → P' x) → ((w : W) → Q w → Q' w) → (answer : Result X (Unmade W)) → ComesTo (λ a. MatchResult a P Q) answer → ComesTo (λ a. MatchResult a P' Q') answer
@@ -36,6 +37,17 @@ module _ (common : List (List ℕ)) (from to : List Catch) (wanted : List (List 
         pub merges : Align (keys_of to_common) from_common to_common → (taken : List Catch) → (beside : List Catch) × MergeLists chosen others taken beside → PullBy common from to wanted (Ok (to ++ taken))
         merges same taken w =
             inl (from_common, behind, theirs, inl (chosen, left, choice, inl (to_common, others, ours, inl (same, inl (taken, w.0, w.1, refl)))))
+
+-- what holds where nothing is found
+pub none_found : {X P : Type 0} (Q : X → Type 0) (found : Option X) → is_some found ≡ false → MatchOption found P Q → P
+none_found Q None none told = told
+none_found Q (Some x) some told = absurd (true≢false some)
+
+-- no catch is of no patches: all of a list are others
+pub none_arranged : (rest list : List Catch) → ArrangesBehind [] rest list [] (rest ++ list)
+none_arranged rest [] = (refl, append-nil rest)
+none_arranged rest (k ∷ list) =
+    inr ((λ is. omega (arith, is.1)), subst (λ l. ArrangesBehind [] (rest ++ k ∷ []) list [] l) (append_assoc rest (k ∷ []) list) (none_arranged (rest ++ k ∷ []) list))
 
 -- the lists differ, or are the same, as the rests of them
 pub record DiffersOn (list others rest more : List Catch) : Type 0 where

@@ -1,4 +1,4 @@
-ghost use Rattle.std.specs.Prelude.{◌≡◌, ◌++◌, List, IfOk, MatchOption, Ok as ok, Err as err};
+ghost use Rattle.std.specs.Prelude.{◌≡◌, ◌++◌, [], List, IfOk, MatchOption, Ok as ok, Err as err};
 ghost use Rattle.std.specs.Result.{MatchResult};
 ghost use Rattle.camp_catch.specs.Arranging.{Align, Arrange};
 ghost use Rattle.camp_catch.specs.Laws.{keys_of};
@@ -28,11 +28,29 @@ pub(crate) fn pull(
         (λ taken. PullBy (names_in common.now) from.now to.now (names_in wanted.now) (ok (to.now ++ taken.items)))
         (λ blocked. PullBy (names_in common.now) from.now to.now (names_in wanted.now) (err blocked))) result }
 {
+    if common.is_empty() {
+        return pull_of_none_common(alloc, from, to, wanted);
+    }
     let theirs = common_first(alloc, from, common)?;
     let chosen = wanted_next(alloc, &theirs.rest, wanted)?;
     let ours = common_first(alloc, to, common)?;
     same_front(alloc, &theirs.first, &ours.first)?;
     merged_last(alloc, &chosen.first, &ours.rest)
+}
+
+/// The same by no common name: nothing has to come to the front but what is wanted.
+fn pull_of_none_common(
+    alloc: Global,
+    from: &[Shared<Catch>],
+    to: &[Shared<Catch>],
+    wanted: &NameSet,
+) -> Result<Vec<Shared<Catch>>, Unmade<Blocked>>
+    ensures exact { ComesTo (λ answer. MatchResult answer
+        (λ taken. PullBy [] from.now to.now (names_in wanted.now) (ok (to.now ++ taken.items)))
+        (λ blocked. PullBy [] from.now to.now (names_in wanted.now) (err blocked))) result }
+{
+    let chosen = wanted_next(alloc, from, wanted)?;
+    merged_last(alloc, &chosen.first, to)
 }
 
 /// The common patches, and behind them the others.
@@ -72,7 +90,8 @@ pub(crate) fn wanted_next(
     }
 }
 
-/// Looks whether the common patches of one branch are those of the other in the other's order.
+/// Looks whether the common patches of one branch are those of the other in the other's order. Where both lists are
+/// the same, they are: a list is in its own order.
 pub(crate) fn same_front(
     alloc: Global,
     from_common: &[Shared<Catch>],
@@ -82,6 +101,9 @@ pub(crate) fn same_front(
         (λ _. Align (keys_of to_common.now) from_common.now to_common.now)
         (DivergesFrom from_common.now to_common.now)) result }
 {
+    if first_difference(from_common, to_common).is_none() {
+        return Ok(());
+    }
     let order = keys(alloc, to_common)?;
     match align(alloc, from_common, &order) {
         Ok(aligned) => match first_difference(&aligned, to_common) {
