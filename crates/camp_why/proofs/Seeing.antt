@@ -1,13 +1,14 @@
 -- What is told of a line with a fault is to be seen there.
 use Rattle.std.specs.List.{list_any}
 use Rattle.std.specs.Prelude.{codes}
+use Rattle.std.proofs.Common.{inl, inr}
 use Rattle.camp_why.proofs.Words.{◌||◌, ◌&&◌, ◌≡◌, ◌∙◌, ℕ, Bool, true, false, false≢true, cond, List, ap, bytes_eq, bytes_eq-Decides, refl, sym}
 use Rattle.camp_base.specs.Signs.{is_capital_letter}
 use Rattle.camp_script.specs.Lines.{words_of}
 use Rattle.camp_script.specs.Pieces.{begins_with}
 use Rattle.camp_script.specs.declared.faults.FaultKind.{FaultKind}
 use Rattle.camp_script.specs.declared.faults.FaultKind.TheVariants as kind
-use Rattle.camp_why.specs.Hints.{HasNoForm, HintsAreSeen, IsPlain, IsSeen, ShowsNothing, begins, begins_blank, begins_end, begins_inner, begins_quoted, begins_record, begins_signed, begins_zero, command_word, edit_hint, ends_in_return, faulty, first_word, form_hint, has_quote, has_return, has_zero_in_front, hint, is_capital_end, is_cut, is_empty, is_end, is_quote, is_return, is_returned_end, is_strange, is_zero, line_hint, misnamed, number_word, path_word, unsigned_hint, word_hint}
+use Rattle.camp_why.specs.Hints.{HasNoForm, HintsAreSeen, IsOfCommand, IsPlain, IsSeen, ShowsNothing, begins, begins_blank, begins_end, begins_inner, begins_quoted, begins_record, begins_signed, begins_zero, command_word, edit_hint, ends_in_return, faulty, first_word, form_hint, has_quote, has_return, has_zero_in_front, hint, is_capital_end, is_cut, is_empty, is_end, is_quote, is_return, is_returned_end, is_strange, is_zero, line_hint, misnamed, number_word, path_word, unsigned_hint, word_hint}
 use Rattle.camp_why.specs.declared.hints.Hint.{Hint}
 use Rattle.camp_why.specs.declared.hints.Hint.TheVariants as seen
 
@@ -48,10 +49,10 @@ module _ (k : FaultKind) (line : List ℕ) (returns : has_return k line ≡ ends
       pick (IsSeen k line) (list_any is_quote (faulty k line)) seen.Quotes _ (λ e. quotes ∙ e) (λ none.
       pick (IsSeen k line) (list_any is_capital_letter (faulty k line)) seen.Capitals other (λ e. e) (λ none. else_so))))
 
-  in_line : (other : Hint) → IsSeen k line other → IsSeen k line (line_hint line (faulty k line) other)
-  in_line other else_so =
+  in_line : IsOfCommand k → (other : Hint) → IsSeen k line other → IsSeen k line (line_hint line (faulty k line) other)
+  in_line is other else_so =
       pick (IsSeen k line) (is_cut line) seen.TooLong _ (λ e. e) (λ none.
-      pick (IsSeen k line) (begins_signed (first_word (words_of line))) seen.OfBody _ (λ e. e) (λ none. in_word other else_so))
+      pick (IsSeen k line) (begins_signed (first_word (words_of line))) seen.OfBody _ (λ e. (is, e)) (λ none. in_word other else_so))
 
 module _ (k : FaultKind) (line : List ℕ) where
   in_form : k ≡ kind.UnknownCommand → IsSeen k line (form_hint line)
@@ -80,8 +81,8 @@ module _ (k : FaultKind) (line : List ℕ) where
         pick (IsSeen k line) (begins (codes "+") line) seen.Nothing _ (λ e. tt) (λ plus. unsigned (no_sign line minus plus) no_end some)))))))
 
 is_so : (kind : FaultKind) (line : List ℕ) → IsSeen kind line (hint kind line)
-is_so kind.UnknownCommand line = in_line kind.UnknownCommand line refl refl (form_hint line) (in_form kind.UnknownCommand line refl)
-is_so kind.BadGroup line = in_line kind.BadGroup line refl refl seen.Nothing tt
+is_so kind.UnknownCommand line = in_line kind.UnknownCommand line refl refl (inl refl) (form_hint line) (in_form kind.UnknownCommand line refl)
+is_so kind.BadGroup line = in_line kind.BadGroup line refl refl (inr refl) seen.Nothing tt
 is_so kind.BadName line = in_word kind.BadName line refl refl seen.Nothing tt
 is_so kind.WrongNumberOfWords line =
     pick (IsSeen kind.WrongNumberOfWords line) (list_any is_return (words_of line)) seen.CarriageReturn _ (λ e. e) (λ none.

@@ -1,5 +1,5 @@
 -- What is to be seen in a line that has a fault.
-use Rattle.std.specs.Prelude.{◌≡◌, ℕ, Bool, true, false, not, ◌&&◌, ◌||◌, ◌==◌, List, [], ◌∷◌, length, slice_index, bytes_eq, codes, if◌then◌else◌}
+use Rattle.std.specs.Prelude.{◌≡◌, ◌⊎◌, ℕ, Bool, true, false, not, ◌&&◌, ◌||◌, ◌==◌, List, [], ◌∷◌, length, slice_index, bytes_eq, codes, if◌then◌else◌}
 use Rattle.std.specs.List.{ends_with, list_any, starts_with}
 use Rattle.camp_base.specs.Bytes.{is_name}
 use Rattle.camp_base.specs.Signs.{is_capital_letter, is_printing, quote, tab}
@@ -243,11 +243,15 @@ abbrev pub has_quote : FaultKind → List ℕ → Bool
 has_quote WrongNumberOfWords line = list_any begins_quoted (words_of line)
 has_quote kind line = list_any is_quote (faulty kind line)
 
--- what is told of a line with a fault of a kind is to be seen there; and what only a line of one kind can show is told of
--- that kind alone
+-- a fault of the first word of a line: it is no command, or none that a group may have
+abbrev pub IsOfCommand : FaultKind → Type 0
+IsOfCommand kind = (kind ≡ UnknownCommand) ⊎ (kind ≡ BadGroup)
+
+-- what is told of a line with a fault of a kind is to be seen there; and what only lines of some kinds can show is told of
+-- those kinds alone
 abbrev pub IsSeen : FaultKind → List ℕ → Hint → Type 0
 IsSeen kind line seen.Nothing = Unit {0}
-IsSeen kind line seen.OfBody = begins_signed (first_word (words_of line)) ≡ true
+IsSeen kind line seen.OfBody = IsOfCommand kind × (begins_signed (first_word (words_of line)) ≡ true)
 IsSeen kind line seen.OfScript = (kind ≡ UnknownCommand) × (begins_with (codes "client") (words_of line) ≡ true)
 IsSeen kind line seen.NoChange = (kind ≡ UnknownCommand) × (begins_record line ≡ true)
 IsSeen kind line seen.NoCall = (kind ≡ UnknownCommand) × (begins_with (codes "whatif") (words_of line) ≡ true)
