@@ -71,7 +71,8 @@ impl Tree {
         }
     }
 
-    /// The file at a place in the order of the paths: its path and its lines.
+    /// The file at a place in the order of the paths: its path and its lines. It goes over the parts before it
+    /// each time; `iter` goes over all files in one pass.
     pub fn at(&self, index: usize) -> Option<(&Path, &SharedList<Line>)>
         ensures exact { MatchOption result
             (slice_get (map.entries self.now) index ≡ None)

@@ -1,10 +1,11 @@
 //! Callers of `camp_base`.
-ghost use Rattle.std.specs.Prelude.{◌≡◌, OnOk, IsErrOf, IsSome};
-ghost use Rattle.std.specs.FinMap.{get};
+ghost use Rattle.std.specs.Prelude.{◌≡◌, IfOk, OnOk, IsErrOf, IsSome};
+ghost use Rattle.std.specs.FinMap.{get, keys};
 ghost use Rattle.camp_base.specs.declared.faults.Apply.TheVariants as apply;
 
 use camp_base::{Apply, Path, Tree};
 use camp_prim::{applied_is_applies, inverse_leads_back};
+use std::alloc::{AllocError, Global};
 
 /// A file that is added and taken away again leaves the tree as it was.
 pub fn add_and_remove(tree: &mut Tree, path: &Path) -> Result<(), Apply>
@@ -17,4 +18,15 @@ pub fn add_and_remove(tree: &mut Tree, path: &Path) -> Result<(), Apply>
         Ok(()) => tree.remove_file(path),
         Err(fault) => Err(fault),
     }
+}
+
+/// The paths of the files of a tree, in the order of their bytes.
+pub fn paths(alloc: Global, tree: &Tree) -> Result<Vec<Path>, AllocError>
+    ensures exact { IfOk result (λ paths. paths.items ≡ keys tree.now) }
+{
+    let mut paths = Vec::with_capacity(alloc, tree.len())?;
+    for (path, _) in tree.iter() {
+        paths.push(path.try_clone()?)?;
+    }
+    Ok(paths)
 }
