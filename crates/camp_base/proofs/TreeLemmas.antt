@@ -2,7 +2,7 @@
 use Rattle.camp_base.proofs.Words.{Decides-and, ◌≡◌, ◌↔◌, ℕ, ◌+◌, ◌-◌, Bool, true, false, ◌&&◌, T, List, [], length, Option, is_some, arith, None, Some, Ok, Err, Result, IsTrue, eqb, sym, ap, subst, ◌∙◌, refl, Decides, nil_from_length, nat_tests, Decides-eqb, slice_eq-Decides, nat_cmp, slice_cmp, pointwise, splice, Steps, StandsAt, Lines}
 use Rattle.camp_base.proofs.Words.{Files, Adds, Removes, Splices, SplicesLines}
 use Rattle.std.proofs.lemmas.Bool.{false≢true}
-use Rattle.std.proofs.lemmas.Option.{same_Some, none-some}
+use Rattle.std.proofs.lemmas.Option.{same_Some}
 use Rattle.std.specs.FinMap.{entries, entries-from_sorted}
 use Rattle.std.specs.FinMap.Entries.{is_sorted}
 use Rattle.camp_share.specs.Maps.{map_of}
@@ -49,19 +49,7 @@ module _ (path : List ℕ) (tree : Files) where
   adds_file files told lines is answers untold none =
       record { absent = ap (λ t. map.get t path) (sym is) ∙ unfound _ (sym answers ∙ untold); becomes = ap (map.insert tree path) none }
 
-  pub not_added : (lines : Lines) (new : Files) → map.get tree path ≡ Some lines → ¬ (Adds path tree new)
-  not_added lines new found adds = none-some _ (sym adds.absent ∙ found)
-
-  pub not_removed : (new : Files) → map.get tree path ≡ None → ¬ (Removes path tree new)
-  not_removed new absent removes = none-some _ (sym absent ∙ removes.empty)
-
-  pub not_spliced : (line : ℕ) (gone come : Lines) (new : Files) → map.get tree path ≡ None → ¬ (Splices path line gone come tree new)
-  not_spliced line gone come new absent splices = none-some _ (sym absent ∙ splices.found)
-
   module _ (lines : Lines) (found : map.get tree path ≡ Some lines) where
-    pub not_emptied : (size : ℕ) (new : Files) → size ≡ length lines → ¬ (size ≡ 0) → ¬ (Removes path tree new)
-    not_emptied size new told some removes = some (told ∙ ap length (same_Some _ _ (sym found ∙ removes.empty)))
-
     pub splices_lines : (line : ℕ) (gone come changed : Lines) → changed ≡ splice lines (line - 1) (line - 1 + length gone) come → StandsAt line gone lines → Splices path line gone come tree (map.insert tree path changed)
     splices_lines line gone come changed becomes at =
         record { lines = lines; changed = changed; found = found; splices = subst (SplicesLines line gone come lines) (sym becomes) (spliced line gone come lines at); becomes = refl }

@@ -1,5 +1,5 @@
 -- How far two lists of catches are the same.
-use Rattle.camp_branch.proofs.Words.{Agree, Align, Catch, List, [], ap, append_assoc, arith, drop, keys_of, length, length-append, length-drop, refl, subst, suc, sym, take, zero, ℕ, ◌++◌, ◌+◌, ◌∙◌, ◌∷◌, ◌≡◌, ◌≤◌}
+use Rattle.camp_branch.proofs.Words.{Agree, Align, Catch, List, [], ap, append_assoc, arith, drop, keys_of, length, length-append, length-drop, subst, suc, sym, take, zero, ℕ, ◌++◌, ◌+◌, ◌∙◌, ◌∷◌, ◌≡◌, ◌≤◌}
 use Rattle.std.proofs.Common.{◌≢◌}
 use Rattle.std.proofs.Math.Seq.{take-append_seam}
 use Rattle.camp_branch.specs.Agreeing.{BeginAlike, ReachesAll}
@@ -12,10 +12,6 @@ pub record AlikeSoFar (from to rest others : List Catch) (n : ℕ) : Type 0 wher
   pub is : from ≡ front ++ rest
   pub is_too : to ≡ front ++ others
   pub long : length front ≡ n
-
--- before the first
-pub alike_at_first : (from to : List Catch) → AlikeSoFar from to from to 0
-alike_at_first from to = record { front = []; is = refl; is_too = refl; long = refl }
 
 -- one more is the same
 pub alike_once_more : {from to rest others : List Catch} {n : ℕ} (j k : Catch) → AlikeSoFar from to (j ∷ rest) (k ∷ others) n → j ≡ k → AlikeSoFar from to rest others (n + 1)
@@ -51,10 +47,6 @@ alike_up_to {rest = rest} {others} j k so ne =
 pub alike_to_the_end : {from to others : List Catch} {n : ℕ} → AlikeSoFar from to [] others n → DifferBehind from to n
 alike_to_the_end {others = others} so =
     rw (so.is, so.is_too, ← so.long) (record { alike = alike_front so.front [] others; most = λ m w. let h = w.within in omega (arith, length-append so.front []) })
-
-pub alike_to_the_other_end : {from to rest : List Catch} {n : ℕ} → AlikeSoFar from to rest [] n → DifferBehind from to n
-alike_to_the_other_end {rest = rest} so =
-    rw (so.is, so.is_too, ← so.long) (record { alike = alike_front so.front rest []; most = λ m w. let h = w.within_too in omega (arith, length-append so.front []) })
 
 -- fronts that agree still do with the same catches behind both
 pub agree_with_alike : (from to : List Catch) (known n : ℕ) → Agree from to known → BeginAlike (drop known from) (drop known to) n → Agree from to (known + n)

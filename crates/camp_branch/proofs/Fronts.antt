@@ -1,5 +1,5 @@
 -- The front of a branch that stays as it is: what stands behind it is arranged alone.
-use Rattle.camp_branch.proofs.Words.{◌≡◌, ◌≤◌, ◌+◌, ◌-◌, ◌++◌, ◌&&◌, ℕ, zero, suc, Bool, true, false, not, cond, Ok, Err, List, [], ◌∷◌, take, drop, length, refl, sym, ap, ◌∙◌, subst, arith, length-drop, take_all, contains_key, keys, slice_range, Key, Arrange, ArrangeSticks, Catch, IsLawfulBranch, has_patch, is_among, name_of, front_of, DependsIn, ObliterateGives, Blocked, cond_both, take-append-drop}
+use Rattle.camp_branch.proofs.Words.{◌≡◌, ◌≤◌, ◌+◌, ◌-◌, ◌++◌, ◌&&◌, ℕ, zero, suc, Bool, true, false, not, cond, Ok, Err, List, [], ◌∷◌, take, drop, length, refl, sym, ap, ◌∙◌, subst, arith, contains_key, keys, Key, Arrange, ArrangeSticks, Catch, IsLawfulBranch, has_patch, is_among, name_of, front_of, DependsIn, ObliterateGives, Blocked, cond_both, take-append-drop}
 use Rattle.camp_branch.proofs.BranchFields.{Names}
 use Rattle.camp_branch.proofs.KeepLawful.{obliterates_keep_lawful}
 use Rattle.camp_branch.proofs.NameSets.{has_listed}
@@ -45,12 +45,6 @@ module _ (names : Names) (list rest more : List Catch) (k : Catch) (name : List 
 
   pub fewer_behind : (n : ℕ) → front + length rest ≡ n → front + 1 + length more ≡ n
   fewer_behind n behind = omega (arith, ap length is)
-
--- what stands behind a place
-pub behind_place : (catches own behind : List Catch) (start n : ℕ) → n ≡ length catches → catches ≡ own → behind ≡ slice_range catches start n → behind ≡ drop start own
-behind_place catches own behind start n is was part =
-    let long = length-drop start catches in
-    part ∙ take_all (n - start) (drop start catches) (omega (is, long, arith)) ∙ ap (drop start) was
 
 -- what stands behind a beginning that stays, and which names stay
 pub record StaysInFront (own : List Catch) (gone : List (List ℕ)) (staying : Names) (start : ℕ) (behind : List Catch) : Type 0 where

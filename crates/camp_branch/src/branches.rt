@@ -1,4 +1,5 @@
 ghost use Rattle.std.specs.Prelude.{◌≡◌, ◌≤◌, ◌++◌, ℕ, List, [], false, length, take, drop, IfOk};
+ghost use Rattle.std.specs.Cow.{cow_slice_items};
 ghost use Rattle.std.specs.FinMap.{empty as no_files};
 ghost use Rattle.camp_base.specs.Limits.{most_changes};
 ghost use Rattle.camp_base.specs.Trees.{Files};
@@ -22,6 +23,7 @@ use camp_catch::{Catch, Unmade};
 use camp_prim::{Named, Primitive};
 use camp_share::{Share, Shared, SharedList, SharedMap};
 use std::alloc::{AllocError, Global};
+use std::borrow::CowSlice;
 use std::marker::Model;
 
 /// A branch: its catches in the order in which they came, and the tree that they lead to. A branch
@@ -205,8 +207,8 @@ impl Branch {
     {
         let staying = name_sets::without(&self.names, names)?;
         let start = name_sets::front(&self.catches, &staying);
-        let behind = self.catches.range_to_vec(start, self.catches.len())?;
-        let arranged = wanted_next(self.catches.allocator(), &behind, &staying)?;
+        let rest = behind(&self.catches, start)?;
+        let arranged = wanted_next(self.catches.allocator(), &rest, &staying)?;
         Ok(self.with_end(start, &arranged.first, &arranged.rest, staying)?)
     }
 
@@ -255,11 +257,11 @@ impl Branch {
 fn behind(
     catches: &SharedList<Shared<Catch>>,
     start: usize,
-) -> Result<Vec<Shared<Catch>>, AllocError>
+) -> Result<CowSlice<'_, Shared<Catch>>, AllocError>
     requires { start ≤ length catches.now }
-    ensures { IfOk result (λ list. list.items ≡ drop start catches.now) }
+    ensures { IfOk result (λ list. cow_slice_items list ≡ drop start catches.now) }
 {
-    catches.range_to_vec(start, catches.len())
+    catches.range(start, catches.len())
 }
 
 /// The list with a plain catch behind it for each change, at places from 1.

@@ -35,8 +35,8 @@ pub(crate) fn agreed(
     if more == 0 {
         return Ok(start);
     }
-    let theirs = from.range_to_vec(start, start + more)?;
-    let ours = to.range_to_vec(start, start + more)?;
+    let theirs = from.range(start, start + more)?;
+    let ours = to.range(start, start + more)?;
     match same_front(alloc, &theirs, &ours) {
         Ok(()) => Ok(start + more),
         Err(Unmade::Blocked(_)) => Ok(start),

@@ -9,7 +9,7 @@ use crate::patches::first_with;
 use crate::rows::{CURLY, Row, SQUARE, read_row};
 use crate::{NotationError, label_text, lines_text, list_text, named_text, tree_text, word_text};
 use camp_base::{Line, Name, Path, Tree};
-use camp_prim::{Label, Lines, Named, Primitive};
+use camp_prim::{Body, Label, Named, Primitive};
 use camp_seq::Seq;
 use std::alloc::Global;
 
@@ -190,31 +190,29 @@ fn read_hunk(path: &[u8], line: &[u8], cursor: &mut Cursor) -> Result<Primitive,
     let path = Path::new(cursor.alloc, path)?;
     match read_sides(line, cursor) {
         Ok((line, old, new)) => {
-            Primitive::hunk(cursor.alloc, path, line, old, new)?.ok_or(NotationError::NoHunk)
+            let body = Body::new(cursor.alloc, path, old, new)?;
+            Primitive::hunk(body, line).ok_or(NotationError::NoHunk)
         }
         Err(why) => Err(why),
     }
 }
 
 // The line of a hunk, what stands there before it, and what behind it.
-fn read_sides(line: &[u8], cursor: &mut Cursor) -> Result<(u32, Lines, Lines), NotationError> {
+fn read_sides(
+    line: &[u8],
+    cursor: &mut Cursor,
+) -> Result<(u32, Vec<Line>, Vec<Line>), NotationError> {
     let line = read_number(cursor.alloc, line)?;
-    let old = read_side(cursor)?;
+    let old = read_row_of_lines(cursor)?;
     match read_new_side(cursor) {
         Ok(new) => Ok((line, old, new)),
         Err(why) => Err(why),
     }
 }
 
-fn read_new_side(cursor: &mut Cursor) -> Result<Lines, NotationError> {
+fn read_new_side(cursor: &mut Cursor) -> Result<Vec<Line>, NotationError> {
     cursor.expect(b" -> ", '-')?;
-    read_side(cursor)
-}
-
-/// One side of a hunk.
-fn read_side(cursor: &mut Cursor) -> Result<Lines, NotationError> {
-    let lines = read_row_of_lines(cursor)?;
-    Ok(Lines::new(cursor.alloc, lines)?)
+    read_row_of_lines(cursor)
 }
 
 fn read_number(alloc: Global, digits: &[u8]) -> Result<u32, NotationError> {

@@ -7,7 +7,6 @@ pub mod LabelOrder
 pub mod Maps
 pub mod Moving
 pub mod Splices
-pub mod Staying
 pub mod CommuteDecided
 pub mod CommuteEffect
 pub mod CommuteLaws

@@ -1,6 +1,6 @@
 -- Where hunks that commute come to stand.
 use Rattle.camp_prim.proofs.Words.{◌≡◌, ℕ, ◌+◌, ◌<◌, ◌⊎◌, ◌↔◌, Bool, true, false, IsTrue, Option, option_map, Result, Ok, Err, IfErr, length, refl, sym, ap, subst, inl, inr, Lines, InRange, Edit, IsInRange, SameKey, FindsPair, moved, turned, ComesTo, ChangeInRange, at_line, MayPass, Commute, Primitive, Hunk, Named, Targets}
-use Rattle.camp_prim.proofs.CommuteUnique.{same_hunk, hunk_below, hunk_above}
+use Rattle.camp_prim.proofs.CommuteUnique.{same_hunk, hunk_below}
 
 -- the sides of the upper hunk as other names for them have it
 pub comes_along : (upper upper' : ℕ) (takes takes' leaves leaves' : Lines) (lower : Edit) (line : ℕ) → upper ≡ upper' → takes ≡ takes' → leaves ≡ leaves' → ComesTo upper (length takes) (length leaves) lower line → ComesTo upper' (length takes') (length leaves') lower line
@@ -16,16 +16,6 @@ comes_below h k line path r s c = record {
 passes_turned : (gap : ℕ) (h k : Edit) → MayPass gap h k → (0 < gap) ⊎ ((0 < length k.new) × (0 < length k.old) × (0 < length h.old) × (0 < length h.new))
 passes_turned gap h k (inl apart) = inl apart
 passes_turned gap h k (inr full) = inr (full.3, full.2, full.0, full.1)
-
-passes_back : (gap : ℕ) (h k : Edit) → (0 < gap) ⊎ ((0 < length k.new) × (0 < length k.old) × (0 < length h.old) × (0 < length h.new)) → MayPass gap h k
-passes_back gap h k (inl apart) = inl apart
-passes_back gap h k (inr full) = inr (full.2, full.3, full.1, full.0)
-
-pub comes_above : (h k : Edit) (line : ℕ) → h.path ≡ k.path → IsInRange h → IsInRange k → ComesTo k.line (length k.new) (length k.old) h line → ChangeInRange (Hunk h) (Hunk k) (Hunk k) (Hunk (at_line line h))
-comes_above h k line path r s c = record {
-  change = hunk_above h k c.gap refl refl path c.stands (passes_back c.gap h k c.passes) refl (ap (λ l. Hunk (at_line l h)) c.comes);
-  ranges = (r, s, s, c.fits);
-}
 
 pub no_place : (h k : Edit) → h.path ≡ k.path → ((line : ℕ) → ¬ (ComesTo h.line (length h.old) (length h.new) k line)) → ((line : ℕ) → ¬ (ComesTo k.line (length k.new) (length k.old) h line)) → (any : Primitive × Primitive) → ¬ (ChangeInRange (Hunk h) (Hunk k) any.0 any.1)
 no_place h k path below above any c =

@@ -1,4 +1,4 @@
--- Words that serve only private functions and the models of hunks and of their sides.
+-- Words that serve only private functions and the models of hunks and of their bodies.
+pub mod BodyFields
 pub mod HunkFields
-pub mod SideFields
 pub mod Targets

@@ -1,13 +1,13 @@
 ghost use Rattle.std.specs.Prelude.{◌≡◌, ◌+◌, ◌≤◌, ◌↔◌, IfErr, IfOk, IsTrue, MatchOption};
 ghost use Rattle.camp_base.specs.Limits.{greatest_reach};
 ghost use Rattle.camp_prim.specs.Effect.{flipped};
-ghost use Rattle.camp_prim.specs.Hunks.{Edit, IsInRange};
+ghost use Rattle.camp_prim.specs.Hunks.{IsInRange, hunk_of};
 ghost use Rattle.camp_prim.specs.Commuting.{at_line};
 
-use crate::Lines;
+use crate::Body;
 use camp_base::{Line, Path};
-use camp_share::{Share, Shared};
-use std::alloc::{AllocError, Global};
+use camp_share::Share;
+use std::alloc::AllocError;
 use std::marker::Model;
 
 /// The greatest sum of a hunk's line and the numbers of its old and of its new lines.
@@ -17,18 +17,10 @@ const MAX_REACH: usize = 1 << 30;
 /// empty; and the line and the numbers of old and of new lines add up to 2^30 at most.
 #[derive(Debug, Drop)]
 pub struct Hunk {
-    body: Shared<Body>,
+    body: Body,
     line: u32,
     // Whether the sides of the body have changed over.
     flipped: bool,
-}
-
-// What a hunk has wherever it stands. Copies share it by one count.
-#[derive(Debug, Drop)]
-struct Body {
-    path: Path,
-    old: Lines,
-    new: Lines,
 }
 
 impl Model for Hunk {
@@ -44,27 +36,17 @@ impl Model for Hunk {
 }
 
 impl Hunk {
-    pub(crate) fn from_parts(
-        alloc: Global,
-        path: Path,
-        line: u32,
-        old: Lines,
-        new: Lines,
-    ) -> Result<Option<Hunk>, AllocError>
-        ensures exact { let edit : Edit = record { path = path; line = line; old = old; new = new } in
-            IfOk result (λ found. MatchOption found (¬ (IsInRange edit)) (λ hunk. IsInRange edit × (hunk ≡ edit))) }
-        ensures memory { let edit : Edit = record { path = path; line = line; old = old; new = new } in
-            IfErr result (λ error. IsInRange edit) }
+    pub(crate) fn of_body(body: Body, line: u32) -> Option<Hunk>
+        ensures { MatchOption result (¬ (IsInRange (hunk_of body line))) (λ hunk. IsInRange (hunk_of body line) × (hunk ≡ hunk_of body line)) }
     {
-        if !is_in_range(line, old.as_slice().len(), new.as_slice().len()) {
-            return Ok(None);
+        if !is_in_range(line, body.old_lines().len(), body.new_lines().len()) {
+            return None;
         }
-        let body = Shared::new(alloc, Body { path, old, new })?;
-        Ok(Some(Hunk {
+        Some(Hunk {
             body,
             line,
             flipped: false,
-        }))
+        })
     }
 
     /// The path of the file.
@@ -72,7 +54,7 @@ impl Hunk {
         ensures value { result.now ≡ self.now.path }
         ensures in_range { IsInRange self.now }
     {
-        &self.body.path
+        self.body.path()
     }
 
     /// The line at which the old lines begin, and then the new ones.
@@ -88,9 +70,9 @@ impl Hunk {
         ensures exact { result.now ≡ self.now.old }
     {
         if self.flipped {
-            return self.body.new.as_slice();
+            return self.body.new_lines();
         }
-        self.body.old.as_slice()
+        self.body.old_lines()
     }
 
     /// The lines that it puts in their place.
@@ -98,9 +80,23 @@ impl Hunk {
         ensures exact { result.now ≡ self.now.new }
     {
         if self.flipped {
-            return self.body.old.as_slice();
+            return self.body.old_lines();
         }
-        self.body.new.as_slice()
+        self.body.new_lines()
+    }
+
+    /// The same hunk at another line, where it is in range there. It shares its path and its lines with this
+    /// one, by one count, and takes no memory.
+    pub fn moved(&self, line: u32) -> Result<Option<Hunk>, AllocError>
+        ensures exact { IfOk result (λ found. MatchOption found (¬ (IsInRange (at_line line self.now))) (λ hunk. IsInRange (at_line line self.now) × (hunk ≡ at_line line self.now))) }
+        ensures memory { IfErr result (λ error. IsInRange (at_line line self.now)) }
+    {
+        if !self.can_stand_at(line) {
+            return Ok(None);
+        }
+        let mut moved = self.try_clone()?;
+        moved.move_to(line);
+        Ok(Some(moved))
     }
 
     /// The hunk with its sides changed over, which takes it back.

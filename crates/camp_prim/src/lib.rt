@@ -2,6 +2,7 @@
 //! and labelled with a name, a place and a sign.
 #![tactic(auto)]
 
+mod bodies;
 mod commuting;
 mod effect;
 mod hunks;
@@ -9,9 +10,9 @@ mod labels;
 mod named;
 mod neighbours;
 mod primitives;
-mod sides;
 mod stays;
 
+pub use bodies::Body;
 pub use commuting::{both_commute_alike, commute, commute_has_laws, commute_is_unique};
 pub use effect::{applied_is_applies, inverse_leads_back};
 pub use hunks::Hunk;
@@ -19,5 +20,4 @@ pub use labels::{Key, Label, has_less_label, have_same_key, keys_are_ordered, la
 pub use named::Named;
 pub use neighbours::commute_in_place;
 pub use primitives::Primitive;
-pub use sides::Lines;
 pub use stays::{commutes, stay};

@@ -1,12 +1,12 @@
-ghost use Rattle.std.specs.Prelude.{◌≡◌, ◌↔◌, IfErr, IfOk, IsTrue, MatchOption};
+ghost use Rattle.std.specs.Prelude.{◌≡◌, ◌↔◌, IfOk, IsTrue, MatchOption};
 ghost use Rattle.camp_base.specs.Answers.{Answers};
 ghost use Rattle.camp_prim.specs.Effect.{Applies, InRange, inverted};
 ghost use Rattle.camp_prim.specs.Commuting.{path_of};
-ghost use Rattle.camp_prim.specs.Hunks.{Edit, IsInRange};
+ghost use Rattle.camp_prim.specs.Hunks.{IsInRange, hunk_of};
 
-use crate::{Hunk, Lines};
+use crate::{Body, Hunk};
 use camp_base::{Apply, Path, Tree};
-use std::alloc::{AllocError, Global};
+use std::alloc::AllocError;
 
 /// The smallest changes to a tree.
 #[derive(Debug, Drop)]
@@ -20,24 +20,14 @@ pub enum Primitive {
 }
 
 impl Primitive {
-    /// The hunk of these parts. None where the line is 0, where both sides are empty, or where the
-    /// line and the numbers of old and of new lines add up to more than 2^30.
-    pub fn hunk(
-        alloc: Global,
-        path: Path,
-        line: u32,
-        old: Lines,
-        new: Lines,
-    ) -> Result<Option<Primitive>, AllocError>
-        ensures exact { let edit : Edit = record { path = path; line = line; old = old; new = new } in
-            IfOk result (λ found. MatchOption found (¬ (IsInRange edit)) (λ made. IsInRange edit × (made ≡ Primitive.Hunk edit))) }
-        ensures memory { let edit : Edit = record { path = path; line = line; old = old; new = new } in
-            IfErr result (λ error. IsInRange edit) }
+    /// The hunk that has this body at a line. None where the line is 0, where both sides are empty, or
+    /// where the line and the numbers of old and of new lines add up to more than 2^30.
+    pub fn hunk(body: Body, line: u32) -> Option<Primitive>
+        ensures exact { MatchOption result (¬ (IsInRange (hunk_of body line)))
+            (λ made. IsInRange (hunk_of body line) × (made ≡ Primitive.Hunk (hunk_of body line))) }
     {
-        match Hunk::from_parts(alloc, path, line, old, new)? {
-            Some(hunk) => Ok(Some(Primitive::Hunk(hunk))),
-            None => Ok(None),
-        }
+        let hunk = Hunk::of_body(body, line)?;
+        Some(Primitive::Hunk(hunk))
     }
 
     /// The path of the file that it changes.

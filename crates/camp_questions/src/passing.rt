@@ -11,9 +11,8 @@ ghost use Rattle.camp_prim.specs.Commuting.{at_line, path_of};
 ghost use Rattle.camp_prim.specs.declared.primitives.Primitive.TheVariants as primitive;
 ghost use Rattle.camp_questions.specs.Inside.Moving.{ComesBefore, Passes, hunk_at};
 
-use camp_base::Line;
 use camp_ctx::{Contexted, join};
-use camp_prim::{Hunk, Lines, Named, Primitive};
+use camp_prim::{Hunk, Named, Primitive};
 use camp_seq::Seq;
 use std::alloc::{AllocError, Global};
 
@@ -227,30 +226,17 @@ fn moved_to(alloc: Global, x: &Contexted, hunk: &Hunk, line: u32) -> Result<Cont
         name: patch.name,
         place: patch.place,
         inverse: patch.inverse,
-        prim: hunk_moved(alloc, hunk, line)?,
+        prim: hunk_moved(hunk, line)?,
     };
     Contexted::new(alloc, Seq::empty(alloc), moved)
 }
 
-fn hunk_moved(alloc: Global, hunk: &Hunk, line: u32) -> Result<Primitive, AllocError>
+fn hunk_moved(hunk: &Hunk, line: u32) -> Result<Primitive, AllocError>
     requires { IsInRange (at_line line hunk.now) }
     ensures { IfOk result (λ moved. moved ≡ primitive.Hunk (at_line line hunk.now)) }
 {
-    let path = hunk.path().try_clone()?;
-    let old = lines_of(alloc, hunk.old())?;
-    let new = lines_of(alloc, hunk.new())?;
-    let Some(moved) = Primitive::hunk(alloc, path, line, old, new)? else {
+    let Some(moved) = hunk.moved(line)? else {
         unreachable!();
     };
-    Ok(moved)
-}
-
-fn lines_of(alloc: Global, lines: &[Line]) -> Result<Lines, AllocError>
-    ensures { IfOk result (λ side. side ≡ lines.now) }
-{
-    let mut copied = Vec::with_capacity(alloc, lines.len())?;
-    for line in lines {
-        copied.push(line.try_clone()?)?;
-    }
-    Lines::new(alloc, copied)
+    Ok(Primitive::Hunk(moved))
 }

@@ -22,7 +22,7 @@ use crate::records::{OpenEdit, OpenRecord, WholeFile};
 use crate::words::{no_words, number_at, one_word, path_at, two_words};
 use camp_base::{BaseFault, Line, Path};
 use camp_call::MAX_CHANGES;
-use camp_prim::{Lines, Primitive};
+use camp_prim::{Body, Primitive};
 use std::alloc::Global;
 
 /// The greatest sum of the line of an edit and the numbers of its old and of its new lines.
@@ -271,8 +271,8 @@ fn close(alloc: Global, number: u64, edit: OpenEdit) -> Result<Primitive, Script
         old,
         new,
     } = edit;
-    let (old, new) = (Lines::new(alloc, old)?, Lines::new(alloc, new)?);
-    let Some(change) = Primitive::hunk(alloc, path, line, old, new)? else {
+    let body = Body::new(alloc, path, old, new)?;
+    let Some(change) = Primitive::hunk(body, line) else {
         unreachable!();
     };
     Ok(change)

@@ -1,5 +1,6 @@
 pub mod Entries
 mod Found
+mod Lookups
 mod MapLemmas
 mod Parted
 mod PartLemmas

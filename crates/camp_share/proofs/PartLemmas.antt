@@ -1,6 +1,7 @@
 -- Elements and ranges of lists in parts.
 use Rattle.camp_share.proofs.Words.{◌≡◌, ℕ, zero, suc, ◌+◌, ◌-◌, ◌<◌, ◌≤◌, List, [], ◌∷◌, ◌++◌, length, get_or, set, take, drop, Option, None, Some, Bor, sym, ap, subst, ◌∙◌, refl, arith, drop_all, drop-drop, get_or_default, get_or-drop, length-drop, append-nil, append_assoc, length-append, take_more, drop_more, take_all, take-append-drop, take-append-le, drop-append-le}
 use Rattle.camp_share.proofs.Words.{set_split, take-nil, take-append-add, drop-append-add, All, slice_get, slice_range, insert, remove, TakesFirst, deref, option_copied, flat_map-append, recursion_from_All, joined, IsPart, offset, IsPlace, Vec, vec_len}
+use Rattle.std.specs.Prelude.{IfSome, MatchOption}
 use Rattle.std.proofs.lemmas.Option.{slice_get_past, slice_get_read}
 use Rattle.std.specs.List.{AllByRecursion, splice}
 
@@ -11,6 +12,11 @@ length_told lent part n same told = told ∙ lent.ok.0 ∙ ap (λ (p : Vec _ _).
 -- what is read twice at one place is the same
 pub read_twice : {A : Type 0} (xs : List A) (i : ℕ) (x y : A) → i < length xs → x ≡ get_or xs i x → y ≡ get_or xs i y → x ≡ y
 read_twice xs i x y within one other = one ∙ get_or_default xs i x y within ∙ sym other
+
+-- what a slice lends at a place
+pub lent_at : {X : Type 0} (xs : List X) (i : ℕ) (Holds : Bor X → Type 0) (lent : Option (Bor X)) → IfSome lent (λ x. x.now ≡ get_or xs i x.now) → MatchOption lent (length xs ≤ i) (λ x. (i < length xs) × Holds x) → option_copied lent ≡ slice_get xs i
+lent_at xs i Holds None is within = sym (slice_get_past xs i within)
+lent_at xs i Holds (Some x) is within = sym (slice_get_read xs (length xs) i x.now refl within.0 is)
 
 module _ {X Z : Type 0} (parts : List (Vec X Z)) (i : ℕ) (part : Vec X Z) (within : i < length parts) (read : part ≡ get_or parts i part) where
   pub part_is : All IsPart parts → IsPart part

@@ -4,9 +4,10 @@ use Rattle.camp_share.proofs.Words.{All, Bor, Ordering, Less, Equal, Greater, Ve
 use Rattle.camp_share.proofs.Entries.{first, second, is_less, present, at_within}
 use Rattle.camp_share.proofs.Found.{sorted_left, sorted_right, above_behind, above_both, above_split, above_would, would_behind, would_front, at_behind, at_front}
 use Rattle.camp_share.proofs.PartLemmas.{closed_passed, divided_before, from_here, rest_from_here, up_to_here, part_is, length_grown, front_within}
-use Rattle.camp_share.specs.Inside.Places.{passes, ends_below, IsBorder}
+use Rattle.camp_share.specs.Inside.Places.{passes, ends_below, IsBorder, IsPartFor}
 use Rattle.std.specs.Fn.{Shared, FnReturnsAt}
-use Rattle.std.proofs.lemmas.Option.{slice_get-get_or}
+use Rattle.std.proofs.lemmas.Option.{slice_get-get_or, slice_get_cases, slice_get_read}
+use Rattle.std.proofs.Common.{Option, inl, inr}
 
 less_told : (r : Ordering) → (is_lt r ≡ true → r ≡ Less) × (r ≡ Less → is_lt r ≡ true)
 less_told Less = (λ h. refl, λ h. refl)
@@ -175,10 +176,10 @@ module _ {K X : Type 0} (R : K → K → Ordering) (o : IsTotalOrder R) where
 
     -- the part that is found among them
     module _ (some : List (Vec (K × X) Z)) (passed : ℕ) (s : Stands parts key passed some) (found : ℕ) (within : found ≤ length some) where
-      pub found_within : passed + found ≤ length parts
+      found_within : passed + found ≤ length parts
       found_within = omega (arith, s.inside, length-drop passed parts, ap length s.stand ∙ length-append some s.rest)
 
-      pub found_there : IsBorder (λ part. ends_below R part.items key ≡ true) (λ part. ends_below R part.items key ≡ false) some found found
+      found_there : IsBorder (λ part. ends_below R part.items key ≡ true) (λ part. ends_below R part.items key ≡ false) some found found
           → IsAbove R (joined (take (passed + found) parts)) key × (passed + found < length parts → ¬ (IsAbove R (joined (take (passed + found + 1) parts)) key))
       found_there border =
           let up_to = λ (n : ℕ). IsAbove R (joined (take n parts)) key in
@@ -192,3 +193,23 @@ module _ {K X : Type 0} (R : K → K → Ordering) (o : IsTotalOrder R) where
                 (λ m less is. there.1 (omega arith) (subst up_to {x = passed + found + 1} {y = passed + (found + 1)} (omega arith) above))
                 (omega arith),
           )
+
+      -- what stands among them at the place that is found is the part there, or there is none in either
+      pub found_part : IsBorder (λ part. ends_below R part.items key ≡ true) (λ part. ends_below R part.items key ≡ false) some found found → slice_get some found ≡ slice_get parts (passed + found)
+      found_part border = elim (slice_get_cases some found).1 [
+        | inl here ↦
+            let got = sym here.3 ∙ sym (get_or_append_left some s.rest here.0 found here.1) ∙ ap (λ ps. get_or ps found here.0) (sym s.stand) ∙ get_or-drop passed parts found here.0 in
+            here.2 ∙ sym (slice_get_read parts (length parts) (passed + found) here.0 refl (omega (arith, here.1, length-drop passed parts, ap length s.stand ∙ length-append some s.rest)) got)
+        | inr past ↦ elim (slice_get_cases parts (passed + found)).1 [
+          | inl more ↦ absurd (s.ends (omega (arith, past.0, more.1)) (subst (λ n. IsAbove R (joined (take n parts)) key) {x = passed + found} {y = passed + length some} (omega (arith, past.0)) (found_there border).0))
+          | inr end ↦ past.1 ∙ sym end.1
+        ]
+      ]
+
+      pub part_found : IsBorder (λ part. ends_below R part.items key ≡ true) (λ part. ends_below R part.items key ≡ false) some found found → (part : Option (Vec (K × X) Z)) → part ≡ slice_get some found → IsPartFor R parts key (passed + found) part
+      part_found border part read = record {
+        within = found_within;
+        read = read ∙ found_part border;
+        before = (found_there border).0;
+        reached = (found_there border).1;
+      }

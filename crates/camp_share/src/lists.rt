@@ -1,5 +1,6 @@
 ghost use Rattle.std.specs.Prelude.{◌≡◌, ◌+◌, ◌<◌, ◌≤◌, ◌^◌, ◌==◌, List, [], ◌∷◌, ◌++◌, length, take, drop, slice_get, slice_range, slice_set, IfOk};
 ghost use Rattle.std.specs.List.{splice, insert, remove};
+ghost use Rattle.std.specs.Cow.{cow_slice_items};
 ghost use Rattle.std.specs.Option.{option_copied};
 ghost use Rattle.std.specs.Cmp.Lexicographic.{pointwise, lists_per, lists_equiv};
 ghost use Rattle.std.specs.Map.Iter.{ShowsInOrder, deref};
@@ -8,6 +9,7 @@ use crate::iters::{Steps, are_equal};
 use crate::pieces::{Front, Last, spliced, with_one};
 use crate::{Iter, Share};
 use std::alloc::{AllocError, Global};
+use std::borrow::CowSlice;
 use std::marker::Model;
 
 /// A list in parts of up to 24 elements, which it shares with the lists that it was made from. The
@@ -109,6 +111,21 @@ impl<T: Share + Drop> SharedList<T> {
         ensures exact { IfOk result (λ items. items.items ≡ self.now) }
     {
         self.range_to_vec(0, self.len)
+    }
+
+    /// The elements from one place up to another. They are lent where all of them stand in the last part,
+    /// and copied where they don't.
+    pub fn range(&self, from: usize, to: usize) -> Result<CowSlice<'_, T>, AllocError>
+        requires range { from ≤ to }
+        requires within { to ≤ length self.now }
+        ensures exact { IfOk result (λ items. cow_slice_items items ≡ slice_range self.now from to) }
+    {
+        let border = self.front.len();
+        if from < border {
+            return Ok(CowSlice::Owned(self.range_to_vec(from, to)?));
+        }
+        let items = &self.last.items()[from - border..to - border];
+        Ok(CowSlice::Borrowed(items))
     }
 
     /// Copies of the elements from one place up to another, in one vector.

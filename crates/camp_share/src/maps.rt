@@ -10,7 +10,7 @@ ghost use Rattle.camp_share.specs.Maps.{map_of};
 use crate::changes::{inserted_at, removed_at, replaced_at};
 use crate::iters::are_equal;
 use crate::part_lists::PartList;
-use crate::search::{place_in, search};
+use crate::search::{part_for, place_in, search};
 use crate::{Iter, Share};
 use std::alloc::{AllocError, Global};
 use std::marker::Model;
@@ -82,12 +82,12 @@ impl<K: Key, V> SharedMap<K, V> {
     pub fn get(&self, key: &K) -> Option<&V>
         ensures exact { option_copied result ≡ map.get (map_of K.cmp self.now) key.now }
     {
-        let parts = self.entries.parts();
-        match search(parts, key) {
-            Ok((index, place)) => {
-                let part = parts.at(index);
-                Some(&part[place].1)
-            }
+        let (_, _, part) = part_for(self.entries.parts(), key);
+        let Some(entries) = part else {
+            return None;
+        };
+        match place_in(entries, key) {
+            Ok(place) => Some(&entries[place].1),
             Err(_) => None,
         }
     }

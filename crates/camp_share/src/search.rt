@@ -1,32 +1,33 @@
-ghost use Rattle.std.specs.Prelude.{◌≡◌, ℕ, ◌+◌, ◌<◌, ◌≤◌, ◌^◌, true, false, T as Holds, IfOk, IfErr, length, take};
+ghost use Rattle.std.specs.Prelude.{◌≡◌, ◌+◌, ◌<◌, ◌≤◌, ◌^◌, true, false, T as Holds, IfOk, IfErr, length};
 ghost use Rattle.std.specs.Fn.{FnReturnsAt};
 ghost use Rattle.std.specs.List.{All};
+ghost use Rattle.std.specs.Option.{option_copied};
 ghost use Rattle.std.specs.List.Sorted.{IsSearchInRange};
 ghost use Rattle.std.specs.FinMap.{is_sorted};
 ghost use Rattle.camp_share.specs.Inside.Parts.{joined, IsPart};
-ghost use Rattle.camp_share.specs.Inside.Places.{ends_below, IsBorder, IsAt, WouldBeAt, IsAbove, IsInPart, WouldBeInPart};
+ghost use Rattle.camp_share.specs.Inside.Places.{ends_below, IsBorder, IsAt, WouldBeAt, IsInPart, IsPartFor, WouldBeInPart};
 
 use crate::Key;
 use crate::growing::{Growing, Part, length_of};
 
-// The first part that has a key which is not below the given one, or else the number of parts. Parts
-// of parts are passed by their last key.
-pub(crate) fn part_for<K: Key, V>(parts: &Growing<Part<(K, V)>>, key: &K) -> usize
+// The first part that has a key which is not below the given one, if there is one. Before it stand the
+// parts of some parts of parts, and so many more.
+pub(crate) fn part_for<'a, K: Key, V>(
+    parts: &'a Growing<Part<(K, V)>>,
+    key: &K,
+) -> (&'a [Part<Part<(K, V)>>], usize, Option<&'a Part<(K, V)>>)
     requires parts { All IsPart parts.now }
     requires sorted { Holds (is_sorted K.cmp (joined parts.now)) }
-    requires fits { length (joined parts.now) < 2 ^ 64 }
-    ensures within { result ≤ length parts.now }
-    ensures before { IsAbove K.cmp (joined (take result parts.now)) key.now }
-    ensures reached { result < length parts.now → ¬ (IsAbove K.cmp (joined (take (result + 1) parts.now)) key.now) }
+    ensures { IsPartFor K.cmp parts.now key.now (length (joined result.0.now) + result.1) (option_copied result.2) }
 {
     let (closed, last) = parts.divided();
     let at = by_halves(
         closed,
         |group| group.last().is_some_and(|part| ends_below(part, key)),
     );
-    let passed = length_of(&closed[..at]);
     let among = if at < closed.len() { &closed[at] } else { last };
-    passed + by_halves(among, |part| ends_below(part, key))
+    let found = by_halves(among, |part| ends_below(part, key));
+    (&closed[..at], found, among.get(found))
 }
 
 // How many items stand before the first that is not passed, where those that are passed stand first.
@@ -76,11 +77,12 @@ pub(crate) fn search<K: Key, V>(
     ensures found { IfOk result (λ at. IsInPart parts.now key.now at.0 at.1) }
     ensures absent { IfErr result (λ at. WouldBeInPart K.cmp parts.now key.now at.0 at.1) }
 {
-    let index = part_for(parts, key);
-    if index == parts.len() {
+    let (passed, behind, part) = part_for(parts, key);
+    let index = length_of(passed) + behind;
+    let Some(part) = part else {
         return Err((index, 0));
-    }
-    match place_in(parts.at(index), key) {
+    };
+    match place_in(part, key) {
         Ok(place) => Ok((index, place)),
         Err(place) => Err((index, place)),
     }

@@ -1,5 +1,5 @@
 -- Where a key stands, or would stand, among entries in the order of their keys.
-use Rattle.std.specs.Prelude.{◌≡◌, ℕ, zero, suc, ◌+◌, ◌-◌, ◌<◌, Bool, false, List, [], ◌∷◌, Option, None, Some, length, slice_get, slice_index_or}
+use Rattle.std.specs.Prelude.{◌≡◌, ℕ, zero, suc, ◌+◌, ◌-◌, ◌<◌, ◌≤◌, Bool, false, List, [], ◌∷◌, Option, None, Some, length, slice_get, slice_index_or, take}
 use Rattle.std.specs.Ordering.{is_lt}
 use Rattle.std.specs.declared.cmp.Ordering.{Ordering}
 use Rattle.std.specs.declared.cmp.Ordering.TheVariants.{Less}
@@ -51,3 +51,11 @@ abbrev pub IsBorder : {A : Type 0} → (A → Type 0) → (A → Type 0) → Lis
 IsBorder {A} Passed Stops items low high =
     ((item : A) → 0 < low → item ≡ slice_index_or items (low - 1) item → Passed item)
     × ((item : A) → high < length items → item ≡ slice_index_or items high item → Stops item)
+
+-- the first part that has a key which is not below a key, at its place, or none at the end
+pub record IsPartFor {K X Z : Type 0} (order : K → K → Ordering) (parts : List (Vec (K × X) Z)) (key : K) (index : ℕ)
+    (part : Option (Vec (K × X) Z)) : Type 0 where
+  pub within : index ≤ length parts
+  pub read : part ≡ slice_get parts index
+  pub before : IsAbove order (joined (take index parts)) key
+  pub reached : index < length parts → ¬ (IsAbove order (joined (take (index + 1) parts)) key)

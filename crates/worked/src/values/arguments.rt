@@ -1,14 +1,14 @@
 //! Values: the arguments of a call, each read from its text.
 use crate::tables::Table;
 use crate::values::numbers::{Numbers, read_number, read_numbers};
-use camp_base::{Path, Tree};
+use camp_base::{Line, Path, Tree};
 use camp_catch::Catch;
 use camp_ctx::{Contexted, CtxSet};
 use camp_notation::{
     NotationError, read_catch, read_catches, read_contexted, read_label, read_lines, read_list,
     read_named, read_set, read_tree, read_word,
 };
-use camp_prim::{Label, Lines, Named};
+use camp_prim::{Label, Named};
 use camp_seq::Seq;
 use camp_share::Shared;
 
@@ -18,7 +18,7 @@ pub(crate) enum Value {
     Word(Vec<u8>),
     Count(u32),
     Path(Path),
-    Lines(Lines),
+    Lines(Vec<Line>),
     Tree(Tree),
     Label(Label),
     Labels(Vec<Label>),
@@ -86,7 +86,7 @@ fn read_value(table: &Table, kind: Kind, texts: &[&[u8]]) -> Result<Value, Notat
         Kind::Word => Ok(Value::Word(read_word(alloc, text)?)),
         Kind::Count => Ok(Value::Count(read_number(text)?)),
         Kind::Path => read_path(table, text),
-        Kind::Lines => read_side(table, text),
+        Kind::Lines => Ok(Value::Lines(read_lines(alloc, text)?)),
         Kind::Tree => Ok(Value::Tree(read_tree(alloc, table.meaning(text))?)),
         Kind::Label => Ok(Value::Label(read_label(alloc, text)?)),
         Kind::Numbers => Ok(Value::Numbers(read_numbers(alloc, text)?)),
@@ -125,9 +125,4 @@ fn is_of_catch(text: &[u8]) -> bool {
 fn read_path(table: &Table, text: &[u8]) -> Result<Value, NotationError> {
     let word = read_word(table.alloc(), text)?;
     Ok(Value::Path(Path::new(table.alloc(), &word)?))
-}
-
-fn read_side(table: &Table, text: &[u8]) -> Result<Value, NotationError> {
-    let lines = read_lines(table.alloc(), text)?;
-    Ok(Value::Lines(Lines::new(table.alloc(), lines)?))
 }

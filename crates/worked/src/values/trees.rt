@@ -5,7 +5,6 @@ use crate::values::calls::{Call, no_such_call};
 use crate::values::results::{Outcome, changed, show, tell, word};
 use camp_base::{Line, Path, Tree};
 use camp_notation::lines_text;
-use camp_prim::Lines;
 use camp_share::SharedList;
 use std::alloc::AllocError;
 
@@ -65,10 +64,10 @@ fn splice(
     before: &Tree,
     path: &Path,
     line: u32,
-    old: &Lines,
-    new: &Lines,
+    old: &[Line],
+    new: &[Line],
 ) -> Outcome {
     let mut tree = before.try_clone()?;
-    let answer = tree.splice(path, line, old.as_slice(), new.as_slice());
+    let answer = tree.splice(path, line, old, new);
     changed(table, before, tree, answer)
 }

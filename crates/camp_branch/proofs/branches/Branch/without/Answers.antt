@@ -1,16 +1,16 @@
 use Rattle.std.proofs.lemmas.Result.{err_from_is_err_and}
 use Rattle.camp_catch.proofs.Making.{blocks_too}
-use Rattle.camp_branch.proofs.Words.{length, ap, subst, ◌∙◌, arith, slice_cmp, nat_cmp, map_of, IsLawfulBranch, names_in, front_of}
-use Rattle.camp_branch.proofs.Fronts.{StaysInFront, behind_place, front_depends, front_lawful, front_named, front_stays, front_within}
+use Rattle.camp_branch.proofs.Words.{length, ap, drop, subst, ◌∙◌, arith, slice_cmp, nat_cmp, map_of, IsLawfulBranch, names_in, front_of}
+use Rattle.camp_branch.proofs.Fronts.{StaysInFront, front_depends, front_lawful, front_named, front_stays, front_within}
 use Rattle.camp_branch.proofs.NamesKept.{stays_by}
 use Rattle.camp_branch.proofs.NewEnds.{end_arranged}
 use Rattle.camp_branch.proofs.branches.Branch.without.Goals as goal
 use Rattle.camp_branch.proofs.branches.Branch.without.Goals.{After-deref}
 
-pub range_to_vec-requires-clause-range : goal.range_to_vec-requires-clause-range
-range_to_vec-requires-clause-range c =
+pub behind-requires : goal.behind-requires
+behind-requires c =
     let within = front_within (names_in c.in_ok-staying.staying) c.self.inside.catches in
-    omega (c.front-start.ensures, c.len.ensures.exact, within, arith)
+    omega (c.front-start.ensures, within, arith)
 
 pub with_end-requires-clause-within : goal.with_end-requires-clause-within
 with_end-requires-clause-within c =
@@ -23,7 +23,7 @@ front : (c : After-deref) → StaysInFront c.args.self.now (names_in c.args.name
 front c = record {
   stays = stays_by (map_of (slice_cmp nat_cmp) c.self.inside.names) _ c.self.inside.catches c.args.self.now (names_in c.args.names.now) c.self.invariant.named c.self.view_is c.in_ok-staying.ensures;
   at = c.front-start.ensures ∙ ap (front_of (names_in c.in_ok-staying.staying)) c.self.view_is;
-  is = c.deref.ensures.value ∙ behind_place c.self.inside.catches c.args.self.now c.in_ok-behind.behind.items c.front-start.result c.len.result c.len.ensures.exact c.self.view_is c.in_ok-behind.ensures.exact;
+  is = c.deref.ensures.value ∙ c.in_ok-rest.ensures ∙ ap (drop c.front-start.result) c.self.view_is;
 }
 
 pub with_end-requires-clause-lawful : goal.with_end-requires-clause-lawful
