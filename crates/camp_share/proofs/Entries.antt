@@ -61,7 +61,7 @@ module _ {K : Type 0} (R : K → K → Ordering) (o : IsTotalOrder R) where
     insert_is_put (e ∷ es) k v (suc i) h = rw (above e.0 k h.0, insert_is_put es k v i h.1) refl
 
     -- a key below the first of a sorted list is not in it
-    missing : (k l : K) (es : List (K × X)) → R k l ≡ Less → T (below_all R l es) → find R k es ≡ None
+    pub missing : (k l : K) (es : List (K × X)) → R k l ≡ Less → T (below_all R l es) → find R k es ≡ None
     missing k l [] h below = refl
     missing k l (e ∷ es) h below =
         let less : R k e.0 ≡ Less = o.trans k l e.0 h (is_less _ (first _ _ below)) in

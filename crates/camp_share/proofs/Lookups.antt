@@ -40,7 +40,6 @@ module _ {K X Z : Type 0} (R : K → K → Ordering) (o : IsTotalOrder R) (parts
         let inside = at_within part.items key place here in
         (within, λ other again. subst (λ (p : Vec (K × X) Z). IsAt p.items key place) (read_twice parts index part other within read again) here, at_in_part R o parts sorted key index part within read place here, place_inside parts index part within read (place + 1) (omega (arith, inside)))
 
-    -- its value is that of the map
-    pub value_found : (place : ℕ) (e : K × X) → IsAt entries key place → e ≡ get_or entries place e → find R key (joined parts) ≡ Some e.1
-    value_found place e there got =
-        value_in_part R o parts sorted key index part within read place e (subst (λ es. IsAt es key place) is there) (got ∙ ap (λ es. get_or es place e) is)
+    -- its value in the part is that in the map
+    pub value_is : find R key entries ≡ find R key (joined parts)
+    value_is = ap (find R key) is ∙ value_in_part R o parts sorted key index part within read found.before (found.reached within)

@@ -1,7 +1,7 @@
 -- A key's place among entries in parts, from its place in one part.
-use Rattle.camp_share.proofs.Words.{◌≡◌, ◌↔◌, ℕ, zero, suc, ◌+◌, ◌-◌, ◌<◌, ◌≤◌, Bool, true, false, true≢false, T, List, [], ◌∷◌, ◌++◌, length, get_or, slice_get, take, drop, IsTrue, Some, sym, ap, subst, ◌∙◌, refl, arith, length-append, length-drop, append-nil, drop_at, get_or-drop, take-append-drop, take_all, get_or-append-add, get_or_append_left, get_or_default, flat_map-append}
-use Rattle.camp_share.proofs.Words.{All, Bor, Ordering, Less, Equal, Greater, Vec, is_lt, IsTotalOrder, is_sorted, find, joined, IsPart, IsAt, WouldBeAt, IsAbove}
-use Rattle.camp_share.proofs.Entries.{first, second, is_less, present, at_within}
+use Rattle.camp_share.proofs.Words.{◌≡◌, ◌↔◌, ℕ, zero, suc, ◌+◌, ◌-◌, ◌<◌, ◌≤◌, Bool, true, false, true≢false, T, List, [], ◌∷◌, ◌++◌, length, get_or, slice_get, take, drop, IsTrue, Some, sym, ap, subst, ◌∙◌, refl, arith, length-append, length-drop, append-nil, drop_at, get_or-drop, take-append-drop, take_all, get_or_append_left, get_or_default, flat_map-append}
+use Rattle.camp_share.proofs.Words.{All, Bor, Ordering, Less, Equal, Greater, ordering_reverse, Vec, is_lt, IsTotalOrder, is_sorted, find, joined, IsPart, IsAt, WouldBeAt, IsAbove}
+use Rattle.camp_share.proofs.Entries.{first, second, is_less, above, missing}
 use Rattle.camp_share.proofs.Found.{sorted_left, sorted_right, above_behind, above_both, above_split, above_would, would_behind, would_front, at_behind, at_front}
 use Rattle.camp_share.proofs.PartLemmas.{closed_passed, divided_before, from_here, rest_from_here, up_to_here, part_is, length_grown, front_within}
 use Rattle.camp_share.specs.Inside.Places.{passes, ends_below, IsBorder, IsPartFor}
@@ -60,6 +60,22 @@ module _ {K X : Type 0} (R : K → K → Ordering) (o : IsTotalOrder R) where
         λ inside all. let x = item n inside in true≢false (sym ((told n x.0 inside x.1).1 all) ∙ border.1 x.0 inside x.1),
       )
 
+  -- behind entries that a key is above its value is the same
+  find_behind : (key : K) (front rest : List (K × X)) → IsAbove R front key → find R key (front ++ rest) ≡ find R key rest
+  find_behind key [] rest before = refl
+  find_behind key (e ∷ es) rest before = rw (above R o e.0 key before.0) (find_behind key es rest before.1)
+
+  find_at : (r : Ordering) (key : K) (e : K × X) (es rest : List (K × X)) → R key e.0 ≡ r → T (is_sorted R (e ∷ es ++ rest)) → ¬ (IsAbove R (e ∷ es) key)
+      → (¬ (IsAbove R es key) → find R key (es ++ rest) ≡ find R key es) → find R key (e ∷ es ++ rest) ≡ find R key (e ∷ es)
+  find_at Less key e es rest is sorted reached further = rw is (missing R o key e.0 (es ++ rest) is (first _ _ sorted) ∙ sym (missing R o key e.0 es is (first _ _ (sorted_left R (e ∷ es) rest sorted))))
+  find_at Equal key e es rest is sorted reached further = rw is refl
+  find_at Greater key e es rest is sorted reached further = rw is (further (λ all. reached (o.antisymm e.0 key ∙ ap ordering_reverse is, all)))
+
+  -- a key that is not above all of some entries has no value behind them
+  find_front : (key : K) (es rest : List (K × X)) → T (is_sorted R (es ++ rest)) → ¬ (IsAbove R es key) → find R key (es ++ rest) ≡ find R key es
+  find_front key [] rest sorted reached = absurd (reached tt)
+  find_front key (e ∷ es) rest sorted reached = find_at (R key e.0) key e es rest refl sorted reached (find_front key es rest (second _ _ sorted))
+
   module _ {Z : Type 0} (parts : List (Vec (K × X) Z)) (sorted : T (is_sorted R (joined parts))) (key : K) (index : ℕ) where
     sorted_one_further : T (is_sorted R (joined (take (index + 1) parts)))
     sorted_one_further =
@@ -101,15 +117,15 @@ module _ {K X : Type 0} (R : K → K → Ordering) (o : IsTotalOrder R) where
           subst (λ xs. WouldBeAt R xs key (length (joined (take index parts)) + place)) (sym divided)
           (would_behind R key (joined (take index parts)) (part.items ++ joined (drop (index + 1) parts)) place _ refl before (would_front R key part.items (joined (drop (index + 1) parts)) place (λ all. reached (subst (λ xs. IsAbove R xs key) (sym (up_to_here parts index part within read)) (above_both R key _ part.items before all))) here))
 
-      -- the value found in the part is the value in the map
-      pub value_in_part : (place : ℕ) (e : K × X) → IsAt part.items key place → e ≡ get_or part.items place e → find R key (joined parts) ≡ Some e.1
-      value_in_part place e here got =
-          let inside = at_within part.items key place here in
-          present R o (joined parts) key (length (joined (take index parts)) + place) e (at_in_part place here) sorted
-          ∙ ap (λ (d : K × X). Some d.1)
-          (ap (λ xs. get_or xs (length (joined (take index parts)) + place) e) divided
-          ∙ get_or-append-add (joined (take index parts)) (part.items ++ joined (drop (index + 1) parts)) place e
-          ∙ get_or_append_left part.items (joined (drop (index + 1) parts)) e place inside ∙ sym got)
+      -- the value of a key in the part is its value in the map
+      pub value_in_part : IsAbove R (joined (take index parts)) key → ¬ (IsAbove R (joined (take (index + 1) parts)) key) → find R key part.items ≡ find R key (joined parts)
+      value_in_part before reached =
+          let front = joined (take index parts) in
+          let rest = joined (drop (index + 1) parts) in
+          sym
+          (ap (find R key) divided ∙ find_behind key front (part.items ++ rest) before
+          ∙ find_front key part.items rest (sorted_right R front (part.items ++ rest) (subst (λ xs. T (is_sorted R xs)) divided sorted))
+          (λ all. reached (subst (λ xs. IsAbove R xs key) (sym (up_to_here parts index part within read)) (above_both R key _ part.items before all))))
 
     pub gap_at_end : length parts ≤ index → IsAbove R (joined (take index parts)) key → WouldBeAt R (joined parts) key (length (joined (take index parts)))
     gap_at_end past before =

@@ -268,7 +268,11 @@ pub(crate) fn first_of<T: Share + Drop>(items: &Vec<T>, count: usize) -> Result<
 }
 
 // Copies of elements, in a vector with so much room.
-fn copies<T: Share + Drop>(alloc: Global, items: &[T], room: usize) -> Result<Vec<T>, AllocError>
+pub(crate) fn copies<T: Share + Drop>(
+    alloc: Global,
+    items: &[T],
+    room: usize,
+) -> Result<Vec<T>, AllocError>
     ensures { IfOk result (λ copies. copies.items ≡ items.now) }
 {
     let mut copies = Vec::with_capacity(alloc, room)?;

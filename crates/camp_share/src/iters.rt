@@ -100,6 +100,14 @@ impl<'a, T> Iter<'a, T> {
     {
         Iter { part, parts, last }
     }
+
+    // Those of one part.
+    pub(crate) fn of_part(part: &'a [T]) -> Iter<'a, T>
+        ensures rest { result ≡ part.now }
+        ensures runs { ShowsInOrder (deref {X = T}) }
+    {
+        Iter::new(part, Steps::new(&[], &[]), &[])
+    }
 }
 
 impl<'a, T> Iterator for Iter<'a, T> {

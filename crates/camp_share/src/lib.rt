@@ -2,6 +2,7 @@
 #![tactic(auto)]
 
 mod changes;
+mod few_or_many;
 mod growing;
 mod iters;
 mod lists;

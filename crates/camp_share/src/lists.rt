@@ -5,8 +5,8 @@ ghost use Rattle.std.specs.Option.{option_copied};
 ghost use Rattle.std.specs.Cmp.Lexicographic.{pointwise, lists_per, lists_equiv};
 ghost use Rattle.std.specs.Map.Iter.{ShowsInOrder, deref};
 
-use crate::iters::{Steps, are_equal};
-use crate::pieces::{Front, Last, spliced, with_one};
+use crate::iters::are_equal;
+use crate::pieces::{Front, OnePart, spliced, with_one};
 use crate::{Iter, Share};
 use std::alloc::{AllocError, Global};
 use std::borrow::CowSlice;
@@ -17,7 +17,7 @@ use std::marker::Model;
 #[derive(Drop)]
 pub struct SharedList<T> {
     front: Front<T>,
-    last: Last<T>,
+    last: OnePart<T>,
     len: usize,
     alloc: Global,
 }
@@ -39,7 +39,7 @@ impl<T> SharedList<T> {
     {
         SharedList {
             front: Front::empty(),
-            last: Last::empty(),
+            last: OnePart::empty(),
             len: 0,
             alloc,
         }
@@ -86,10 +86,9 @@ impl<T> SharedList<T> {
         }
         let place = from - border;
         if place >= last.len() {
-            return Iter::new(&[], Steps::new(&[], &[]), &[]);
+            return Iter::of_part(&[]);
         }
-        let rest = &last[place..];
-        Iter::new(rest, Steps::new(&[], &[]), &[])
+        Iter::of_part(&last[place..])
     }
 
     /// The allocator of the list.
@@ -221,7 +220,7 @@ impl<T: Share + Drop> SharedList<T> {
         let front = Front::of(self.alloc, whole.copied(from, to)?)?;
         Ok(SharedList {
             front,
-            last: Last::empty(),
+            last: OnePart::empty(),
             len: to - from,
             alloc: self.alloc,
         })

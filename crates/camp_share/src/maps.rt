@@ -1,15 +1,18 @@
-ghost use Rattle.std.specs.Prelude.{◌≡◌, ◌==◌, ◌<◌, if◌then◌else◌, List, None, Some, T as Holds, IfOk, IfErr, OnErr, OnOk, MatchOption, length, slice_get};
+ghost use Rattle.std.specs.Prelude.{◌≡◌, ◌==◌, if◌then◌else◌, T as Holds, IfOk, OnErr, OnOk, slice_get};
 ghost use Rattle.std.specs.Option.{option_copied};
 ghost use Rattle.std.specs.FinMap as map;
 ghost use Rattle.std.specs.FinMap.{IsAntisymmetric, is_sorted};
+ghost use Rattle.std.specs.FinMap.Entries.{find};
 ghost use Rattle.std.specs.Map.Iter.{ShowsInOrder, deref};
 ghost use Rattle.std.specs.Cmp.Lexicographic.{pointwise, lists_per};
 ghost use Rattle.std.specs.Cmp.{on_per, and_per};
 ghost use Rattle.camp_share.specs.Maps.{map_of};
 
 use crate::changes::{inserted_at, removed_at, replaced_at};
+use crate::few_or_many::{Entries, Form};
 use crate::iters::are_equal;
 use crate::part_lists::PartList;
+use crate::pieces::OnePart;
 use crate::search::{part_for, place_in, search};
 use crate::{Iter, Share};
 use std::alloc::{AllocError, Global};
@@ -20,11 +23,12 @@ pub trait Key: Ord + Share + Drop {
     ghost same: { IsAntisymmetric Self.cmp };
 }
 
-/// A map in the order of its keys, which it shares in parts of up to 24 entries with the maps that
-/// it was made from.
+/// A map in the order of its keys. What never had more than 24 entries is one part. Other maps are in
+/// parts of up to 24, and share those that a change leaves whole.
 #[derive(Drop)]
 pub struct SharedMap<K: Key, V> {
-    entries: PartList<(K, V)>,
+    entries: Entries<(K, V)>,
+    alloc: Global,
 }
 
 impl<K: Key, V> Model for SharedMap<K, V> {
@@ -44,7 +48,8 @@ impl<K: Key, V> SharedMap<K, V> {
         ensures exact { map_of K.cmp result ≡ map.empty }
     {
         SharedMap {
-            entries: PartList::new(alloc),
+            entries: Entries::none(),
+            alloc,
         }
     }
 
@@ -82,13 +87,9 @@ impl<K: Key, V> SharedMap<K, V> {
     pub fn get(&self, key: &K) -> Option<&V>
         ensures exact { option_copied result ≡ map.get (map_of K.cmp self.now) key.now }
     {
-        let (_, _, part) = part_for(self.entries.parts(), key);
-        let Some(entries) = part else {
-            return None;
-        };
-        match place_in(entries, key) {
-            Ok(place) => Some(&entries[place].1),
-            Err(_) => None,
+        match self.entries.form() {
+            Form::OnePart(part) => value_in_part(part.items(), key),
+            Form::Parts(list) => value_in_parts(list, key),
         }
     }
 
@@ -101,8 +102,36 @@ impl<K: Key, V> SharedMap<K, V> {
 
     /// The allocator of the map.
     pub fn allocator(&self) -> Global {
-        self.entries.allocator()
+        self.alloc
     }
+
+    // The map of these entries.
+    fn of(alloc: Global, entries: Entries<(K, V)>) -> SharedMap<K, V>
+        requires { Holds (is_sorted K.cmp entries) }
+        ensures { result ≡ entries }
+    {
+        SharedMap { entries, alloc }
+    }
+}
+
+// The value of a key in a part.
+fn value_in_part<'a, K: Key, V>(entries: &'a [(K, V)], key: &K) -> Option<&'a V>
+    requires { Holds (is_sorted K.cmp entries.now) }
+    ensures { option_copied result ≡ find K.cmp key.now entries.now }
+{
+    match place_in(entries, key) {
+        Ok(place) => Some(&entries[place].1),
+        Err(_) => None,
+    }
+}
+
+// The value of a key in a list in parts.
+fn value_in_parts<'a, K: Key, V>(list: &'a PartList<(K, V)>, key: &K) -> Option<&'a V>
+    requires { Holds (is_sorted K.cmp list.now) }
+    ensures { option_copied result ≡ find K.cmp key.now list.now }
+{
+    let (_, _, part) = part_for(list.parts(), key);
+    value_in_part(part?, key)
 }
 
 impl<K: Key, V: Share + Drop> SharedMap<K, V> {
@@ -110,23 +139,11 @@ impl<K: Key, V: Share + Drop> SharedMap<K, V> {
     pub fn inserted(&self, key: K, value: V) -> Result<SharedMap<K, V>, AllocError>
         ensures exact { IfOk result (λ new. map_of K.cmp new ≡ map.insert (map_of K.cmp self.now) key value) }
     {
-        let parts = self.entries.parts();
-        let len = self.entries.len();
-        match search(parts, &key) {
-            Ok((index, place)) => {
-                let parts = replaced_at(parts, index, place, (key, value))?;
-                let entries = PartList::of_parts(parts, len);
-                Ok(SharedMap { entries })
-            }
-            Err((index, place)) => {
-                let Some(len) = len.checked_add(1) else {
-                    return Err(AllocError);
-                };
-                let parts = inserted_at(parts, index, place, (key, value))?;
-                let entries = PartList::of_parts(parts, len);
-                Ok(SharedMap { entries })
-            }
-        }
+        let entries = match self.entries.form() {
+            Form::OnePart(part) => inserted_in_part(self.alloc, part, key, value)?,
+            Form::Parts(list) => Entries::in_parts(inserted_in_parts(list, key, value)?),
+        };
+        Ok(SharedMap::of(self.alloc, entries))
     }
 
     /// The map in which the key has the value that it had, or else this one.
@@ -144,25 +161,102 @@ impl<K: Key, V: Share + Drop> SharedMap<K, V> {
     pub fn without(&self, key: &K) -> Result<SharedMap<K, V>, AllocError>
         ensures exact { IfOk result (λ new. map_of K.cmp new ≡ map.remove (map_of K.cmp self.now) key.now) }
     {
-        let parts = self.entries.parts();
-        match search(parts, key) {
-            Ok((index, place)) => {
-                let parts = removed_at(parts, index, place)?;
-                let entries = PartList::of_parts(parts, self.entries.len() - 1);
-                Ok(SharedMap { entries })
-            }
-            Err(_) => {
-                let entries = self.entries.share()?;
-                Ok(SharedMap { entries })
-            }
+        let entries = match self.entries.form() {
+            Form::OnePart(part) => removed_in_part(self.alloc, part, key)?,
+            Form::Parts(list) => Entries::in_parts(removed_in_parts(list, key)?),
+        };
+        Ok(SharedMap::of(self.alloc, entries))
+    }
+}
+
+// The entries of a part, in which the key has the value.
+fn inserted_in_part<K: Key, V: Share + Drop>(
+    alloc: Global,
+    part: &OnePart<(K, V)>,
+    key: K,
+    value: V,
+) -> Result<Entries<(K, V)>, AllocError>
+    requires { Holds (is_sorted K.cmp part.now) }
+    ensures { IfOk result (λ new. Holds (is_sorted K.cmp new)
+        × (map_of K.cmp new ≡ map.insert (map_of K.cmp part.now) key value)) }
+{
+    let new = match place_in(part.items(), &key) {
+        Ok(place) => part.with_one(alloc, place, place + 1, (key, value))?,
+        Err(place) => part.with_one(alloc, place, place, (key, value))?,
+    };
+    Entries::of_part(alloc, new)
+}
+
+// The list in parts, in which the key has the value.
+fn inserted_in_parts<K: Key, V: Share + Drop>(
+    list: &PartList<(K, V)>,
+    key: K,
+    value: V,
+) -> Result<PartList<(K, V)>, AllocError>
+    requires { Holds (is_sorted K.cmp list.now) }
+    ensures { IfOk result (λ new. Holds (is_sorted K.cmp new)
+        × (map_of K.cmp new ≡ map.insert (map_of K.cmp list.now) key value)) }
+{
+    let parts = list.parts();
+    let len = list.len();
+    match search(parts, &key) {
+        Ok((index, place)) => {
+            let parts = replaced_at(parts, index, place, (key, value))?;
+            Ok(PartList::of_parts(parts, len))
         }
+        Err((index, place)) => {
+            let Some(len) = len.checked_add(1) else {
+                return Err(AllocError);
+            };
+            let parts = inserted_at(parts, index, place, (key, value))?;
+            Ok(PartList::of_parts(parts, len))
+        }
+    }
+}
+
+// The entries of a part without the key.
+fn removed_in_part<K: Key, V: Share + Drop>(
+    alloc: Global,
+    part: &OnePart<(K, V)>,
+    key: &K,
+) -> Result<Entries<(K, V)>, AllocError>
+    requires { Holds (is_sorted K.cmp part.now) }
+    ensures { IfOk result (λ new. Holds (is_sorted K.cmp new)
+        × (map_of K.cmp new ≡ map.remove (map_of K.cmp part.now) key.now)) }
+{
+    let new = match place_in(part.items(), key) {
+        Ok(place) => part.without(alloc, place)?,
+        Err(_) => part.share()?,
+    };
+    Entries::of_part(alloc, new)
+}
+
+// The list in parts without the key.
+fn removed_in_parts<K: Key, V: Share + Drop>(
+    list: &PartList<(K, V)>,
+    key: &K,
+) -> Result<PartList<(K, V)>, AllocError>
+    requires { Holds (is_sorted K.cmp list.now) }
+    ensures { IfOk result (λ new. Holds (is_sorted K.cmp new)
+        × (map_of K.cmp new ≡ map.remove (map_of K.cmp list.now) key.now)) }
+{
+    let parts = list.parts();
+    match search(parts, key) {
+        Ok((index, place)) => {
+            let parts = removed_at(parts, index, place)?;
+            Ok(PartList::of_parts(parts, list.len() - 1))
+        }
+        Err(_) => Ok(list.share()?),
     }
 }
 
 impl<K: Key, V: Drop> Share for SharedMap<K, V> {
     fn share(&self) -> Result<SharedMap<K, V>, AllocError> {
         let entries = self.entries.share()?;
-        Ok(SharedMap { entries })
+        Ok(SharedMap {
+            entries,
+            alloc: self.alloc,
+        })
     }
 }
 
@@ -214,7 +308,7 @@ impl<K: Key, V: Share + Drop> MapBuilder<K, V> {
     pub fn from_map(map: &SharedMap<K, V>) -> Result<MapBuilder<K, V>, AllocError>
         ensures exact { IfOk result (λ builder. map_of K.cmp builder ≡ map_of K.cmp map.now) }
     {
-        let entries = map.entries.to_vec()?;
+        let entries = map.entries.to_vec(map.alloc)?;
         Ok(MapBuilder { entries })
     }
 
@@ -222,7 +316,8 @@ impl<K: Key, V: Share + Drop> MapBuilder<K, V> {
     pub fn into_map(self) -> Result<SharedMap<K, V>, AllocError>
         ensures exact { IfOk result (λ map. map_of K.cmp map ≡ map_of K.cmp self) }
     {
-        let entries = PartList::from_vec(self.entries)?;
-        Ok(SharedMap { entries })
+        let alloc = *self.entries.allocator();
+        let entries = Entries::of_part(alloc, OnePart::of(self.entries)?)?;
+        Ok(SharedMap::of(alloc, entries))
     }
 }

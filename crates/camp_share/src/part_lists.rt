@@ -1,14 +1,13 @@
-ghost use Rattle.std.specs.Prelude.{◌≡◌, ◌+◌, ◌<◌, ◌≤◌, ◌^◌, ◌==◌, List, [], ◌∷◌, ◌++◌, length, take, drop, slice_get, slice_range, slice_set, IfOk, IfSome};
-ghost use Rattle.std.specs.List.{splice, insert, remove};
-ghost use Rattle.std.specs.List.{All};
+ghost use Rattle.std.specs.Prelude.{◌≡◌, ◌+◌, ◌<◌, ◌≤◌, ◌^◌, ◌++◌, List, length, drop, slice_get, slice_range, IfOk, IfSome};
+ghost use Rattle.std.specs.List.{All, splice};
 ghost use Rattle.camp_share.specs.Inside.Parts.{joined, IsPart};
 ghost use Rattle.std.specs.Option.{option_copied};
 ghost use Rattle.std.specs.Map.Iter.{ShowsInOrder, deref};
 
 use crate::changes::{Change, place_of, spliced_in_part};
-use crate::growing::{Growing, MAX_PART_LENGTH, Part, append_copies};
+use crate::growing::{Growing, Part, append_copies};
 use crate::iters::Steps;
-use crate::{Iter, Share, Shared};
+use crate::{Iter, Share};
 use std::alloc::{AllocError, Global};
 use std::marker::Model;
 
@@ -33,16 +32,6 @@ impl<T> Model for PartList<T> {
 }
 
 impl<T> PartList<T> {
-    // The list without an element.
-    pub(crate) fn new(alloc: Global) -> PartList<T>
-        ensures exact { result ≡ [] }
-    {
-        PartList {
-            parts: Growing::new(alloc),
-            len: 0,
-        }
-    }
-
     // How many elements the list has.
     pub(crate) fn len(&self) -> usize
         ensures exact { result ≡ length self.now }
@@ -89,7 +78,7 @@ impl<T> PartList<T> {
         ensures { IfSome result (λ it. (it ≡ drop from self.now ++ last.now) × ShowsInOrder (deref {X = T})) }
     {
         if from >= self.len {
-            return Some(Iter::new(&[], Steps::new(&[], &[]), last));
+            return Some(Iter::of_part(last));
         }
         let ends = self.parts.last();
         let mut start = self.len;
@@ -141,20 +130,6 @@ impl<T: Share + Drop> PartList<T> {
             parts,
             len: items.len(),
         })
-    }
-
-    // The list of these elements. Where one part can hold them, their vector is that part.
-    pub(crate) fn from_vec(items: Vec<T>) -> Result<PartList<T>, AllocError>
-        ensures exact { IfOk result (λ list. list ≡ items.items) }
-    {
-        let alloc = *items.allocator();
-        let len = items.len();
-        if len == 0 || len > MAX_PART_LENGTH {
-            return PartList::from_items(alloc, &items);
-        }
-        let mut parts = Growing::new(alloc);
-        parts.push(Shared::new(alloc, items)?)?;
-        Ok(PartList { parts, len })
     }
 
     // Copies of all elements, in one vector.

@@ -1,9 +1,8 @@
-ghost use Rattle.std.specs.Prelude.{◌≡◌, ◌≤◌, [], ◌∷◌, ◌++◌, length, drop, IfOk};
-ghost use Rattle.std.specs.List.{splice};
+ghost use Rattle.std.specs.Prelude.{◌≡◌, ◌<◌, ◌≤◌, [], ◌∷◌, ◌++◌, length, drop, IfOk};
+ghost use Rattle.std.specs.List.{remove, splice};
 ghost use Rattle.std.specs.Map.Iter.{ShowsInOrder, deref};
 
 use crate::growing::{MAX_PART_LENGTH, Part, append_copies};
-use crate::iters::Steps;
 use crate::part_lists::PartList;
 use crate::{Iter, Share, Shared};
 use std::alloc::{AllocError, Global};
@@ -52,7 +51,7 @@ impl<T> Front<T> {
     {
         match &self.list {
             Some(list) => list.iter_from(from, last),
-            None => Iter::new(&[], Steps::new(&[], &[]), last),
+            None => Iter::of_part(last),
         }
     }
 }
@@ -98,13 +97,13 @@ impl<T> Share for Front<T> {
     }
 }
 
-// The last part of a list, or no element.
+// One part that stands alone, or no element: the last part of a list, or all of a short map.
 #[derive(Drop)]
-pub(crate) struct Last<T> {
+pub(crate) struct OnePart<T> {
     part: Option<Part<T>>,
 }
 
-impl<T> Model for Last<T> {
+impl<T> Model for OnePart<T> {
     ghost use Rattle.std.specs.Prelude.{List};
     ghost use Rattle.camp_share.specs.Inside.Parts.{held_part};
 
@@ -113,12 +112,12 @@ impl<T> Model for Last<T> {
     ghost view = { λ last. held_part last.part };
 }
 
-impl<T> Last<T> {
+impl<T> OnePart<T> {
     // No element.
-    pub(crate) fn empty() -> Last<T>
+    pub(crate) fn empty() -> OnePart<T>
         ensures { result ≡ [] }
     {
-        Last { part: None }
+        OnePart { part: None }
     }
 
     // The elements.
@@ -132,21 +131,21 @@ impl<T> Last<T> {
     }
 }
 
-impl<T: Drop> Last<T> {
+impl<T: Drop> OnePart<T> {
     // These elements. Where there are none, it takes no memory.
-    pub(crate) fn of(items: Vec<T>) -> Result<Last<T>, AllocError>
+    pub(crate) fn of(items: Vec<T>) -> Result<OnePart<T>, AllocError>
         ensures { IfOk result (λ last. last ≡ items.items) }
     {
         if items.is_empty() {
-            return Ok(Last::empty());
+            return Ok(OnePart::empty());
         }
         let alloc = *items.allocator();
         let part = Shared::new(alloc, items)?;
-        Ok(Last { part: Some(part) })
+        Ok(OnePart { part: Some(part) })
     }
 }
 
-impl<T: Share + Drop> Last<T> {
+impl<T: Share + Drop> OnePart<T> {
     // The elements with one in place of those from one place up to another.
     pub(crate) fn with_one(
         &self,
@@ -154,7 +153,7 @@ impl<T: Share + Drop> Last<T> {
         from: usize,
         to: usize,
         item: T,
-    ) -> Result<Last<T>, AllocError>
+    ) -> Result<OnePart<T>, AllocError>
         requires range { from ≤ to }
         requires within { to ≤ length self.now }
         ensures { IfOk result (λ last. last ≡ splice self.now from to (item ∷ [])) }
@@ -165,7 +164,7 @@ impl<T: Share + Drop> Last<T> {
         append_copies(&mut items, &old[..from])?;
         items.push(item)?;
         append_copies(&mut items, &old[to..])?;
-        Last::of(items)
+        OnePart::of(items)
     }
 
     // The elements with copies of others in place of those from one place up to another.
@@ -175,7 +174,7 @@ impl<T: Share + Drop> Last<T> {
         from: usize,
         to: usize,
         new: &[T],
-    ) -> Result<Last<T>, AllocError>
+    ) -> Result<OnePart<T>, AllocError>
         requires range { from ≤ to }
         requires within { to ≤ length self.now }
         ensures { IfOk result (λ last. last ≡ splice self.now from to new.now) }
@@ -186,17 +185,27 @@ impl<T: Share + Drop> Last<T> {
         append_copies(&mut items, &old[..from])?;
         append_copies(&mut items, new)?;
         append_copies(&mut items, &old[to..])?;
-        Last::of(items)
+        OnePart::of(items)
+    }
+
+    // The elements without the one at a place.
+    pub(crate) fn without(&self, alloc: Global, place: usize) -> Result<OnePart<T>, AllocError>
+        requires { place < length self.now }
+        ensures { IfOk result (λ last. last ≡ remove self.now place) }
+    {
+        let old = self.items();
+        prove!(place < old.len());
+        self.spliced(alloc, place, place + 1, &[])
     }
 }
 
-impl<T> Share for Last<T> {
-    fn share(&self) -> Result<Last<T>, AllocError> {
+impl<T> Share for OnePart<T> {
+    fn share(&self) -> Result<OnePart<T>, AllocError> {
         match &self.part {
-            Some(part) => Ok(Last {
+            Some(part) => Ok(OnePart {
                 part: Some(part.share()?),
             }),
-            None => Ok(Last { part: None }),
+            None => Ok(OnePart { part: None }),
         }
     }
 }
@@ -204,12 +213,12 @@ impl<T> Share for Last<T> {
 // A front and a last part with copies of other elements in place of those from one place up to another.
 pub(crate) fn spliced<T: Share + Drop>(
     front: &Front<T>,
-    last: &Last<T>,
+    last: &OnePart<T>,
     alloc: Global,
     from: usize,
     to: usize,
     items: &[T],
-) -> Result<(Front<T>, Last<T>), AllocError>
+) -> Result<(Front<T>, OnePart<T>), AllocError>
     requires range { from ≤ to }
     requires within { to ≤ length (front.now ++ last.now) }
     ensures { IfOk result (λ new. new.0 ++ new.1 ≡ splice (front.now ++ last.now) from to items.now) }
@@ -227,21 +236,21 @@ pub(crate) fn spliced<T: Share + Drop>(
     let list = front.spliced(alloc, border, border, last.items())?;
     if from == list.len() && items.len() <= FEW {
         let front = Front::of(alloc, list)?;
-        return Ok((front, Last::empty().spliced(alloc, 0, 0, items)?));
+        return Ok((front, OnePart::empty().spliced(alloc, 0, 0, items)?));
     }
     let list = list.spliced(from, to, items)?;
-    Ok((Front::of(alloc, list)?, Last::empty()))
+    Ok((Front::of(alloc, list)?, OnePart::empty()))
 }
 
 // A front and a last part with one element in place of those from one place up to another.
 pub(crate) fn with_one<T: Share + Drop>(
     front: &Front<T>,
-    last: &Last<T>,
+    last: &OnePart<T>,
     alloc: Global,
     from: usize,
     to: usize,
     item: T,
-) -> Result<(Front<T>, Last<T>), AllocError>
+) -> Result<(Front<T>, OnePart<T>), AllocError>
     requires range { from ≤ to }
     requires within { to ≤ length (front.now ++ last.now) }
     ensures { IfOk result (λ new. new.0 ++ new.1 ≡ splice (front.now ++ last.now) from to (item ∷ [])) }
@@ -259,7 +268,7 @@ pub(crate) fn with_one<T: Share + Drop>(
 
 // Whether a last part may have so many elements in place of as many that go. It may have those of a
 // whole part where nothing stands before it.
-fn has_room<T>(border: usize, last: &Last<T>, gone: usize, new: usize) -> bool {
+fn has_room<T>(border: usize, last: &OnePart<T>, gone: usize, new: usize) -> bool {
     let most = if border == 0 { MAX_PART_LENGTH } else { FEW };
     let kept = last.items().len().saturating_sub(gone);
     new <= most.saturating_sub(kept)

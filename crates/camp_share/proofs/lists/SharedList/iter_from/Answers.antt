@@ -1,4 +1,4 @@
-use Rattle.camp_share.proofs.Words.{◌+◌, ◌-◌, ◌++◌, length, take, drop, sym, ap, ◌∙◌, arith, append-nil, length-drop, take_all, drop-append-add, joined}
+use Rattle.camp_share.proofs.Words.{◌+◌, ◌-◌, ◌++◌, length, take, drop, sym, ap, ◌∙◌, arith, length-drop, take_all, drop-append-add}
 use Rattle.camp_share.proofs.lists.SharedList.iter_from.Goals as goal
 
 pub returns-clause-rest : goal.returns-clause-rest
@@ -9,7 +9,6 @@ returns-clause-rest g c =
     let place = c.args.from - c.len-border.result in
     let begins = c.len-border.ensures in
     let long = length-drop place items in
-    c.new-3.ensures.rest ∙ append-nil _ ∙ ap (λ steps. take (length items - place) (drop place items) ++ joined steps) c.new-2.ensures.rest
-    ∙ append-nil _ ∙ take_all (length items - place) (drop place items) (omega arith) ∙ ap (drop place) c.items-last.ensures
+    c.of_part-2.ensures.rest ∙ take_all (length items - place) (drop place items) (omega arith) ∙ ap (drop place) c.items-last.ensures
     ∙ sym (drop-append-add front last place) ∙ ap (λ k. drop k (front ++ last)) {x = length front + place} {y = c.args.from} (omega arith)
     ∙ ap (drop c.args.from) c.self.view_is

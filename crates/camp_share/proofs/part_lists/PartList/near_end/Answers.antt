@@ -35,9 +35,9 @@ returns-then-start-from g c =
     let rest = c.new-parts.ensures.rest ∙ take_all (length last - (at + 1)) (drop (at + 1) last) (omega arith) in
     let whole = from_end parts last at part c.last-ends.ensures.end c.last-ends.ensures.within (omega arith) c.index-ends-at.is start from
     (omega (arith, c.loop-at.invariant.left)) c.if-start-from.true (omega (arith, c.loop-at.invariant.before)) in (
-      c.new-then-start-from.ensures.rest
+      c.new.ensures.rest
           ∙ ap (λ xs. xs ++ c.args.last.now)
           (ap (λ xs. xs ++ joined c.new-parts.result) (cut ∙ ap (drop (from - start)) lent)
           ∙ ap (λ ps. drop (from - start) part.items ++ joined ps) rest ∙ whole ∙ ap (drop from) c.self.view_is),
-      c.new-then-start-from.ensures.runs,
+      c.new.ensures.runs,
     )
