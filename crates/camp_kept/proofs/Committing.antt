@@ -1,13 +1,16 @@
 -- How the texts of a store grow.
 use Rattle.std.proofs.Common.{◌≡◌, ◌⊎◌, inl, inr, ℕ, suc, List, [], ◌∷◌, ◌++◌, length, take, drop, refl, sym, ◌∙◌, ap, subst, ◌-◌, arith, length-drop}
+use Rattle.std.specs.List.{AllByRecursion}
 use Rattle.std.proofs.lemmas.List.{drop-map, drop_at, map-append, take_all}
 use Rattle.camp_call.specs.declared.calls.Call.{Call}
 use Rattle.camp_kept.specs.Accepting.{AreAccepted}
 use Rattle.camp_kept.specs.Keeping.{Holds, IsStoreOf, Tells, call_texts, disk_in, store_texts, title}
 use Rattle.camp_kept.specs.declared.kept.Kept.{Kept}
-use Rattle.camp_object.specs.Histories.{IsBeginning}
+use Rattle.camp_kept.proofs.Listing.{accepted_more, legal_alone}
+use Rattle.camp_object.specs.Histories.{IsBeginning, IsLegal}
+use Rattle.camp_repo.specs.Objects.{repository}
 use Rattle.camp_script.specs.Canonical.{call_text}
-use Rattle.camp_script.specs.Keeping.{calls_of}
+use Rattle.camp_script.specs.Keeping.{CanStand, calls_of}
 use Rattle.camp_store.specs.Blocks.{Stands}
 use Rattle.camp_store.specs.Logs.{IsBeforeOrAfter}
 use Rattle.camp_store.proofs.BlockLemmas.{kept_stands}
@@ -47,6 +50,18 @@ slice_is history calls front k is =
     ∙ sym (drop-map (λ (e : ℕ × Call). e.1) k history)
     ∙ ap (λ (n : ℕ). drop n (calls_of history)) is
     ∙ rest_is calls (calls_of history) front
+
+-- the texts that a commit adds to those of the calls that are kept make those of all calls
+pub committed : (calls : List Call) (read book : List (ℕ × Call)) → read ≡ book → IsLegal repository book → (k : ℕ) → k ≡ length calls → AreAccepted calls → IsBeginning calls (calls_of book)
+    → (new : List (List ℕ)) → new ≡ call_texts (calls_of (take (length read - k) (drop k read))) → AllByRecursion CanStand (calls_of (take (length read - k) (drop k read)))
+    → AreAccepted (calls_of book) × (store_texts calls ++ new ≡ store_texts (calls_of book))
+committed calls read book value legal k is accepted front new are stand =
+    let here : IsBeginning calls (calls_of read) = subst (λ (h : List (ℕ × Call)). IsBeginning calls (calls_of h)) (sym value) front in
+    let slice = slice_is read calls here k is in (
+      subst (λ (h : List (ℕ × Call)). AreAccepted (calls_of h)) value
+          (accepted_more calls (calls_of read) here accepted.can (subst (AllByRecursion CanStand) slice stand) (legal_alone read (subst (IsLegal repository) (sym value) legal))),
+      ap (λ (l : List (List ℕ)). store_texts calls ++ l) (are ∙ ap call_texts slice) ∙ texts_grow calls (calls_of read) here ∙ ap (λ (h : List (ℕ × Call)). store_texts (calls_of h)) value,
+    )
 
 -- whatever a crash leaves where calls are on the disk is a store of them
 pub holds_leave : {D : Type 0} (seen : D → List ℕ) (may_leave : D → List ℕ → Type 0) (calls : List Call) (kept : Kept D) → Holds seen may_leave calls kept
