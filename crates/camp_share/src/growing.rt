@@ -1,7 +1,7 @@
 ghost use Rattle.std.specs.Prelude.{◌≡◌, ◌+◌, ◌-◌, ◌<◌, ◌≤◌, ◌^◌, List, [], ◌∷◌, ◌++◌, length, take, drop, slice_index_or, IfOk, OnOk};
 ghost use Rattle.std.specs.List.{All};
 ghost use Rattle.std.specs.Map.Iter.{ShowsInOrder, deref};
-ghost use Rattle.camp_share.specs.Inside.Parts.{joined, IsPart};
+ghost use Rattle.camp_share.specs.Inside.Parts.{joined, longest_part, IsPart};
 
 use crate::iters::Steps;
 use crate::{Share, Shared};
@@ -136,6 +136,7 @@ impl<T: Share + Drop> Growing<T> {
         if self.last.len() >= MAX_PART_LENGTH {
             close(&mut self.closed, &mut self.last)?;
         }
+        make_room(&mut self.last)?;
         self.last.push(item)?;
         Ok(())
     }
@@ -291,6 +292,18 @@ pub(crate) fn append_copies<T: Share + Drop>(
     items.reserve(more.len())?;
     for item in more {
         items.push_reserved(item.share()?);
+    }
+    Ok(())
+}
+
+// Makes room for the rest of a part where a vector would grow past that.
+fn make_room<T>(items: &mut Vec<T>) -> Result<(), AllocError>
+    requires { length items.old.items < longest_part }
+    ensures { items.new.items ≡ items.old.items }
+{
+    let len = items.len();
+    if len == items.capacity() && len > MAX_PART_LENGTH / 2 {
+        items.reserve_exact(MAX_PART_LENGTH - len)?;
     }
     Ok(())
 }
