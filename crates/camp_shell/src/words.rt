@@ -110,54 +110,75 @@ pub(crate) fn wish_of<'a, S: AsStr>(alloc: Global, words: &'a [S]) -> Result<Wis
 }
 
 fn command<'a>(alloc: Global) -> Result<Command<'a>, AllocError> {
-    let command = Command::new(alloc, "camp_shell")
+    let options = options(alloc)?;
+    Command::new(alloc, "camp_shell")
         .override_usage(USAGE)
-        .after_help(REFERENCE);
-    let command = with_forms(alloc, command)?;
-    with_stores(alloc, command)
+        .after_help(REFERENCE)
+        .args(options)
 }
 
-fn with_forms<'a>(alloc: Global, command: Command<'a>) -> Result<Command<'a>, AllocError> {
-    let load = Arg::new(alloc, "load")
+fn options<'a>(alloc: Global) -> Result<Vec<Arg<'a>>, AllocError> {
+    let mut options = Vec::new(alloc);
+    options.push(load(alloc))?;
+    options.push(export(alloc))?;
+    options.push(frames(alloc))?;
+    options.push(prompt(alloc)?)?;
+    options.push(store(alloc))?;
+    options.push(check(alloc)?)?;
+    Ok(options)
+}
+
+fn load<'a>(alloc: Global) -> Arg<'a> {
+    Arg::new(alloc, "load")
         .long("load")
         .num_args(1..)
         .action(ArgAction::Append)
         .value_name("FILE")
-        .help("Load these files of commands first, one after the other");
-    let export = Arg::new(alloc, "export")
+        .help("Load these files of commands first, one after the other")
+}
+
+fn export<'a>(alloc: Global) -> Arg<'a> {
+    Arg::new(alloc, "export")
         .long("export")
         .value_name("BRANCH")
-        .help("Write this branch as a stream for git fast-import, and end");
-    let frames = Arg::new(alloc, "frames")
+        .help("Write this branch as a stream for git fast-import, and end")
+}
+
+fn frames<'a>(alloc: Global) -> Arg<'a> {
+    Arg::new(alloc, "frames")
         .long("frames")
         .action(ArgAction::SetTrue)
         .help(
             "Read requests and write answers in frames: a number of bytes on a line, and then so many",
-        );
-    let prompt = Arg::new(alloc, "prompt")
-        .long("prompt")
-        .action(ArgAction::SetTrue)
-        .conflicts_with("frames")?
-        .conflicts_with("export")?
-        .help("Ask for each line with a prompt, as at a terminal");
-    command.arg(load)?.arg(export)?.arg(frames)?.arg(prompt)
+        )
 }
 
-fn with_stores<'a>(alloc: Global, command: Command<'a>) -> Result<Command<'a>, AllocError> {
-    let store = Arg::new(alloc, "store")
+fn prompt<'a>(alloc: Global) -> Result<Arg<'a>, AllocError> {
+    Arg::new(alloc, "prompt")
+        .long("prompt")
+        .action(ArgAction::SetTrue)
+        .help("Ask for each line with a prompt, as at a terminal")
+        .conflicts_with("frames")?
+        .conflicts_with("export")
+}
+
+fn store<'a>(alloc: Global) -> Arg<'a> {
+    Arg::new(alloc, "store")
         .long("store")
         .value_name("FILE")
         .help(
             "Keep the repository in this file; each accepted call is on the disk before it is answered",
-        );
-    let check = Arg::new(alloc, "check-store")
+        )
+}
+
+fn check<'a>(alloc: Global) -> Result<Arg<'a>, AllocError> {
+    Arg::new(alloc, "check-store")
         .long("check-store")
         .value_name("FILE")
+        .help("Tell what a file keeps, and change nothing")
         .conflicts_with("store")?
         .conflicts_with("load")?
         .conflicts_with("export")?
         .conflicts_with("frames")?
-        .conflicts_with("prompt")?
-        .help("Tell what a file keeps, and change nothing");
-    command.arg(store)?.arg(check)
+        .conflicts_with("prompt")
 }
