@@ -36,13 +36,9 @@ pub fn merged_either_way(
 {
     merge_is_symmetric();
     merge_is_unique();
-    let Some(here) = merge(alloc, j, k)? else {
-        return Ok(None);
-    };
-    let Some(there) = merge(alloc, k, j)? else {
-        return Ok(None);
-    };
-    Ok(Some((here, there)))
+    let here = merge(alloc, j, k)?;
+    let there = merge(alloc, k, j)?;
+    Ok(here.zip(there))
 }
 
 /// What the catches of another list become behind our own, where both lists begin in one state. They

@@ -69,10 +69,10 @@ pub fn meets(
     x: &Contexted,
     other: &Contexted,
 ) -> Result<bool, AllocError> {
-    let seen = Contexted::add(list, x)?;
     if let Some(passed) = Contexted::past(list, x)? {
         return conflict(&passed, other);
     }
+    let seen = Contexted::add(list, x)?;
     let set = CtxSet::empty(alloc).insert(x)?.insert(&seen)?;
     Ok(set.len() == 1 && conflict(&seen, other)?)
 }

@@ -1,5 +1,6 @@
 //! Callers of `camp_seq`.
 ghost use Rattle.std.specs.Prelude.{◌≡◌, OnOk, IfOk, IfSome};
+ghost use Rattle.camp_base.specs.Trees.{Files};
 ghost use Rattle.camp_seq.specs.Equivalence.{◌~◌};
 ghost use Rattle.camp_seq.specs.NormalOrder.{Norm};
 ghost use Rattle.camp_seq.specs.Room.{HasRoom};
@@ -57,17 +58,17 @@ pub fn merged_in_both_orders(a: &Seq, b: &Seq, tree: &Tree) -> Result<Option<(Tr
     };
     clean_merge_closes();
     applied_is_applies();
-    let here = after(a, tree)?;
-    let here = after(&behind_a, &here)?;
-    let there = after(b, tree)?;
-    let there = after(&behind_b, &there)?;
+    let here = after_both(a, &behind_a, tree)?;
+    let there = after_both(b, &behind_b, tree)?;
     Ok(Some((here, there)))
 }
 
-fn after(list: &Seq, tree: &Tree) -> Result<Tree, Apply>
-    ensures { IfOk result (AppliesAll list.now tree.now) }
+/// The tree after two lists, one behind the other.
+fn after_both(first: &Seq, second: &Seq, tree: &Tree) -> Result<Tree, Apply>
+    ensures { IfOk result (λ after. (between : Files) × AppliesAll first.now tree.now between × AppliesAll second.now between after) }
 {
     let mut changed = tree.try_clone()?;
-    apply_all(list, &mut changed)?;
+    apply_all(first, &mut changed)?;
+    apply_all(second, &mut changed)?;
     Ok(changed)
 }
