@@ -130,6 +130,7 @@ impl<'a, R: Wait, State: Object, G: Gate> Run<'a, R, State, G> {
         ensures { IfOk result (λ ran. Ran State.object self.now.head.now (lists_of self.now.sections.now) seat ran.0 ran.1.items) }
     {
         let mut seat = seat;
+        let _shift = shift(self.alloc, seat.number());
         let answers = self.at_seat(&mut seat)?;
         let _handed = self.head.hand_on(&seat);
         self.gate.end(seat.number());
@@ -180,6 +181,7 @@ where
     {
         let mut opener = opener;
         let opening = self.at_seat(&mut opener)?;
+        self.gate.end(opener.number());
         let (seats, opener) = each_meets::<State>(self.alloc, self.head, seats, opener)?;
         let (seats, answers) = self.clients(opening, seats)?;
         let opener = meet_all::<State>(self.alloc, self.head, opener, seats)?;
@@ -187,6 +189,13 @@ where
         let _number = opener.number();
         Ok((opener, answers))
     }
+}
+
+/// Bytes that a client holds and never writes to, so many more for each seat. Threads take memory from heaps that begin
+/// at multiples of 64 megabytes. What clients put there in one order would lie at equal distances from these, and so
+/// share a few places of the processor's caches.
+fn shift(alloc: Global, seat: u32) -> Option<Vec<u8>> {
+    Vec::with_capacity(alloc, (seat % 8 * 4_160) as usize).ok()
 }
 
 /// Asks a section of calls at the desk of a head. It stands apart for the proof alone: here the clauses of any desk are

@@ -63,12 +63,10 @@ fn set_between(bits: u64, step: u64, seat: u32) -> u64 {
     (bits.rotate_right(first) & nearer).count_ones() as u64
 }
 
-/// How often a client that comes next finds the same before it takes the turn. Behind the opening, at seat 0, it waits
-/// until no more clients begin, so that they go ahead in their order.
+/// How often a client that comes next finds the same before it takes the turn.
 fn looks_before_taking(step: u64) -> u32 {
     match kind_of(step) {
-        RESTS if step % SEATS != 0 => 0,
-        RESTS => 1,
+        RESTS => 0,
         HAS_EXCHANGED => UNCHANGED_BETWEEN,
         _ => MOST_UNCHANGED,
     }
