@@ -1,8 +1,8 @@
 /// A gate is told of the steps of calls, and may wait there, as clients that take turns do. It changes no
 /// answer. That it is told of each step, and with which numbers, is only tested.
 pub trait Gate {
-    /// Told before a call of a seat, with the call's number.
-    fn before(&self, seat: u32, call: u32);
+    /// Told before a call of a seat, with the call's number and whether it writes.
+    fn before(&self, seat: u32, call: u32, writes: bool);
 
     /// Told just before an exchange, with how many this call has lost.
     fn exchange(&self, seat: u32, lost: u32);
@@ -20,7 +20,7 @@ pub trait Gate {
 pub struct NoGate;
 
 impl Gate for NoGate {
-    fn before(&self, _seat: u32, _call: u32) {}
+    fn before(&self, _seat: u32, _call: u32, _writes: bool) {}
 
     fn exchange(&self, _seat: u32, _lost: u32) {}
 

@@ -223,6 +223,14 @@ impl<'a, R: Wait> Turns<'a, R> {
         self.wake_first(from, bits & bits.wrapping_sub(1));
     }
 
+    /// Waits where the others see it.
+    fn stand_in_line(&self, seat: u32, lost: u32) {
+        let bit = 1u64.rotate_left(seat % 64);
+        self.waiting.fetch_or(bit, Ordering::SeqCst);
+        self.wait(seat, lost);
+        self.waiting.fetch_and(!bit, Ordering::SeqCst);
+    }
+
     /// Waits for the turn, for a while at most, and takes it. Who is woken and does not come next exchanges once
     /// without it: that shows it the newest calls, so that it has few to see when its turn comes.
     fn wait(&self, seat: u32, lost: u32) {
@@ -246,10 +254,14 @@ impl<'a, R: Wait> Turns<'a, R> {
 }
 
 impl<'a, R: Wait> Gate for Turns<'a, R> {
-    fn before(&self, seat: u32, _call: u32) {
+    /// Who was never woken waits before a call that writes. While another one goes ahead it would decide that in vain,
+    /// and beside that one, as long as threads are still begun.
+    fn before(&self, seat: u32, _call: u32, writes: bool) {
         let step = self.last_step();
         if is_of(step, seat) {
             self.go(step, ASKS, seat);
+        } else if writes && self.bells.rung(seat as u64) == 0 {
+            self.stand_in_line(seat, 0);
         }
     }
 
@@ -259,10 +271,7 @@ impl<'a, R: Wait> Gate for Turns<'a, R> {
         if is_of(step, seat) && self.go(step, EXCHANGES, seat) {
             return;
         }
-        let bit = 1u64.rotate_left(seat % 64);
-        self.waiting.fetch_or(bit, Ordering::SeqCst);
-        self.wait(seat, lost);
-        self.waiting.fetch_and(!bit, Ordering::SeqCst);
+        self.stand_in_line(seat, lost);
     }
 
     fn after(&self, seat: u32, _call: u32) {

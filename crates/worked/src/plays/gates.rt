@@ -14,6 +14,8 @@ const MOST_LOOKS: u32 = 100_000_000;
 #[derive(Clone, Copy, PartialEq)]
 enum Kind {
     Before,
+    Asks,
+    Writes,
     Exchange,
     After,
     End,
@@ -118,8 +120,10 @@ impl Delays {
 }
 
 impl Gate for Delays {
-    fn before(&self, seat: u32, call: u32) {
+    fn before(&self, seat: u32, call: u32, writes: bool) {
         self.tell(Kind::Before, seat, call);
+        let kind = if writes { Kind::Writes } else { Kind::Asks };
+        self.tell(kind, seat, call);
     }
 
     fn exchange(&self, seat: u32, lost: u32) {
@@ -158,6 +162,8 @@ fn kind_of(word: &[u8]) -> Result<Kind, PlayFault> {
 
 const KINDS: &[(&str, Kind)] = &[
     ("before", Kind::Before),
+    ("asks", Kind::Asks),
+    ("writes", Kind::Writes),
     ("exchange", Kind::Exchange),
     ("after", Kind::After),
     ("end", Kind::End),
