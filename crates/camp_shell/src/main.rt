@@ -14,7 +14,7 @@ mod words;
 use camp_base::Name;
 use camp_git::export;
 use camp_options::{WordsFault, command_line};
-use camp_talk::{Book, Conversation, FramedConversation, State, TalkFault, load, talk};
+use camp_talk::{Book, Conversation, FrameFault, FramedConversation, State, TalkFault, load, talk};
 use prompts::Prompted;
 use std::fs::{self, File};
 use std::io::{BufReader, IsTerminal, Read};
@@ -38,8 +38,7 @@ fn exit_code(rt: &HostRuntime, ended: Result<(), Stop<'_>>) -> ExitCode {
     }
 }
 
-// Loads the files that the words of a command line name into a new repository, and then holds a conversation
-// over it.
+// Does what the words of a command line ask for.
 fn hold<'a>(rt: &HostRuntime, words: &'a [String]) -> Result<(), Stop<'a>> {
     let wish = wish_of(rt.alloc(), words).map_err(WordsFault::from)?;
     if let Some(store) = wish.checked {
@@ -48,21 +47,44 @@ fn hold<'a>(rt: &HostRuntime, words: &'a [String]) -> Result<(), Stop<'a>> {
     if let Some(store) = wish.store {
         return hold_stored(rt, store, &wish);
     }
+    let book = loaded(rt, &wish.files)?;
+    match wish.export {
+        Some(branch) => export_branch(rt, &book, branch),
+        None => converse(rt, book, wish.form),
+    }
+}
+
+// A new repository with what the commands of these files do.
+fn loaded<'a>(rt: &HostRuntime, files: &[&'a str]) -> Result<Book<State>, Stop<'a>> {
     let mut book = Book::new(rt.alloc())?;
-    for file in wish.files.iter() {
-        load_file(rt, &mut book, file)?;
+    for file in files {
+        load_file(rt, &mut book, *file)?;
     }
-    if let Some(branch) = wish.export {
-        return export_branch(rt, &book, branch);
+    Ok(book)
+}
+
+// Holds a conversation over a repository.
+fn converse<'a>(rt: &HostRuntime, book: Book<State>, form: Form) -> Result<(), Stop<'a>> {
+    match form_at(rt, form) {
+        Form::Lines => Ok(talk_in_lines(rt, book)?),
+        Form::Prompts => Ok(talk_at_prompts(rt, book)?),
+        Form::Frames => Ok(talk_in_frames(rt, book)?),
     }
+}
+
+fn talk_in_lines(rt: &HostRuntime, book: Book<State>) -> Result<(), TalkFault> {
     let reader = buffered(rt, rt.stdin())?;
-    let writer = rt.stdout();
-    match form_at(rt, wish.form) {
-        Form::Lines => talk(&mut Conversation::new(rt.alloc(), book, reader, writer))?,
-        Form::Prompts => talk(&mut Prompted::new(rt.alloc(), book, reader, rt.stdout(), writer))?,
-        Form::Frames => talk(&mut FramedConversation::new(rt.alloc(), book, reader, writer))?,
-    }
-    Ok(())
+    talk(&mut Conversation::new(rt.alloc(), book, reader, rt.stdout()))
+}
+
+fn talk_at_prompts(rt: &HostRuntime, book: Book<State>) -> Result<(), TalkFault> {
+    let reader = buffered(rt, rt.stdin())?;
+    talk(&mut Prompted::new(rt.alloc(), book, reader, rt.stdout(), rt.stdout()))
+}
+
+fn talk_in_frames(rt: &HostRuntime, book: Book<State>) -> Result<(), FrameFault> {
+    let reader = buffered(rt, rt.stdin())?;
+    talk(&mut FramedConversation::new(rt.alloc(), book, reader, rt.stdout()))
 }
 
 // At a terminal lines are asked for by prompts.

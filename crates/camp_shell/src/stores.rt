@@ -40,20 +40,34 @@ pub(crate) fn hold_stored<'a>(
 }
 
 // Holds a conversation over what is kept.
-fn converse(rt: &HostRuntime, mut kept: Kept<File>, form: Form) -> Result<(), StoredFault> {
+fn converse(rt: &HostRuntime, kept: Kept<File>, form: Form) -> Result<(), StoredFault> {
+    match form_at(rt, form) {
+        Form::Lines => talk_in_lines(rt, kept),
+        Form::Prompts => talk_at_prompts(rt, kept),
+        Form::Frames => talk_in_frames(rt, kept),
+    }
+}
+
+fn talk_in_lines(rt: &HostRuntime, mut kept: Kept<File>) -> Result<(), StoredFault> {
     let mut reader = buffered(rt, rt.stdin())?;
     let mut writer = rt.stdout();
-    match form_at(rt, form) {
-        Form::Prompts => talk(&mut PromptedStore {
-            alloc: rt.alloc(),
-            kept,
-            held: HeldBack::new(rt.alloc()),
-            reader: Prompting::new(rt.alloc(), reader, rt.stdout()),
-            writer,
-        }),
-        Form::Frames => talk(&mut FramedStore::new(rt.alloc(), kept, reader, writer)),
-        Form::Lines => talk_kept(rt.alloc(), &mut kept, &mut reader, &mut writer),
-    }
+    talk_kept(rt.alloc(), &mut kept, &mut reader, &mut writer)
+}
+
+fn talk_at_prompts(rt: &HostRuntime, kept: Kept<File>) -> Result<(), StoredFault> {
+    let reader = buffered(rt, rt.stdin())?;
+    talk(&mut PromptedStore {
+        alloc: rt.alloc(),
+        kept,
+        held: HeldBack::new(rt.alloc()),
+        reader: Prompting::new(rt.alloc(), reader, rt.stdout()),
+        writer: rt.stdout(),
+    })
+}
+
+fn talk_in_frames(rt: &HostRuntime, kept: Kept<File>) -> Result<(), StoredFault> {
+    let reader = buffered(rt, rt.stdin())?;
+    talk(&mut FramedStore::new(rt.alloc(), kept, reader, rt.stdout()))
 }
 
 // A conversation over what is kept, with prompts.
