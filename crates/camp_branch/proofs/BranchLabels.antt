@@ -134,13 +134,19 @@ pub names_of_left : (branch left : List Catch) (names : List (List ℕ)) (own : 
 names_of_left branch left names own v has =
     names_of_patches left (others_of names own) has ∙ names_chosen (λ name. not (is_among names name)) own ∙ ap (filter (λ name. not (is_among names name))) (sym (names_of_patches branch own v))
 
+-- a patch has as many labels as changes
+pub labels_count : (name : List ℕ) (place n : ℕ) → length (labels_from name place n) ≡ n
+labels_count name place zero = refl
+labels_count name place (suc n) = ap suc (labels_count name (place + 1) n)
+
 -- the labels of what is recorded
 recorded_labels : (name : List ℕ) (place : ℕ) (changes : List Primitive) → keys_of (recorded name place changes) ≡ labels_from name place (length changes)
 recorded_labels name place [] = refl
 recorded_labels name place (change ∷ changes) =
     ap (λ t. record { name = name; place = place } ∷ t) (recorded_labels name (place + 1) changes)
 
-none_else : (name : List ℕ) (names : List (List ℕ)) → is_among names name ≡ false → AllByRecursion (λ other. is_among (name ∷ []) other ≡ false) names
+-- a name that is not among others is none of them
+pub none_else : (name : List ℕ) (names : List (List ℕ)) → is_among names name ≡ false → AllByRecursion (λ other. is_among (name ∷ []) other ≡ false) names
 none_else name names e = each_among _ names (λ other f.
     or_from _ _ (false_from_ne_true (bytes_eq other name) (λ g. true≢false (sym (subst (λ n. is_among names n ≡ true) (same_name other name g) f) ∙ e))) refl)
 

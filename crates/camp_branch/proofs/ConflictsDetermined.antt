@@ -1,5 +1,5 @@
 -- The conflicts of a branch: which they are, and that they are one list.
-use Rattle.camp_branch.proofs.Words.{◌≡◌, ◌⊎◌, ℕ, true, Option, None, Some, List, [], ◌∷◌, map, is_some, refl, sym, ap, ◌∙◌, subst, inl, inr, Contains-append_cases, Contains-append_left, Contains-append_right, Contains-from_any, list_any-from_Contains, tells_apart, Contains, flat_map, ordering_reverse, eq_by_cmp_equiv, nat_list_cmp_total, contains_key-keys, get, keys, Ordering, Less, Equal, Greater, Key, key_total, key_ties, ContextedPatches, ContextedPatch, Catch, Plain, name_of, AreConflicts, AreInConflict, ConflictsWith, IsBetween, names_against, names_within, ordered_by, pair_of, pairs_at, pairs_in, ConflictsAreDetermined, ◌<◌, length, get_or, arith, length-map, get_or-map, Contains-get_or, ◌≤◌, ◌+◌, ◌++◌, suc, take, flat_map_more, map-append, take_all, slice_get, entries, entries_sorted, get-entries, len, AreKeyed, context_key, count_of_members, members_of}
+use Rattle.camp_branch.proofs.Words.{◌≡◌, ◌⊎◌, ◌↔◌, ℕ, true, Option, None, Some, List, [], ◌∷◌, map, is_some, refl, sym, ap, ◌∙◌, subst, inl, inr, Contains-append_cases, Contains-append_left, Contains-append_right, Contains-from_any, list_any-from_Contains, tells_apart, Contains, flat_map, ordering_reverse, eq_by_cmp_equiv, nat_list_cmp_total, contains_key-keys, get, keys, Ordering, Less, Equal, Greater, Key, key_total, key_ties, ContextedPatches, ContextedPatch, Catch, Plain, name_of, AreConflicts, ConflictsWith, names_against, names_within, ordered_by, pair_of, pairs_in, ConflictsAreDetermined, ◌<◌, length, get_or, arith, length-map, get_or-map, Contains-get_or, ◌≤◌, ◌+◌, ◌++◌, suc, take, flat_map_more, map-append, take_all, slice_get, entries, entries_sorted, get-entries, len, AreKeyed, context_key, count_of_members, members_of}
 use Rattle.camp_branch.proofs.Names.{has_image}
 use Rattle.camp_branch.proofs.SortedPairs.{IsInOrder, Pair, Within, ascending_once, by_name, first_or_later, has_first, has_later, in_order, no_member}
 use Rattle.std.proofs.lemmas.Option.{none-some, slice_get_cases}
@@ -7,7 +7,7 @@ use Rattle.camp_prim.specs.Labels.{key_cmp}
 use Rattle.camp_ctx.proofs.EntrySteps.{found_at, take_push}
 
 -- what one of the lists has that the elements of a list make
-has_of_each : {X A : Type 0} (f : X → List A) (list : List X) (x : X) (y : A) → Contains list x → Contains (f x) y → Contains (flat_map f list) y
+pub has_of_each : {X A : Type 0} (f : X → List A) (list : List X) (x : X) (y : A) → Contains list x → Contains (f x) y → Contains (flat_map f list) y
 has_of_each f [] x y c d = no_member x c
 has_of_each f (z ∷ list) x y c d = elim (first_or_later z x list c) [
   | inl e ↦ Contains-append_left (f z) _ y (subst (λ w. Contains (f w) y) (sym e) d)
@@ -23,7 +23,7 @@ one_has f (z ∷ list) y c = elim (Contains-append_cases (f z) (flat_map f list)
       (rest.0, has_later z rest.0 list rest.1, rest.2)
 ]
 
-is_image : {X A : Type 0} (f : X → A) (list : List X) (y : A) → Contains (map f list) y → (x : X) × Contains list x × (f x ≡ y)
+pub is_image : {X A : Type 0} (f : X → A) (list : List X) (y : A) → Contains (map f list) y → (x : X) × Contains list x × (f x ≡ y)
 is_image f [] y c = no_member y c
 is_image f (x ∷ list) y (k, within, is) =
     let place : k < length (x ∷ list) = omega (arith, length-map (x ∷ list) f) in
@@ -33,11 +33,11 @@ value_of : {X : Type 0} (o : Option X) → is_some o ≡ true → (x : X) × (o 
 value_of None e = cc
 value_of (Some x) e = (x, refl)
 
-key_is_listed : (xs : ContextedPatches) (key : Key) (x : ContextedPatch) → get xs key ≡ Some x → Contains (keys xs) key
+pub key_is_listed : (xs : ContextedPatches) (key : Key) (x : ContextedPatch) → get xs key ≡ Some x → Contains (keys xs) key
 key_is_listed xs key x is =
     Contains-from_any (tells_apart key_ties) key (keys xs) (sym (contains_key-keys xs key) ∙ ap is_some is)
 
-listed_has_member : (xs : ContextedPatches) (key : Key) → Contains (keys xs) key → (x : ContextedPatch) × (get xs key ≡ Some x)
+pub listed_has_member : (xs : ContextedPatches) (key : Key) → Contains (keys xs) key → (x : ContextedPatch) × (get xs key ≡ Some x)
 listed_has_member xs key c =
     value_of (get xs key) (contains_key-keys xs key ∙ list_any-from_Contains (eq_by_cmp_equiv key_total) key (keys xs) c)
 
@@ -75,32 +75,52 @@ of_names a b Equal p e c = no_member p c
 of_names a b Greater p e c =
     subst (IsOfNames a b) (alone (b, a) p c) (nat_list_cmp_total.antisymm b a ∙ ap ordering_reverse e, inr (refl, refl))
 
--- the pairs that are collected are in conflict
-pub collected_conflict : (branch : List Catch) (p : Pair) → Contains (pairs_in branch) p → (by_name p.0 p.1 ≡ Less) × AreInConflict branch p.0 p.1
-collected_conflict branch p c =
-    let at = one_has pairs_at branch p c in
-    let member = one_has (pair_of (name_of at.0)) (names_against at.0) p at.2 in
-    let with = against at.0 member.0 member.1 in
-    let names = of_names (name_of at.0) member.0 _ p refl member.2 in
-    let between = λ (n : List ℕ) (e : member.0 ≡ n). subst (ConflictsWith at.0) e with in
-    (names.0, (at.0, at.1, elim names.1 [ inl e ↦ inl (e.0, between p.1 e.1) | inr e ↦ inr (e.0, between p.0 e.1) ]))
+-- pairs of the name of each catch with those that it names, which are just those that are joined to it
+module _ (named : Catch → List (List ℕ)) (Joins : List ℕ → List ℕ → Catch → Type 0) (joins : (k : Catch) (name : List ℕ) → Contains (named k) name → Joins (name_of k) name k) (is_named : (k : Catch) (first second : List ℕ) → Joins first second k → (name_of k ≡ first) × Contains (named k) second) where
+  abbrev pub paired : Catch → List Pair
+  paired k = flat_map (pair_of (name_of k)) (named k)
 
-at_catch : (k : Catch) (first second : List ℕ) → by_name first second ≡ Less → IsBetween first second k → Contains (pairs_at k) (first, second)
-at_catch k first second less (inl w) =
-    has_of_each (pair_of (name_of k)) (names_against k) second (first, second) (is_against k second w.1) (subst (λ n. Contains (pair_of n second) (first, second)) (sym w.0) (first_is_less first second less))
-at_catch k first second less (inr w) =
-    has_of_each (pair_of (name_of k)) (names_against k) first (first, second) (is_against k first w.1) (subst (λ n. Contains (pair_of n first) (first, second)) (sym w.0) (second_is_less second first less))
+  -- a catch joins two names, one way or the other
+  abbrev pub AreJoined : List Catch → List ℕ → List ℕ → Type 0
+  AreJoined branch first second = (k : Catch) × Contains branch k × (Joins first second k ⊎ Joins second first k)
 
--- all that are in conflict are collected
-pub conflict_collected : (branch : List Catch) (first second : List ℕ) → by_name first second ≡ Less → AreInConflict branch first second → Contains (pairs_in branch) (first, second)
-conflict_collected branch first second less w =
-    has_of_each pairs_at branch w.0 (first, second) w.1 (at_catch w.0 first second less w.2)
+  joined_as : (k : Catch) (a b c d : List ℕ) → a ≡ c → b ≡ d → Joins a b k → Joins c d k
+  joined_as k a b c d e f w = subst (λ n. Joins c n k) f (subst (λ n. Joins n b k) e w)
+
+  -- the pairs that are collected are joined
+  collected_joined : (branch : List Catch) (p : Pair) → Contains (flat_map paired branch) p → (by_name p.0 p.1 ≡ Less) × AreJoined branch p.0 p.1
+  collected_joined branch p c =
+      let at = one_has paired branch p c in
+      let k : Catch = at.0 in
+      let member = one_has (pair_of (name_of k)) (named k) p at.2 in
+      let with = joins k member.0 member.1 in
+      let names : IsOfNames (name_of k) member.0 p = of_names (name_of k) member.0 _ p refl member.2 in
+      let joined : Joins p.0 p.1 k ⊎ Joins p.1 p.0 k = elim names.1 [
+        | inl e ↦ inl (joined_as k (name_of k) member.0 p.0 p.1 e.0 e.1 with)
+        | inr e ↦ inr (joined_as k (name_of k) member.0 p.1 p.0 e.0 e.1 with)
+      ] in
+      (names.0, (k, at.1, joined))
+
+  at_catch : (k : Catch) (first second : List ℕ) → by_name first second ≡ Less → Joins first second k ⊎ Joins second first k → Contains (paired k) (first, second)
+  at_catch k first second less (inl w) =
+      let is = is_named k first second w in
+      has_of_each (pair_of (name_of k)) (named k) second (first, second) is.1 (subst (λ n. Contains (pair_of n second) (first, second)) (sym is.0) (first_is_less first second less))
+  at_catch k first second less (inr w) =
+      let is = is_named k second first w in
+      has_of_each (pair_of (name_of k)) (named k) first (first, second) is.1 (subst (λ n. Contains (pair_of n first) (first, second)) (sym is.0) (second_is_less second first less))
+
+  -- of the pairs that are collected each once are listed those that are joined, the lesser name first
+  pub listed_joined : (branch : List Catch) (pairs : List Pair) → IsInOrder (flat_map paired branch) pairs → (first second : List ℕ) → Contains pairs (first, second) ↔ ((by_name first second ≡ Less) × AreJoined branch first second)
+  listed_joined branch pairs all first second = (
+    λ c. collected_joined branch (first, second) (all.has_no_other (first, second) c),
+    λ w. all.has (first, second) (has_of_each paired branch w.1.0 (first, second) w.1.1 (at_catch w.1.0 first second w.0 w.1.2)),
+  )
 
 -- the pairs that are collected, each once, in ascending order
 pub conflicts_by : (branch : List Catch) (pairs : List Pair) → IsInOrder (pairs_in branch) pairs → AreConflicts branch pairs
 conflicts_by branch pairs all = record {
   ascending = all.ascending;
-  listed = λ first second. (λ c. collected_conflict branch (first, second) (all.has_no_other (first, second) c), λ w. all.has (first, second) (conflict_collected branch first second w.0 w.1));
+  listed = listed_joined names_against (λ first second k. (name_of k ≡ first) × ConflictsWith k second) (λ k name c. (refl, against k name c)) (λ k first second w. (w.0, is_against k second w.1)) branch pairs all;
 }
 
 both_list : (branch : List Catch) (pairs others : List Pair) → AreConflicts branch pairs → AreConflicts branch others → Within pairs others

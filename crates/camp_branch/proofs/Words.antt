@@ -13,7 +13,7 @@ pub use Rattle.camp_catch.proofs.KeptLabels.{keep_labels}
 pub use Rattle.camp_prim.specs.Effect.{Applies, inverse_of}
 pub use Rattle.std.proofs.Math.Bool.{and-true, and_comm, or-false, or_assoc, or_comm, or_self}
 pub use Rattle.camp_branch.specs.Branches.{AreDistinct, HasPatches, IsLawfulBranch, IsSized, LeadsTo, Patch, each_once, first_lacked, has_patch, is_among, labels_from, labels_of, name_of, names_of, patch_names, recorded}
-pub use Rattle.camp_branch.specs.Conflicting.{AreConflicts, AreInConflict, ConflictsWith, IsBefore, IsBetween}
+pub use Rattle.camp_branch.specs.Conflicting.{AreConflicts, ConflictsWith, IsBefore}
 pub use Rattle.std.proofs.lemmas.Bool.{and_from, and_right, cond-false, cond-true, cond_both, false_from_ne_true, false≢true, ne_eqb, or_from, or_left, or_right}
 pub use Rattle.camp_prim.specs.declared.labels.Key.{Key}
 pub use Rattle.camp_catch.proofs.ListEffects.{lists_keep_effects}
@@ -21,7 +21,7 @@ pub use Rattle.camp_catch.proofs.ListResults.{arrange_by_members, lists_are_uniq
 pub use Rattle.camp_prim.specs.declared.named.Named.{Named}
 pub use Rattle.std.proofs.lemmas.List.{append-nil, append_assoc, drop_all, drop_more, flat_map_more, get_or-map, length-append, length-drop, length-map, length-take-le, map-append, take-append-drop, take-append-le, take_all}
 pub use Rattle.camp_branch.specs.Fields.{has_name, names_in}
-pub use Rattle.camp_branch.specs.Inside.Collecting.{names_against, names_within, ordered_by, pair_of, pairs_at, pairs_in}
+pub use Rattle.camp_branch.specs.Inside.Collecting.{names_against, names_within, ordered_by, pair_of, pairs_in}
 pub use Rattle.std.proofs.lemmas.List.Elements.{All-append, All-cons, All-contains_itself, All-filter, All-from_recursion, All-nil, All-weaker, Contains-append_cases, Contains-append_left, Contains-append_right, Contains-get_or, Decides-contains, filter-append, recursion_from_All}
 pub use Rattle.camp_prim.specs.declared.primitives.Primitive.{Primitive}
 pub use Rattle.camp_catch.proofs.MoveSteps.{names_decide, stands_at}

@@ -1,6 +1,5 @@
 ghost use Rattle.std.specs.Prelude.{◌≡◌, ◌≤◌, ◌++◌, ℕ, List, [], false, length, take, drop, IfOk};
 ghost use Rattle.std.specs.Cow.{cow_slice_items};
-ghost use Rattle.std.specs.FinMap.{empty as no_files};
 ghost use Rattle.camp_base.specs.Limits.{most_changes};
 ghost use Rattle.camp_base.specs.Trees.{Files};
 ghost use Rattle.camp_catch.specs.Making.{ComesTo};

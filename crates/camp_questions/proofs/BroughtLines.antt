@@ -1,8 +1,9 @@
 -- Each line of a file was brought by a hunk of the patch whose name it has.
 use Rattle.camp_questions.proofs.Words.{◌≡◌, ℕ, ◌+◌, ◌-◌, ◌==◌, ◌||◌, Bool, true, false, cond, List, [], ◌∷◌, ◌++◌, map, Option, None, Some, length, take, drop, bytes_eq, refl, sym, ap, ◌∙◌, subst, arith, empty, get, get-empty, get-insert, slice_range, splice, nat_cmp, eq_by_cmp, slice_cmp, bytes_eq-Decides, Edit, key_cmp, key_of, key_total, label_of, Key, Named, Primitive, Add, Remove, Hunk, Catch, name_of, name_itself, is_among, Known, behind_all, behind_catches, behind_change, behind_hunk, names_coming, names_of_lines, nothing_known, lines_or_none, annotated, append_assoc, drop_at, length-append, none-some, same_Some, take_at, AllByRecursion, flat_map, Applies, Files, Lines, Splices, FitsAll, effect_of, Contains, catches_named, patch_in, All-contains_itself, All-weaker, recursion_from_All, AllZip, has_image, Plain, SameKey, AppliesAll, own_names, brought_by, ComeAgainAsInverses, EachIsBrought, IsBrought, LinesAreBrought, PutsBack, changes_in, cond_both}
+use Rattle.camp_branch.proofs.ConflictsDetermined.{has_of_each}
 use Rattle.camp_prim.proofs.FilesAtPaths.{get-with_file_other, get-with_file_same}
 use Rattle.camp_questions.proofs.LineNames.{alike, other_path, same_key}
-use Rattle.camp_questions.proofs.PairSteps.{has_of_each, kept_has}
+use Rattle.camp_questions.proofs.KeptElements.{kept_has}
 use Rattle.camp_questions.proofs.PlainLabels.{inverses_alone, plain_effects}
 use Rattle.camp_questions.proofs.ZippedLines.{own_zipped, zipped_append, zipped_drop, zipped_take}
 use Rattle.camp_questions.specs.declared.annotations.Annotated.TheVariants.{File}

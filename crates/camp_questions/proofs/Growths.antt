@@ -33,11 +33,6 @@ among_cases n names name there = elim (or_cases (bytes_eq name n) (is_among name
   | inr e ↦ inr e
 ]
 
-pub both_ways : (a b : Bool) → (a ≡ true → b ≡ true) → (b ≡ true → a ≡ true) → a ≡ b
-both_ways true b to back = sym (to refl)
-both_ways false true to back = back refl
-both_ways false false to back = refl
-
 pub names_differ : (name other : List ℕ) → name ≢ other → bytes_eq name other ≡ false
 names_differ name other two = false_from_ne_true (bytes_eq name other) (λ e. two (same_name name other e))
 

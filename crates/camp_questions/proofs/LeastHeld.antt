@@ -3,7 +3,8 @@ use Rattle.camp_questions.proofs.Words.{◌≡◌, ℕ, true, false, true≢fals
 use Rattle.camp_branch.specs.declared.faults.Blocked.TheVariants.{Depends}
 use Rattle.camp_questions.proofs.PlainGoing.{what_comes_never_sticks}
 use Rattle.camp_questions.proofs.BranchGrowths.{apart_outcomes, same_patch, stays, to_front, to_go, in_order_among, needs_are_least}
-use Rattle.camp_questions.proofs.Growths.{all_within, both_ways, grew, in_order_there}
+use Rattle.camp_questions.proofs.Growths.{all_within, grew, in_order_there}
+use Rattle.std.specs.Cmp.{both_ways}
 use Rattle.camp_questions.proofs.ReachedNeeds.{alone_among}
 
 -- where names can go, the others come to the front, and back

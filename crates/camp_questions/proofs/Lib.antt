@@ -13,13 +13,13 @@ pub mod GraphSteps
 pub mod Growing
 pub mod Growths
 pub mod HangingParts
+pub mod KeptElements
 pub mod LeastHeld
 pub mod LineNames
 pub mod MarkSteps
 pub mod MarkedNames
 pub mod MissingNames
 pub mod OpenPairs
-pub mod PairSteps
 pub mod PartsArranged
 pub mod PassedChanges
 pub mod PatchFronts

@@ -1,9 +1,5 @@
 -- Names that are marked by their places.
-use Rattle.camp_questions.proofs.Words.{◌≡◌, ◌<◌, ◌≤◌, ℕ, zero, suc, ◌+◌, Bool, true, false, true≢false, ◌||◌, List, [], ◌∷◌, length, get_or, take, replicate, bytes_eq, refl, sym, ap, ◌∙◌, arith, is_among, is_among_is, name_itself, or_none, or_parts, or_true, same_name, AreDistinct, set, false_from_ne_true, or_from, Contains-get_or, AreMarkedBelow, marked, marked_in_both, other_way}
-
--- whether a place is marked
-abbrev pub mark_at : List Bool → ℕ → Bool
-mark_at marks k = get_or marks k false
+use Rattle.camp_questions.proofs.Words.{◌≡◌, ◌<◌, ◌≤◌, ℕ, zero, suc, ◌+◌, Bool, true, false, true≢false, ◌||◌, List, [], ◌∷◌, length, get_or, take, replicate, bytes_eq, refl, sym, ap, ◌∙◌, arith, is_among, is_among_is, name_itself, or_none, or_parts, or_true, same_name, AreDistinct, set, false_from_ne_true, or_from, Contains-get_or, AreMarkedBelow, marked, is_marked, marked_in_both, other_way}
 
 -- what is marked is among the names
 pub marked_within : (names : List (List ℕ)) (marks : List Bool) (n : List ℕ) → is_among names n ≡ false → is_among (marked names marks) n ≡ false
@@ -28,7 +24,7 @@ apart_places (name ∷ names) (suc j) (suc k) n distinct less within =
     apart_places names j k n distinct.1 (omega (arith, less)) (omega (arith, within))
 
 -- the name at a place is marked exactly where the place is
-pub among_marked : (names : List (List ℕ)) (marks : List Bool) (k : ℕ) (n : List ℕ) → AreDistinct names → k < length names → is_among (marked names marks) (get_or names k n) ≡ mark_at marks k
+pub among_marked : (names : List (List ℕ)) (marks : List Bool) (k : ℕ) (n : List ℕ) → AreDistinct names → k < length names → is_among (marked names marks) (get_or names k n) ≡ is_marked marks k
 among_marked [] marks k n distinct within = absurd (omega (arith, within))
 among_marked (name ∷ names) [] k n distinct within = refl
 among_marked (name ∷ names) (true ∷ marks) zero n distinct within =
@@ -41,10 +37,10 @@ among_marked (name ∷ names) (false ∷ marks) (suc k) n distinct within =
     among_marked names marks k n distinct.1 (omega (arith, within))
 
 -- marks of both
-pub mark_in_both : (marks more : List Bool) (k : ℕ) → length more ≤ length marks → mark_at (marked_in_both marks more) k ≡ (mark_at marks k || mark_at more k)
+pub mark_in_both : (marks more : List Bool) (k : ℕ) → length more ≤ length marks → is_marked (marked_in_both marks more) k ≡ (is_marked marks k || is_marked more k)
 mark_in_both [] [] k within = refl
 mark_in_both [] (other ∷ more) k within = absurd (omega (arith, within))
-mark_in_both (mark ∷ marks) [] k within = sym (or_none (mark_at (mark ∷ marks) k))
+mark_in_both (mark ∷ marks) [] k within = sym (or_none (is_marked (mark ∷ marks) k))
 mark_in_both (mark ∷ marks) (other ∷ more) zero within = refl
 mark_in_both (mark ∷ marks) (other ∷ more) (suc k) within = mark_in_both marks more k (omega (arith, within))
 
@@ -108,4 +104,4 @@ none_joins (mark ∷ marks) (other ∷ more) (suc i) within inside e =
 
 -- what is marked stays so
 pub marked_still : (marks more : List Bool) (place : ℕ) → length more ≤ length marks → AreMarkedBelow marks place → AreMarkedBelow (marked_in_both marks more) place
-marked_still marks more place within below r less = mark_in_both marks more r within ∙ ap (λ b. b || mark_at more r) (below r less)
+marked_still marks more place within below r less = mark_in_both marks more r within ∙ ap (λ b. b || is_marked more r) (below r less)

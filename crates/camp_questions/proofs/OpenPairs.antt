@@ -1,15 +1,10 @@
 -- The open conflicts of a branch: which they are.
-use Rattle.camp_questions.proofs.Words.{◌≡◌, ◌⊎◌, ◌≤◌, ℕ, suc, ◌+◌, Bool, true, false, cond, List, [], ◌∷◌, ◌++◌, append-nil, map, filter, filter-append, take, Some, refl, sym, ap, ◌∙◌, subst, inl, inr, arith, map-append, Contains, flat_map, get, keys, name_of, Catch, Key, key_cmp, key_total, take_all, entries, entries_sorted, get-entries, len, slice_get, member_name, has_image, IsInOrder, Pair, by_name, no_member, Plain, found_at, take_push, count_of_members, members_of, AreKeyed, ContextedPatch, ContextedPatches, context_key, AreInOpenConflict, AreOpenAmong, OpensWith, is_open, All-contains, All-filter, All-contains_itself, filter_passes}
-use Rattle.std.specs.declared.cmp.Ordering.TheVariants.{Less}
-use Rattle.camp_questions.proofs.PairSteps.{IsOfNames, first_is_less, has_of_each, is_image, kept_has, key_is_listed, listed_has_member, of_names, one_has, second_is_less}
+use Rattle.camp_questions.proofs.Words.{◌≡◌, ◌≤◌, ℕ, suc, ◌+◌, Bool, true, false, cond, List, [], ◌∷◌, ◌++◌, append-nil, map, filter, filter-append, take, Some, refl, sym, ap, ◌∙◌, subst, arith, map-append, Contains, flat_map, get, keys, name_of, Catch, Key, key_cmp, key_total, take_all, entries, entries_sorted, get-entries, len, slice_get, member_name, has_image, IsInOrder, Pair, no_member, Plain, found_at, take_push, count_of_members, members_of, AreKeyed, ContextedPatch, ContextedPatches, context_key, AreOpenAmong, OpensWith, is_open}
+use Rattle.camp_questions.proofs.KeptElements.{is_kept, kept_has}
+use Rattle.camp_branch.proofs.ConflictsDetermined.{is_image, key_is_listed, listed_has_member, listed_joined}
 use Rattle.camp_branch.proofs.Words.{flat_map_more}
 use Rattle.camp_branch.specs.Inside.Collecting.{pair_of}
-use Rattle.camp_questions.specs.Inside.OpenPairs.{open_against, open_at, open_in, open_with, open_within}
-
--- what a test keeps of a list is there, and passes it
-is_kept : {X : Type 0} (p : X → Bool) (list : List X) (x : X) → Contains (filter p list) x → Contains list x × (p x ≡ true)
-is_kept p list x c =
-    (All-contains (Contains list) (filter p list) x (All-filter p (Contains list) list (All-contains_itself list)) c, All-contains (λ y. p y ≡ true) (filter p list) x (filter_passes p list) c)
+use Rattle.camp_questions.specs.Inside.OpenPairs.{open_against, open_in, open_with, open_within}
 
 module _ (seen : ContextedPatches) where
   -- those that a catch names are in an open conflict with it
@@ -36,43 +31,11 @@ module _ (seen : ContextedPatches) where
       let image : Contains (open_within seen k.conflicts) key.name = has_image (λ (key : Key). key.name) (filter (is_open seen) (keys k.conflicts)) key kept in
       (is, subst (λ b. Contains (cond b (open_within seen k.conflicts) []) second) (sym own) (subst (Contains (open_within seen k.conflicts)) called image))
 
-  opens_as : (k : Catch) (a b c d : List ℕ) → a ≡ c → b ≡ d → OpensWith seen a b k → OpensWith seen c d k
-  opens_as k a b c d e f w = subst (λ n. OpensWith seen c n k) f (subst (λ n. OpensWith seen n b k) e w)
-
-  -- the pairs that are collected are in open conflicts
-  collected_open : (branch : List Catch) (p : Pair) → Contains (open_in seen branch) p → (by_name p.0 p.1 ≡ Less) × AreInOpenConflict branch seen p.0 p.1
-  collected_open branch p c =
-      let at = one_has (open_at seen) branch p c in
-      let member = one_has (pair_of (name_of at.0)) (open_against seen at.0) p at.2 in
-      let with = against at.0 member.0 member.1 in
-      let names : IsOfNames (name_of at.0) member.0 p = of_names (name_of at.0) member.0 _ p refl member.2 in (
-        names.0,
-        (
-          at.0,
-          at.1,
-          elim names.1 [
-            | inl e ↦ inl (opens_as at.0 (name_of at.0) member.0 p.0 p.1 e.0 e.1 with)
-            | inr e ↦ inr (opens_as at.0 (name_of at.0) member.0 p.1 p.0 e.0 e.1 with)
-          ],
-        ),
-      )
-
-  at_catch : (k : Catch) (first second : List ℕ) → by_name first second ≡ Less → OpensWith seen first second k ⊎ OpensWith seen second first k → Contains (open_at seen k) (first, second)
-  at_catch k first second less (inl w) =
-      let is = is_against k first second w in
-      has_of_each (pair_of (name_of k)) (open_against seen k) second (first, second) is.1 (subst (λ n. Contains (pair_of n second) (first, second)) (sym is.0) (first_is_less first second less))
-  at_catch k first second less (inr w) =
-      let is = is_against k second first w in
-      has_of_each (pair_of (name_of k)) (open_against seen k) first (first, second) is.1 (subst (λ n. Contains (pair_of n first) (first, second)) (sym is.0) (second_is_less second first less))
-
   -- the pairs that are collected, each once, in ascending order
   pub open_by : (branch : List Catch) (pairs : List Pair) → IsInOrder (open_in seen branch) pairs → AreOpenAmong branch seen pairs
   open_by branch pairs all = record {
     ascending = all.ascending;
-    listed = λ first second. (
-      λ c. collected_open branch (first, second) (all.has_no_other (first, second) c),
-      λ w. all.has (first, second) (has_of_each (open_at seen) branch w.1.0 (first, second) w.1.1 (at_catch w.1.0 first second w.0 w.1.2)),
-    );
+    listed = listed_joined (open_against seen) (OpensWith seen) against is_against branch pairs all;
   }
 
   -- whether the label of a member is open

@@ -1,5 +1,6 @@
 -- Plain patches, taken back one by one.
-use Rattle.camp_questions.proofs.Words.{◌≡◌, ℕ, false, ◌||◌, List, [], ◌∷◌, ◌++◌, map, bytes_eq, refl, sym, ap, ◌∙◌, subst, AllByRecursion, map-append, Catch, is_among, name_of, all_append, or_parts, AreDistinct, Named, reverse, distinct_append, other_way, inverse_of, inverse_all-append, inverse_all-cons, inverse_all, Plain, AreOfPatch, ArePatches, ArePatchesOf, catches_in_order, names_in_order, GrowsToFront, GrowsToGo, AreInverses, AreTakenBack, HaveRoom, PatchCatches, reverse-cons, flat_map_more, AllZip}
+use Rattle.camp_questions.proofs.Words.{◌≡◌, ℕ, false, List, [], ◌∷◌, ◌++◌, map, refl, sym, ap, ◌∙◌, subst, AllByRecursion, map-append, Catch, is_among, name_of, all_append, AreDistinct, Named, reverse, distinct_append, inverse_of, inverse_all-append, inverse_all-cons, inverse_all, Plain, AreOfPatch, ArePatches, ArePatchesOf, catches_in_order, names_in_order, GrowsToFront, GrowsToGo, AreInverses, AreTakenBack, HaveRoom, PatchCatches, reverse-cons, flat_map_more, AllZip}
+use Rattle.camp_branch.proofs.BranchLabels.{none_else}
 use Rattle.camp_questions.proofs.TakenBack.{needed_as_held}
 
 pub map-reverse : {X Y : Type 0} (f : X → Y) (xs : List X) → map f (reverse xs) ≡ reverse (map f xs)
@@ -12,17 +13,10 @@ all_reversed P [] w = tt
 all_reversed P (x ∷ xs) w =
     subst (AllByRecursion P) (sym (reverse-cons x xs)) (all_append P (reverse xs) (x ∷ []) (all_reversed P xs w.1) (w.0, tt))
 
--- a name that is not among others is none of them
-apart_from : (name : List ℕ) (names : List (List ℕ)) → is_among names name ≡ false → AllByRecursion (λ n. is_among (name ∷ []) n ≡ false) names
-apart_from name [] e = tt
-apart_from name (n ∷ names) e =
-    let parts = or_parts (bytes_eq name n) (is_among names name) e in
-    (ap (λ b. b || false) (other_way name n parts.0), apart_from name names parts.1)
-
 distinct_reversed : (names : List (List ℕ)) → AreDistinct names → AreDistinct (reverse names)
 distinct_reversed [] w = tt
 distinct_reversed (n ∷ names) w =
-    subst AreDistinct (sym (reverse-cons n names)) (distinct_append (reverse names) (n ∷ []) (distinct_reversed names w.1) (refl, tt) (all_reversed (λ m. is_among (n ∷ []) m ≡ false) names (apart_from n names w.0)))
+    subst AreDistinct (sym (reverse-cons n names)) (distinct_append (reverse names) (n ∷ []) (distinct_reversed names w.1) (refl, tt) (all_reversed (λ m. is_among (n ∷ []) m ≡ false) names (none_else n names w.0)))
 
 -- each of some patches is taken back
 abbrev pub IsBack : PatchCatches → PatchCatches → Type 0

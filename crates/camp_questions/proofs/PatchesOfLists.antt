@@ -1,5 +1,6 @@
 -- The patches that a list of catches is of, found one after the other.
 use Rattle.camp_questions.proofs.Words.{IsLawfulBranch, ◌≡◌, ◌<◌, ◌≤◌, ℕ, zero, suc, ◌+◌, ◌-◌, ◌==◌, cond, List, [], ◌∷◌, ◌++◌, length, take, drop, get_or, append-nil, refl, sym, ap, ◌∙◌, subst, arith, AllByRecursion, append_assoc, drop-drop, drop_all, drop_more, length-append, length-drop, map-append, take_at, drop_at, Key, Catch, all_append, name_of, AreDistinct, HasPatches, Patch, labels_from, labels_of, patch_names, take_all, ne_eqb, names_of_patches, IsSized, names_of, catch_key, keys_of, AreOfPatch, ArePatchesOf, catches_in_order, names_in_order, until_next, PatchCatches, take-add, length-map}
+use Rattle.camp_branch.proofs.BranchLabels.{labels_count}
 use Rattle.camp_questions.proofs.PatchFronts.{of_one_patch, parts_by_labels, same_head}
 use Rattle.camp_questions.proofs.PatchesBack.{catches-append}
 
@@ -52,10 +53,6 @@ none_found list patches has = record {
 pub patches_there : (branch list : List Catch) → list ≡ branch → IsLawfulBranch branch → (patches : List Patch) × HasPatches list patches
 patches_there branch list is lawful = (lawful.patches, subst (λ l. HasPatches l lawful.patches) (sym is) lawful.has)
 
-labels_length : (name : List ℕ) (place changes : ℕ) → length (labels_from name place changes) ≡ changes
-labels_length name place zero = refl
-labels_length name place (suc changes) = ap suc (labels_length name (place + 1) changes)
-
 -- one more patch is found
 pub one_found : (list : List Catch) (start end : ℕ) (found : List PatchCatches) (b : PatchCatches) (k d : Catch) → start < length list → end ≡ start + 1 + until_next (drop (start + 1) list) → k ≡ get_or list start d → b.name ≡ name_of k → b.catches.items ≡ take (end - start) (drop start list) → AreFound list start found → AreFound list end (found ++ b ∷ []) × (start < end)
 one_found list start end found b k d within ends is called catches so_far =
@@ -78,7 +75,7 @@ one_found list start end found b k d within ends is called catches so_far =
             let count : until_next (drop (start + 1) list) ≡ n = until_next_at (drop (start + 1) list) p.name 2 n patches (omega arith) sized.1 same.1 in
             let whole : end ≡ start + suc n = omega (arith, ends, count) in
             let parts = parts_by_labels (drop start list) (labels_from p.name 1 (suc n)) (labels_of patches) keys in
-            let long : length parts.first ≡ suc n = sym (length-map parts.first catch_key) ∙ ap length parts.first_keys ∙ labels_length p.name 1 (suc n) in
+            let long : length parts.first ≡ suc n = sym (length-map parts.first catch_key) ∙ ap length parts.first_keys ∙ labels_count p.name 1 (suc n) in
             let gone : end - start ≡ suc n = omega (arith, whole) in
             let came : take (suc n) (drop start list) ≡ parts.first = ap (take (suc n)) parts.is ∙ take_at parts.first parts.rest (suc n) long in
             let group : b.catches.items ≡ parts.first = catches ∙ ap (λ m. take m (drop start list)) gone ∙ came in

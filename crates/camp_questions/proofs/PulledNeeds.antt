@@ -1,5 +1,6 @@
 -- A pull of what is needed does not fail because a patch of it depends on another one.
-use Rattle.camp_questions.proofs.Words.{◌≡◌, ℕ, Bool, true, false, true≢false, ◌&&◌, List, Ok, Err, refl, sym, ◌∙◌, subst, inl, inr, ◌↔◌, Contains, Arrange, Catch, has_patch, is_among, is_among_is, ComeToFront, among_common, MergesBehind, Outcome, common_names, Diverged, NoMerge, lists_succeed_or_stick, fronts_come_behind_fronts, NeedsCanBePulled}
+use Rattle.camp_questions.proofs.Words.{◌≡◌, ℕ, true, false, true≢false, List, Ok, Err, refl, sym, ◌∙◌, subst, inl, inr, ◌↔◌, Contains, Arrange, Catch, has_patch, is_among, is_among_is, ComeToFront, among_common, MergesBehind, Outcome, common_names, Diverged, NoMerge, lists_succeed_or_stick, fronts_come_behind_fronts, NeedsCanBePulled}
+use Rattle.std.specs.Cmp.{second_so}
 use Rattle.camp_branch.specs.declared.faults.Blocked.TheVariants.{Depends}
 use Rattle.camp_questions.proofs.BranchGrowths.{needs_come_first}
 
@@ -28,17 +29,13 @@ merges_otherwise common from_common chosen to patch on w = elim w [
   ]
 ]
 
-both : (a b : Bool) → (a && b) ≡ true → b ≡ true
-both true b e = e
-both false b e = cc
-
 -- what is needed, of which the other branch has none, is not among what both have
 apart : (from to : List Catch) (needed : List (List ℕ)) → ((name : List ℕ) → is_among needed name ≡ true → has_patch to name ≡ false) → (name : List ℕ) → Contains needed name ↔ (Contains needed name × (¬ (Contains (common_names from to) name)))
 apart from to needed lacks name = (
   λ c. (
     c,
     λ d.
-        true≢false (sym (both (has_patch from name) (has_patch to name) (sym (among_common from to name) ∙ (is_among_is (common_names from to) name).0 d)) ∙ lacks name ((is_among_is needed name).0 c)),
+        true≢false (sym (second_so (has_patch from name) (has_patch to name) (sym (among_common from to name) ∙ (is_among_is (common_names from to) name).0 d)) ∙ lacks name ((is_among_is needed name).0 c)),
   ),
   λ w. w.0,
 )

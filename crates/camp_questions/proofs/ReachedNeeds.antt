@@ -1,9 +1,9 @@
 -- What a patch needs is reached from it along the arrows of the graph, where all catches are plain and have room.
 use Rattle.camp_questions.proofs.Words.{inl, inr, and_from, and_parts, ◌≡◌, ◌<◌, ◌≤◌, ℕ, zero, suc, ◌+◌, true, false, true≢false, not, ◌||◌, cond, List, [], ◌∷◌, map, bytes_eq, None, Some, refl, sym, ap, ◌∙◌, subst, arith, ◌↔◌, Contains, AllByRecursion, list_any, Catch, name_itself, same_name, among_once, first_lacked, Needs, Drawn, IsGraph, Needing, NeedsThese, goes_between, needs_other, node_of, Node, AreAmong, Arrow, IsPlain, IsReached, NeedsAreReached, NeedsDirectly, NeedsPatch, itself, along, IsLawfulBranch, has_patch, is_among, name_of, names_of, map-map, All-contains, All-from_recursion, is_among_is, cases_Bool}
+use Rattle.camp_branch.proofs.ConflictsDetermined.{is_image}
 use Rattle.camp_questions.proofs.Arrows.{arrow_is_need, arrows_are_direct_needs, is_there, known_needs, needs_known, one_needed}
 use Rattle.camp_questions.proofs.BranchGrowths.{needs_are_determined, needs_come_first, needs_are_least}
 use Rattle.camp_questions.proofs.Growths.{among_cases}
-use Rattle.camp_questions.proofs.PairSteps.{is_image}
 use Rattle.camp_questions.proofs.PatchFronts.{earlier, ends, one_passing, place_of, up_to, up_to_come}
 
 -- one name alone, among others that have it

@@ -1,10 +1,10 @@
 -- What a patch needs, found by a walk back from it over the patches taken back.
-use Rattle.camp_questions.proofs.Words.{◌≡◌, ◌<◌, ◌≤◌, ℕ, zero, suc, ◌+◌, ◌-◌, Bool, true, false, not, ◌&&◌, ◌||◌, cond, List, [], ◌∷◌, ◌++◌, bytes_eq, map, length, take, drop, get_or, replicate, None, Some, refl, sym, ap, ◌∙◌, subst, inl, inr, arith, AllByRecursion, length-replicate, take-append-drop, Catch, ArrangesBehind, has_patch, is_among, name_of, names_of, all_append, name_itself, or_cases, or_none, or_true, among_others, other_names, among_once, AreHeldIn, ComeToFront, CanGo, AreAmong, IsPlain, NeedsThese, set, cases_lt, All-from_recursion, All-get_or, get_or-take, get_or-map, get_or-reverse, get_or-set_same, get_or_append_left, get_or_default, get_or_past, get_or_push, length-map, length-reverse, length-set, length_push, take_all, reverse, inverse_all, PatchCatches, AreApart, ArePatches, catches_in_order, names_in_order, Needed, ArePatchesOf, AreTakenBack, AreKnown, AreMarkedBelow, AreReached, IsInverted, NeedEach, marked, marked_in_both, needing, ComeBeforeAll, StickBehind, other_way, flat_map-append, append-nil}
+use Rattle.camp_questions.proofs.Words.{◌≡◌, ◌<◌, ◌≤◌, ℕ, zero, suc, ◌+◌, ◌-◌, Bool, true, false, not, ◌&&◌, ◌||◌, cond, List, [], ◌∷◌, ◌++◌, bytes_eq, map, length, take, drop, get_or, replicate, None, Some, refl, sym, ap, ◌∙◌, subst, inl, inr, arith, AllByRecursion, length-replicate, take-append-drop, Catch, ArrangesBehind, has_patch, is_among, name_of, names_of, all_append, name_itself, or_cases, or_none, or_true, among_others, other_names, among_once, AreHeldIn, ComeToFront, CanGo, AreAmong, IsPlain, NeedsThese, set, cases_lt, All-from_recursion, All-get_or, get_or-take, get_or-map, get_or-reverse, get_or-set_same, get_or_append_left, get_or_default, get_or_past, get_or_push, length-map, length-reverse, length-set, length_push, take_all, reverse, inverse_all, PatchCatches, AreApart, ArePatches, catches_in_order, names_in_order, Needed, ArePatchesOf, AreTakenBack, AreKnown, AreMarkedBelow, AreReached, IsInverted, NeedEach, marked, is_marked, marked_in_both, needing, ComeBeforeAll, StickBehind, other_way, flat_map-append, append-nil}
 use Rattle.camp_questions.proofs.GraphSteps.{AreNeeded, all_needed, none_needed, one_needed}
 use Rattle.camp_questions.proofs.BranchGrowths.{needs_are_determined, needs_come_first, needs_are_least}
-use Rattle.camp_questions.proofs.Growths.{both_ways}
+use Rattle.std.specs.Cmp.{both_ways}
 use Rattle.camp_questions.proofs.LeastHeld.{held_within}
-use Rattle.camp_questions.proofs.MarkedNames.{among_both_marked, among_marked, apart_places, both_long, mark_at, mark_in_both, one_marked, there}
+use Rattle.camp_questions.proofs.MarkedNames.{among_both_marked, among_marked, apart_places, both_long, mark_in_both, one_marked, there}
 use Rattle.camp_questions.proofs.PartsArranged.{left_apart}
 use Rattle.camp_questions.proofs.PatchFronts.{all_are, all_before, all_behind, both_are, those_come}
 use Rattle.camp_questions.proofs.PatchesBack.{reversed}
@@ -137,7 +137,7 @@ pub record ReachesTo (branch : List Catch) (patches : List PatchCatches) (from :
   pub least :
       (others : List (List ℕ)) (n : List ℕ) → is_among others (get_or (names_in_order patches) from n) ≡ true →
       ComeToFront branch others → AreAmong (marked (names_in_order patches) marks) others
-  pub itself : mark_at marks from ≡ true
+  pub itself : is_marked marks from ≡ true
 
 -- a walk back from the patch behind those of which is known what they need
 module _ (branch : List Catch) (patches : List PatchCatches) (inverted : IsInverted branch patches) (known : List Needed) (are : AreKnown branch (names_in_order patches) known) (inside : length known < length patches) where
@@ -161,7 +161,7 @@ module _ (branch : List Catch) (patches : List PatchCatches) (inverted : IsInver
   called place p d within is =
       ap (λ (x : PatchCatches). x.name) is ∙ sym (get_or-map (λ (x : PatchCatches). x.name) patches place d d.name within)
 
-  by_place : (marks : List Bool) (place : ℕ) (p d : PatchCatches) → place < length patches → p ≡ get_or patches place d → is_among (marked names marks) p.name ≡ mark_at marks place
+  by_place : (marks : List Bool) (place : ℕ) (p d : PatchCatches) → place < length patches → p ≡ get_or patches place d → is_among (marked names marks) p.name ≡ is_marked marks place
   by_place marks place p d within is =
       ap (is_among (marked names marks)) (called place p d within is) ∙ among_marked names marks place d.name inverted.are.distinct (omega (arith, within, names_long))
 
@@ -179,7 +179,7 @@ module _ (branch : List Catch) (patches : List PatchCatches) (inverted : IsInver
     now = subst (λ k. ReachesTo branch patches from marks k going) next so_far
 
     -- a patch that comes before what goes is passed by
-    pub step_aside : (left : List Catch) → mark_at marks place ≡ false → ComeBeforeAll p.name going p.catches.items left → ReachesTo branch patches (length known) marks place left
+    pub step_aside : (left : List Catch) → is_marked marks place ≡ false → ComeBeforeAll p.name going p.catches.items left → ReachesTo branch patches (length known) marks place left
     step_aside left free come = record {
       long = now.long;
       walked = back_aside patches inverted.are place p p within is (marked names marks) going now.walked left (by_place marks place p p within is ∙ free) come;
@@ -188,7 +188,7 @@ module _ (branch : List Catch) (patches : List PatchCatches) (inverted : IsInver
     }
 
     -- one that is marked goes
-    pub step_on : mark_at marks place ≡ true → ReachesTo branch patches (length known) marks place (going ++ p.catches.items)
+    pub step_on : is_marked marks place ≡ true → ReachesTo branch patches (length known) marks place (going ++ p.catches.items)
     step_on goes = record {
       long = now.long;
       walked = back_on patches inverted.are place p p within is (marked names marks) going now.walked (by_place marks place p p within is ∙ goes);
@@ -201,7 +201,7 @@ module _ (branch : List Catch) (patches : List PatchCatches) (inverted : IsInver
     goes_apart_from = back_apart patches inverted.are (marked names marks) place p p going within is now.walked
 
     -- one that sticks is among all that have the patch and come to the front
-    sticks_within : mark_at marks place ≡ false → StickBehind p.name going p.catches.items → (others : List (List ℕ)) (n : List ℕ) → is_among others (get_or names from n) ≡ true → ComeToFront branch others → is_among others p.name ≡ true
+    sticks_within : is_marked marks place ≡ false → StickBehind p.name going p.catches.items → (others : List (List ℕ)) (n : List ℕ) → is_among others (get_or names from n) ≡ true → ComeToFront branch others → is_among others p.name ≡ true
     sticks_within free stuck others n has come =
         let held = marked names marks in
         let plain_back : IsPlain back = record { patches = inverse_all inverted.forth; are = inverted.inverses; room = inverted.room_back } in
@@ -210,7 +210,7 @@ module _ (branch : List Catch) (patches : List PatchCatches) (inverted : IsInver
         held_within back others plain_back can held p.name (now.least others n has come) sticks
 
     -- it goes, and what it needs is marked
-    pub step_stuck : (q : Needed) → q ≡ get_or known place q → mark_at marks place ≡ false → StickBehind p.name going p.catches.items → ReachesTo branch patches (length known) (marked_in_both marks q.needs.items) place (going ++ p.catches.items)
+    pub step_stuck : (q : Needed) → q ≡ get_or known place q → is_marked marks place ≡ false → StickBehind p.name going p.catches.items → ReachesTo branch patches (length known) (marked_in_both marks q.needs.items) place (going ++ p.catches.items)
     step_stuck q same free stuck =
         let row : List Bool = q.needs.items in
         let row_long : length row ≡ place + 1 = ap (λ (x : Needed). length x.needs.items) same ∙ are.long place q before in
@@ -236,7 +236,7 @@ module _ (branch : List Catch) (patches : List PatchCatches) (inverted : IsInver
                 | inl e ↦ now.least others n among come x e
                 | inr e ↦ needs_within p.name row these others sticks come x e
               ];
-          itself = mark_in_both marks row from fits ∙ ap (λ b. b || mark_at row from) now.itself;
+          itself = mark_in_both marks row from fits ∙ ap (λ b. b || is_marked row from) now.itself;
         }
 
   -- where all places before are marked, the walk is done
@@ -263,7 +263,7 @@ module _ (branch : List Catch) (patches : List PatchCatches) (inverted : IsInver
   step_first marks p going is first goes =
       let long : length marks ≡ from + 1 = ap length first ∙ length-set (replicate (from + 1) false) from true ∙ length-replicate (from + 1) false in
       let held = marked names marks in
-      let mine : mark_at marks from ≡ true = ap (λ l. get_or l from false) first ∙ get_or-set_same (replicate (from + 1) false) from true false (let r = length-replicate (from + 1) false in omega (arith, r)) in
+      let mine : is_marked marks from ≡ true = ap (λ l. get_or l from false) first ∙ get_or-set_same (replicate (from + 1) false) from true false (let r = length-replicate (from + 1) false in omega (arith, r)) in
       let alone : held ≡ p.name ∷ [] = ap (marked names) first ∙ one_marked names from p.name (omega (arith, inside, names_long)) ∙ ap (λ x. x ∷ []) (sym (called from p p inside is)) in
       let free = each_walked patches inverted.are (λ n. is_among held n ≡ false) (length patches - (from + 1)) (from + 1) p (omega (arith, inside)) (λ r n le less.
       among_marked names marks r n inverted.are.distinct (omega (arith, less, names_long)) ∙ get_or_past marks r false (omega (arith, long, le))) in

@@ -3,7 +3,8 @@ use Rattle.camp_questions.proofs.Words.{◌≡◌, ℕ, Bool, true, false, true�
 use Rattle.camp_seq.specs.Room.{HasRoom}
 use Rattle.camp_questions.proofs.PlainGoing.{IsEither, comes_taken_back}
 use Rattle.camp_questions.proofs.BranchGrowths.{to_front, to_go, stops_within}
-use Rattle.camp_questions.proofs.Growths.{all_done, all_within, among_first, are_added, both_ways}
+use Rattle.camp_questions.proofs.Growths.{all_done, all_within, among_first, are_added}
+use Rattle.std.specs.Cmp.{both_ways}
 use Rattle.camp_questions.proofs.LeastHeld.{can_go, held_within, others_come}
 use Rattle.camp_questions.proofs.PatchFronts.{all_are, at_first}
 

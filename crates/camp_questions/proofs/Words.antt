@@ -1,5 +1,5 @@
 -- Words that the proofs of this crate have in common: of the standard library, of definitions, and of crates below.
-pub use Rattle.std.proofs.Common.{Bool, Err, IsErrAnd, List, None, Ok, Option, Result, Some, [], ap, append-nil, arith, bytes_eq, cond, drop, false, filter, get_or, inl, inr, length, map, not, refl, replicate, rules, string_bytes, subst, suc, sym, take, true, true≢false, zero, ℕ, ◌&&◌, ◌++◌, ◌+◌, ◌-◌, ◌<◌, ◌==◌, ◌||◌, ◌∙◌, ◌∷◌, ◌≡◌, ◌≢◌, ◌≤◌, ◌⊎◌, set}
+pub use Rattle.std.proofs.Common.{Bool, Err, List, None, Ok, Option, Result, Some, [], ap, append-nil, arith, bytes_eq, cond, drop, false, filter, get_or, inl, inr, length, map, not, refl, replicate, rules, string_bytes, subst, suc, sym, take, true, true≢false, zero, ℕ, ◌&&◌, ◌++◌, ◌+◌, ◌-◌, ◌<◌, ◌==◌, ◌||◌, ◌∙◌, ◌∷◌, ◌≡◌, ◌≢◌, ◌≤◌, ◌⊎◌, set}
 pub use Rattle.std.proofs.lemmas.Fn.{filter_same}
 pub use Rattle.std.proofs.lemmas.List.{flat_map_more, append_assoc, drop-drop, drop_all, drop_at, drop_more, length-append, length-drop, length-replicate, length-take-le, map-append, take-append-drop, take_at, take_more, drop-append-le, get_or-map, get_or-reverse, get_or-set_same, get_or-take, get_or_append_left, get_or_default, get_or_past, get_or_push, length-map, length-reverse, length-set, length_push, reverse-append, reverse-reverse, take_all, with_items_is}
 pub use Rattle.std.proofs.lemmas.List.Folds.{list_any-append}
@@ -9,7 +9,7 @@ pub use Rattle.std.specs.Cmp.Lexicographic.{slice_cmp, pointwise}
 pub use Rattle.std.specs.FinMap.{contains_key, empty, find, get, get-empty, get-from_entries, get-insert, insert, keys, same_map, FinMap, entries, entries_sorted, get-entries, len, values}
 pub use Rattle.std.specs.List.{All, AllByRecursion, flat_map, list_any, slice_range, splice, AllZip, fold}
 pub use Rattle.std.specs.Ordering.{eq_by_cmp, is_eq, nat_cmp}
-pub use Rattle.std.specs.Prelude.{Contains, codes, ◌↔◌, IfOk, MatchOption, OnOk, if◌then◌else◌, is_some, min, nat_lt, reverse, slice_get, ◌%◌, ◌*◌}
+pub use Rattle.std.specs.Prelude.{Contains, codes, ◌↔◌, IfOk, MatchOption, OnOk, if◌then◌else◌, is_some, nat_lt, reverse, slice_get, ◌%◌, ◌*◌}
 pub use Rattle.camp_base.specs.Trees.{Files, Lines, Splices, SplicesLines}
 pub use Rattle.camp_branch.proofs.NameSets.{and_false, and_true, has_listed, or_none}
 pub use Rattle.camp_branch.proofs.Names.{each_among, all_append, is_among_is, name_itself, not_among, or_parts, or_true, passes_is_kept, same_name, all_filter, distinct_append, filter_image, filter_within, has_image, other_way}
@@ -32,14 +32,13 @@ pub use Rattle.camp_questions.specs.Answers.{AnswerOf, Tells, OfBranch, OfPatche
 pub use Rattle.camp_questions.specs.Inside.Finding.{IsFound}
 pub use Rattle.camp_questions.specs.declared.annotations.Annotated.{Annotated}
 pub use Rattle.camp_questions.specs.declared.faults.Unanswered.{Unanswered}
-pub use Rattle.camp_questions.specs.declared.faults.Unanswered.TheVariants.{Memory, Refused}
-pub use Rattle.camp_questions.specs.Annotations.{AreAnnotated, Known, annotated, behind_all, behind_catches, behind_change, behind_hunk, names_coming, names_of_lines, nothing_known, Annotates, own_names}
-pub use Rattle.camp_questions.specs.Dependencies.{AreAdded, AreGrown, AreHeldIn, CanGo, ComeToFront, HeldBy, Needs, OfNames, StickOn, in_order}
+pub use Rattle.camp_questions.specs.Annotations.{Known, annotated, behind_all, behind_catches, behind_change, behind_hunk, names_coming, names_of_lines, nothing_known, Annotates, own_names}
+pub use Rattle.camp_questions.specs.Dependencies.{AreAdded, AreGrown, AreHeldIn, CanGo, ComeToFront, HeldBy, Needs, StickOn, in_order}
 pub use Rattle.camp_questions.specs.Differences.{IsMissing, missing_in}
-pub use Rattle.camp_questions.specs.Graphs.{Drawn, IsGraph, IsGraphOf, Needing, NeedsThese, goes_between, needs_directly, needs_other, node_of}
+pub use Rattle.camp_questions.specs.Graphs.{Drawn, IsGraph, Needing, NeedsThese, goes_between, needs_directly, needs_other, node_of}
 pub use Rattle.camp_questions.specs.Inside.Graphing.{NeedEach, needing, AreKnown, AreMarkedBelow, AreReached, IsInverted, marked, marked_in_both}
 pub use Rattle.camp_questions.specs.Inside.Walking.{AppliesOn, AreKnownIn, FollowsOn, StandsWithin, kept_in, known_in, lines_or_none}
-pub use Rattle.camp_questions.specs.Showing.{IsShown, changes_of, patch_in, changes_in}
+pub use Rattle.camp_questions.specs.Showing.{changes_of, patch_in, changes_in}
 pub use Rattle.camp_questions.specs.declared.graphs.Node.{Node}
 pub use Rattle.camp_repo.proofs.ByMembers.{AreAlike, obliterate_alike}
 pub use Rattle.camp_repo.proofs.Effects.{accepted_calls}
@@ -50,16 +49,16 @@ pub use Rattle.camp_share.specs.Maps.{map_of}
 pub use Rattle.camp_branch.specs.Laws.{ExactlyOne, AppliesEach}
 pub use Rattle.camp_branch.specs.Obliterating.{ObliterateGives, other_names}
 pub use Rattle.camp_prim.specs.Effect.{Applies, flipped, InRange, Leads, inverse_of}
-pub use Rattle.camp_questions.specs.GraphTexts.{arrow_text, conflict_text, node_text, is_pair_among}
+pub use Rattle.camp_questions.specs.GraphTexts.{arrow_text, conflict_text, node_text}
 pub use Rattle.camp_questions.specs.Laws.{AreAmong, Arrow, ArrowsAreDirectNeeds, GrewFrom, HeldCanGo, HeldIsDetermined, IsPlain, IsReached, LinesHaveNames, MissingIsPulled, NeedsAreDetermined, NeedsAreLeast, NeedsAreReached, NeedsComeFirst, NeedsDirectly, NeedsPatch, RecordedIsShown, WasMet, along, itself, AlongIsEnough, AnnotateAlike, ArrowsLeadBackwards, ComeAgainAsInverses, EachIsBrought, ForeseenComes, HangTogether, HeldIsLeast, IsBrought, KeepFilesShort, LinesAreBrought, NeedsAndHeldAreOne, NeedsCanBePulled, OrderKeepsNames, PartsAreReached, PutsBack, SidesApply, SidesAreAccepted, StandsBefore}
 pub use Rattle.camp_repo.proofs.DecideSteps.{conflicts_shown, pull_nothing, tree_shown}
 pub use Rattle.camp_repo.proofs.NameSteps.{none_lacked}
 pub use Rattle.std.proofs.lemmas.Bool.{cases_Bool, and_from, and_parts, eq-eqb, eqb-false, eqb-true, not-true, or_cases, cases_eq, cases_lt, cases_order, cond_both, false_from_ne_true, ne_eqb, or_from, true_from_ne_false}
-pub use Rattle.std.proofs.lemmas.List.Elements.{All-contains, AllZip-push, all_zip_more, filter_passes, All-append, All-drop, All-nil, All-replicate, All-take, filter-append, All-contains_itself, All-filter, All-from_recursion, All-get_or, All-head, All-tail, All-weaker, Contains-append_cases, Contains-append_right, Contains-get_or, filter_more, recursion_from_All}
+pub use Rattle.std.proofs.lemmas.List.Elements.{All-contains, all_zip_more, filter_passes, All-append, All-drop, All-nil, All-replicate, All-take, filter-append, All-contains_itself, All-filter, All-from_recursion, All-get_or, All-head, All-tail, All-weaker, Contains-append_cases, Contains-append_right, Contains-get_or, recursion_from_All}
 pub use Rattle.camp_branch.proofs.BranchFields.{Names, contains_more}
 pub use Rattle.camp_branch.proofs.BranchLabels.{names_of_patches}
 pub use Rattle.camp_branch.proofs.ConflictsDetermined.{conflicts_are_determined, member_name, some_member}
-pub use Rattle.camp_branch.proofs.SortedPairs.{IsInOrder, Pair, by_name, first_or_later, has_first, has_later, no_member, sorted_once}
+pub use Rattle.camp_branch.proofs.SortedPairs.{IsInOrder, Pair, first_or_later, has_first, has_later, no_member, sorted_once}
 pub use Rattle.camp_branch.specs.Pulling.{MergesBehind, Outcome, PullGives, WantedNext, common_names}
 pub use Rattle.camp_branch.specs.declared.faults.Blocked.TheVariants.{Diverged, NoMerge}
 pub use Rattle.camp_call.specs.declared.replies.Refusal.{Refusal}
@@ -84,11 +83,11 @@ pub use Rattle.camp_questions.specs.Inside.Seeing.{AllSeenToo, ComesIf, ComesIfN
 pub use Rattle.camp_questions.specs.Inside.StandingAside.{AllStay, ComeBeforeAll, StandsAside, StickBehind}
 pub use Rattle.camp_questions.specs.Inside.Telling.{IsTold}
 pub use Rattle.camp_questions.specs.Inside.TakingBack.{AreInverses, AreTakenBack, HaveRoom}
-pub use Rattle.camp_questions.specs.Marks.{AreMarked, AreVersions, Makes, MarksAt, is_in_pair, names_in_pairs, with_made}
-pub use Rattle.camp_questions.specs.OpenConflicts.{AreInOpenConflict, AreOpen, AreOpenAmong, AreOpenIn, OpensWith, is_open}
-pub use Rattle.camp_questions.specs.Pictures.{IsPictured, Picture, drawn_about, hangs_on, kept_node, part_with, whole_picture, with_needing, with_needing_one, with_needs, with_needs_of}
+pub use Rattle.camp_questions.specs.Marks.{AreVersions, Makes, MarksAt, is_in_pair, names_in_pairs, with_made}
+pub use Rattle.camp_questions.specs.OpenConflicts.{AreOpenAmong, AreOpenIn, OpensWith, is_open}
+pub use Rattle.camp_questions.specs.Pictures.{Picture, drawn_about, hangs_on, kept_node, part_with, whole_picture, with_needing, with_needing_one, with_needs, with_needs_of}
 pub use Rattle.camp_questions.specs.Places.{File, Place, at_place, differs_within, file_from, joined, place_from, range_of, touch, with_marks, with_range}
-pub use Rattle.camp_questions.specs.Sides.{AreSeen, ComeBehind, ComesBehind, ComesUnless, IsSeen, IsSide, IsSideAmong, IsSideIn, TellNothing, has_key, labels_of_patch, told_by}
+pub use Rattle.camp_questions.specs.Sides.{AreSeen, ComeBehind, ComesBehind, ComesUnless, IsSeen, IsSideAmong, IsSideIn, TellNothing, has_key, labels_of_patch, told_by}
 pub use Rattle.camp_questions.specs.declared.fast.going.Going.{Going}
 pub use Rattle.camp_questions.specs.declared.fast.patch_catches.PatchCatches.{PatchCatches}
 pub use Rattle.camp_questions.specs.declared.marking.Version.{Version}

@@ -1,9 +1,8 @@
-ghost use Rattle.std.specs.Prelude.{◌≡◌, ℕ, List, IfOk};
-ghost use Rattle.camp_branch.specs.Branches.{is_among};
+ghost use Rattle.std.specs.Prelude.{◌≡◌, IfOk};
 ghost use Rattle.camp_branch.specs.Fields.{names_in};
 ghost use Rattle.camp_questions.specs.Answers.{Tells};
 ghost use Rattle.camp_questions.specs.Dependencies.{AreHeldBy, AreNeeded, HeldBy, Needs, in_order};
-ghost use Rattle.camp_questions.specs.Inside.Growing.{GrowsToFront, GrowsToGo};
+ghost use Rattle.camp_questions.specs.Inside.Growing.{GrowsToFront};
 
 use crate::Unanswered;
 use crate::fast::{by_patch, held_in, taken_back};
@@ -49,8 +48,11 @@ pub fn held_by(state: &State, branch: &Name, names: &[Name]) -> Result<Names, Un
 fn held_there(branch: &Branch, names: &[Name]) -> Result<Names, AllocError>
     ensures { IfOk result (HeldBy branch.now names.now) }
 {
-    let named = set_of(branch.catches().allocator(), names)?;
-    let held = grown_to_go(branch, named)?;
+    let alloc = branch.catches().allocator();
+    let named = set_of(alloc, names)?;
+    let catches = branch.catches().to_vec()?;
+    let patches = by_patch(alloc, &catches)?;
+    let held = held_in(alloc, &patches, named)?;
     in_order(branch, &held)
 }
 
@@ -88,16 +90,6 @@ pub(crate) fn stuck_to_front(
             Err(Unmade::Memory) => return Err(AllocError),
         }
     }
-}
-
-/// The names, and those that are added until they can be taken out of the branch.
-fn grown_to_go(branch: &Branch, names: NameSet) -> Result<NameSet, AllocError>
-    ensures { IfOk result (λ grown. GrowsToGo branch.now (names_in names) (names_in grown)) }
-{
-    let alloc = branch.catches().allocator();
-    let catches = branch.catches().to_vec()?;
-    let patches = by_patch(alloc, &catches)?;
-    held_in(alloc, &patches, names)
 }
 
 /// The names of the patches of a branch that are in a set, in the order of the branch.

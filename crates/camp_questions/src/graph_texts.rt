@@ -1,6 +1,6 @@
 ghost use Rattle.std.specs.Prelude.{◌≡◌, ◌++◌, ◌&&◌, IfOk, OnOk, bytes_eq, codes, string_bytes};
 ghost use Rattle.std.specs.List.{flat_map};
-ghost use Rattle.camp_questions.specs.GraphTexts.{arrow_text, conflict_style, conflict_text, graph_text, heading, is_pair_among, node_text, quoted};
+ghost use Rattle.camp_questions.specs.GraphTexts.{arrow_text, conflict_style, conflict_text, graph_text, is_pair_among, node_text, quoted};
 
 use crate::{Node, Picture};
 use camp_base::Name;
@@ -89,21 +89,13 @@ fn conflict_style(is_open: bool) -> &'static str
 fn is_among(pairs: &[(Name, Name)], pair: &(Name, Name)) -> bool
     ensures { result ≡ is_pair_among pairs.now pair.now }
 {
-    for other in pairs {
-        if is_same(pair, other) {
-            return true;
-        }
-    }
-    false
+    pairs.iter().any(|other| is_same(pair, other))
 }
 
 fn is_same(pair: &(Name, Name), other: &(Name, Name)) -> bool
     ensures { result ≡ (bytes_eq pair.now.0 other.now.0 && bytes_eq pair.now.1 other.now.1) }
 {
-    if pair.0 != other.0 {
-        return false;
-    }
-    pair.1 == other.1
+    pair.0 == other.0 && pair.1 == other.1
 }
 
 fn append_arrow(

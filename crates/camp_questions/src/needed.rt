@@ -1,4 +1,4 @@
-ghost use Rattle.std.specs.Prelude.{◌≡◌, ℕ, List, map, IfOk};
+ghost use Rattle.std.specs.Prelude.{◌≡◌, map, IfOk};
 ghost use Rattle.camp_branch.specs.Branches.{is_among, names_of};
 ghost use Rattle.camp_branch.specs.Fields.{names_in};
 ghost use Rattle.camp_questions.specs.Inside.Graphing.{NeedEach};

@@ -137,10 +137,5 @@ fn is_open(seen: &CtxSet, key: &Key) -> bool
 fn takes_back(x: &Contexted) -> bool
     ensures { result ≡ takes_back x.now }
 {
-    for p in x.context().items() {
-        if p.inverse {
-            return true;
-        }
-    }
-    false
+    x.context().items().iter().any(|p| p.inverse)
 }

@@ -1,7 +1,6 @@
 //! Labels as they are seen from before changes. Most changes pass a label by, and at most move it to another
 //! line. Where one does more, it is added as the rules say.
-ghost use Rattle.std.specs.Prelude.{◌≡◌, ◌+◌, ◌-◌, ◌<◌, ◌≤◌, ◌↔◌, [], drop, length, IfOk, IfSome, IsTrue};
-ghost use Rattle.camp_base.specs.Limits.{greatest_reach};
+ghost use Rattle.std.specs.Prelude.{◌≡◌, ◌+◌, ◌<◌, ◌≤◌, ◌↔◌, [], drop, length, IfOk, IfSome, IsTrue};
 ghost use Rattle.camp_ctx.specs.Adding.{AddsAll};
 ghost use Rattle.camp_ctx.specs.Contexts.{bare};
 ghost use Rattle.camp_prim.specs.Effect.{InRange};
@@ -143,10 +142,7 @@ fn line_before(change: &Named, patch: &Named, hunk: &Hunk, line: u32) -> Option<
 fn is_other(change: &Named, patch: &Named) -> bool
     ensures { IsTrue result → ¬ (SameKey change.now patch.now) }
 {
-    if change.name != patch.name {
-        return true;
-    }
-    change.place != patch.place
+    change.name != patch.name || change.place != patch.place
 }
 
 fn is_in_file(change: &Primitive, hunk: &Hunk) -> bool
@@ -186,29 +182,19 @@ fn line_below(other: &Hunk, hunk: &Hunk, line: u32) -> Option<u32>
     Some(next as u32)
 }
 
+/// The line of a hunk above another one, which stays where the other one is in range behind it, too.
 fn line_above(other: &Hunk, hunk: &Hunk, line: u32) -> Option<u32>
     requires range { IsInRange (at_line line hunk.now) }
     requires path { other.now.path ≡ hunk.now.path }
     requires above { line + length hunk.now.old < other.now.line }
     ensures { IfSome result (λ next. Passes other.now hunk.now line next) }
 {
-    if !stays_in_range(other, hunk, line) {
+    let gap = other.line() - line - hunk.old().len() as u32;
+    let behind = line as usize + hunk.new().len() + gap as usize;
+    if behind + other.old().len() + other.new().len() > MOST_REACH {
         return None;
     }
     Some(line)
-}
-
-/// Whether a hunk below another one at a line is in range behind it, too.
-fn stays_in_range(other: &Hunk, hunk: &Hunk, line: u32) -> bool
-    requires range { IsInRange (at_line line hunk.now) }
-    requires above { line + length hunk.now.old < other.now.line }
-    ensures own { IsInRange other.now }
-    ensures within { IsTrue result → (line + length hunk.now.new + (other.now.line - line - length hunk.now.old)
-        + length other.now.old + length other.now.new ≤ greatest_reach) }
-{
-    let gap = other.line() - line - hunk.old().len() as u32;
-    let behind = line as usize + hunk.new().len() + gap as usize;
-    behind + other.old().len() + other.new().len() <= MOST_REACH
 }
 
 /// A label without a context whose hunk moves to a line.

@@ -100,7 +100,8 @@ fn drawn_about(
     }
     let kept = hanging_on(alloc, &patches, names)?;
     let nodes = kept_nodes(alloc, &kept, &patches)?;
-    let pairs = kept_pairs(alloc, &kept, conflicts.pairs())?;
+    let mut pairs = Vec::from_slice(alloc, conflicts.pairs())?;
+    pairs.retain(|pair| are_kept(&kept, pair));
     Ok(Picture {
         patches: nodes,
         conflicts: Conflicts::new(pairs),
@@ -165,23 +166,13 @@ fn join_needing(names: &mut Vec<Name>, node: &Node) -> Result<(), AllocError>
 fn needs_one(names: &[Name], needs: &[Name]) -> bool
     ensures { result ≡ list_any (is_among names.now) needs.now }
 {
-    for on in needs {
-        if has(names, on) {
-            return true;
-        }
-    }
-    false
+    needs.iter().any(|on| has(names, on))
 }
 
 fn has(names: &[Name], name: &Name) -> bool
     ensures { result ≡ is_among names.now name.now }
 {
-    for other in names {
-        if name == other {
-            return true;
-        }
-    }
-    false
+    names.iter().any(|other| name == other)
 }
 
 /// The patches of names that are kept, with the arrows between these.
@@ -211,27 +202,8 @@ fn push_kept(left: &mut Vec<Node>, kept: &NameSet, node: &Node) -> Result<(), Al
     Ok(())
 }
 
-fn kept_pairs(
-    alloc: Global,
-    kept: &NameSet,
-    pairs: &[(Name, Name)],
-) -> Result<Vec<(Name, Name)>, AllocError>
-    ensures { IfOk result (λ left. left.items ≡ filter (λ pair. has_name kept.now pair.0 && has_name kept.now pair.1) pairs.now) }
-{
-    let mut left = Vec::new(alloc);
-    for pair in pairs {
-        if are_kept(kept, pair) {
-            left.push(*pair)?;
-        }
-    }
-    Ok(left)
-}
-
 fn are_kept(kept: &NameSet, pair: &(Name, Name)) -> bool
     ensures { result ≡ (has_name kept.now pair.now.0 && has_name kept.now pair.now.1) }
 {
-    if !kept.contains_key(&pair.0) {
-        return false;
-    }
-    kept.contains_key(&pair.1)
+    kept.contains_key(&pair.0) && kept.contains_key(&pair.1)
 }

@@ -1,5 +1,5 @@
 //! The places of a file where versions of it differ from it.
-ghost use Rattle.std.specs.Prelude.{◌≡◌, ◌≤◌, [], ◌∷◌, ◌++◌, map, filter, fold, if◌then◌else◌, nat_lt, min, max, IfOk, OnOk};
+ghost use Rattle.std.specs.Prelude.{◌≡◌, [], ◌∷◌, ◌++◌, map, filter, fold, if◌then◌else◌, IfOk, OnOk};
 ghost use Rattle.std.specs.List.{slice_range};
 ghost use Rattle.camp_questions.specs.Inside.Placing.{is_within};
 ghost use Rattle.camp_questions.specs.Places.{at_place, differs_within, file_from, joined, place_from, range_of, touch, with_marks, with_range};
@@ -97,35 +97,13 @@ fn places_of(alloc: Global, ranges: &[Range]) -> Result<Vec<Range>, AllocError>
 fn with_range(alloc: Global, places: &[Range], range: Range) -> Result<Vec<Range>, AllocError>
     ensures { IfOk result (λ new. new.items ≡ with_range places.now range) }
 {
-    let mut new = Vec::new(alloc);
-    append_before(&mut new, places, range)?;
+    let mut new = Vec::from_slice(alloc, places)?;
+    new.retain(|place| place.to < range.from);
     new.push(joined_with(range, places))?;
-    append_behind(&mut new, places, range)?;
+    let mut behind = Vec::from_slice(alloc, places)?;
+    behind.retain(|place| range.to < place.from);
+    new.extend_from_slice(&behind)?;
     Ok(new)
-}
-
-/// Puts the places that end before a range behind others.
-fn append_before(new: &mut Vec<Range>, places: &[Range], range: Range) -> Result<(), AllocError>
-    ensures { OnOk result (new.new.items ≡ new.old.items ++ filter (λ place. nat_lt place.to range.from) places.now) }
-{
-    for place in places {
-        if place.to < range.from {
-            new.push(*place)?;
-        }
-    }
-    Ok(())
-}
-
-/// Puts the places that begin behind a range behind others.
-fn append_behind(new: &mut Vec<Range>, places: &[Range], range: Range) -> Result<(), AllocError>
-    ensures { OnOk result (new.new.items ≡ new.old.items ++ filter (λ place. nat_lt range.to place.from) places.now) }
-{
-    for place in places {
-        if range.to < place.from {
-            new.push(*place)?;
-        }
-    }
-    Ok(())
 }
 
 /// A range and those that it touches, as one.
@@ -145,10 +123,7 @@ fn joined_with(range: Range, places: &[Range]) -> Range
 fn touch(range: Range, other: Range) -> bool
     ensures { result ≡ touch range other }
 {
-    if range.from > other.to {
-        return false;
-    }
-    other.from <= range.to
+    range.from <= other.to && other.from <= range.to
 }
 
 /// The two as one.
@@ -156,8 +131,8 @@ fn join(range: Range, other: Range) -> Range
     ensures { result ≡ joined range other }
 {
     Range {
-        from: lesser(range.from, other.from),
-        to: greater(range.to, other.to),
+        from: range.from.min(other.from),
+        to: range.to.max(other.to),
     }
 }
 
@@ -218,10 +193,7 @@ fn push_within(
 fn is_within(range: Range, place: Range) -> bool
     ensures { result ≡ is_within range place }
 {
-    if place.from > range.from {
-        return false;
-    }
-    range.to <= place.to
+    place.from <= range.from && range.to <= place.to
 }
 
 /// What a version has at a place.
@@ -245,21 +217,7 @@ fn at_place(
 fn part(lines: &SharedList<Line>, from: usize, to: usize) -> Result<SharedList<Line>, AllocError>
     ensures { IfOk result (λ part. part ≡ slice_range lines.now from to) }
 {
-    let end = lesser(to, lines.len());
-    let start = lesser(from, end);
+    let end = to.min(lines.len());
+    let start = from.min(end);
     Ok(lines.copied(start, end)?)
-}
-
-fn lesser(a: usize, b: usize) -> usize
-    ensures exact { result ≡ min a b }
-    ensures first { result ≤ a }
-    ensures second { result ≤ b }
-{
-    usize::min(a, b)
-}
-
-fn greater(a: usize, b: usize) -> usize
-    ensures { result ≡ max a b }
-{
-    usize::max(a, b)
 }

@@ -205,12 +205,7 @@ fn append_all(list: &mut Seq, more: &[Named]) -> Result<(), AllocError>
 fn has_key(list: &[Named], key: &Key) -> bool
     ensures { result ≡ has_key list.now key.now }
 {
-    for p in list {
-        if is_at(p, key) {
-            return true;
-        }
-    }
-    false
+    list.iter().any(|p| is_at(p, key))
 }
 
 fn is_at(p: &Named, key: &Key) -> bool

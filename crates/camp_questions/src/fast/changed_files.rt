@@ -1,5 +1,5 @@
 //! The files that catches change, told apart by small numbers: those of one path have one number.
-ghost use Rattle.std.specs.Prelude.{◌≡◌, ◌<◌, List, map, length, not, IfOk};
+ghost use Rattle.std.specs.Prelude.{◌≡◌, ◌<◌, map, length, IfOk};
 ghost use Rattle.std.specs.List.{AllByRecursion, list_any};
 ghost use Rattle.camp_questions.specs.Inside.ChangedFiles.{AreFilesOf, AreMarkedToo, file_number, is_marked, number_of};
 
@@ -65,16 +65,11 @@ fn file_number(path: &Path) -> usize
     number
 }
 
-/// Whether none of these numbers is marked.
-pub(crate) fn are_unmarked(marks: &[bool], numbers: &[usize]) -> bool
-    ensures { result ≡ not (list_any (is_marked marks.now) numbers.now) }
+/// Whether one of these numbers is marked.
+pub(crate) fn is_any_marked(marks: &[bool], numbers: &[usize]) -> bool
+    ensures { result ≡ list_any (is_marked marks.now) numbers.now }
 {
-    for number in numbers {
-        if is_marked(marks, *number) {
-            return false;
-        }
-    }
-    true
+    numbers.iter().any(|number| is_marked(marks, *number))
 }
 
 fn is_marked(marks: &[bool], number: usize) -> bool

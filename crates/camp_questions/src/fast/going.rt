@@ -4,7 +4,7 @@ ghost use Rattle.camp_questions.specs.Inside.ByPatch.{AreApart, AreOfPatch};
 ghost use Rattle.camp_questions.specs.Inside.ChangedFiles.{GoMarked, HasFiles};
 ghost use Rattle.camp_questions.specs.Inside.StandingAside.{StandsAside};
 
-use crate::fast::changed_files::{NUMBERS, PatchFiles, are_unmarked, mark_numbers};
+use crate::fast::changed_files::{NUMBERS, PatchFiles, is_any_marked, mark_numbers};
 use crate::fast::patch_catches::{PatchCatches, append};
 use crate::fast::standing_aside::stand_aside;
 use camp_catch::Catch;
@@ -67,7 +67,7 @@ pub(crate) fn comes_before(
     ensures marked { OnOk result (GoMarked going.new) }
     ensures aside { IfOk result (λ yes. StandsAside patch.now.name going.old.catches.items patch.now.catches.items yes going.new.catches.items) }
 {
-    if are_unmarked(&going.files, &files.numbers) {
+    if !is_any_marked(&going.files, &files.numbers) {
         return Ok(true);
     }
     stand_aside(alloc, &mut going.catches, patch)

@@ -1,7 +1,7 @@
 //! What each patch needs, by a walk back from it that stops where all below are needed.
 ghost use Rattle.std.specs.Prelude.{◌≡◌, ◌<◌, ◌≤◌, List, length, IfOk};
 ghost use Rattle.camp_catch.specs.declared.catches.Catch.{Catch as AnyCatch};
-ghost use Rattle.camp_questions.specs.Inside.ByPatch.{ArePatches, names_in_order};
+ghost use Rattle.camp_questions.specs.Inside.ByPatch.{names_in_order};
 ghost use Rattle.camp_questions.specs.Inside.ChangedFiles.{AreFilesOf};
 ghost use Rattle.camp_questions.specs.Inside.Graphing.{AreKnown, AreMarkedBelow, AreReached, IsInverted, NeedEach, marked_in_both};
 

@@ -5,7 +5,7 @@ use Rattle.std.proofs.lemmas.List.{nil_from_length}
 use Rattle.std.specs.FinMap.{len-entries}
 use Rattle.std.specs.Result.{MatchResult}
 use Rattle.camp_catch.specs.Making.{ComesTo}
-use Rattle.camp_branch.proofs.Words.{◌≡◌, ◌++◌, [], Ok, Err, entries, length-map, map_of, nat_cmp, slice_cmp, subst, sym, ◌∙◌, Arrange, PullBy, names_in}
+use Rattle.camp_branch.proofs.Words.{◌++◌, Ok, Err, entries, length-map, map_of, nat_cmp, slice_cmp, subst, sym, ◌∙◌, Arrange, PullBy, names_in}
 use Rattle.camp_branch.proofs.PullSteps.{both_diverge, depends, either_answer, merges, no_merge, ours_diverge, theirs_diverge}
 use Rattle.camp_branch.proofs.pulls.pull.Goals as goal
 

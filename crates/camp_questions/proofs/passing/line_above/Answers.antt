@@ -1,4 +1,5 @@
-use Rattle.camp_questions.proofs.Words.{◌≡◌, ◌<◌, ◌+◌, ◌-◌, arith, length}
+use Rattle.camp_questions.proofs.Words.{◌≡◌, ◌<◌, ◌≤◌, ◌+◌, ◌-◌, arith, length}
+use Rattle.camp_base.specs.Limits.{greatest_reach}
 use Rattle.camp_questions.proofs.PassedChanges.{above_passes}
 use Rattle.camp_questions.proofs.passing.line_above.Goals as goal
 
@@ -10,4 +11,5 @@ returns c =
     let gap = other.line - line - length hunk.old in
     let stands : other.line ≡ line + length hunk.old + gap = omega (arith, c.requires.above) in
     let between : 0 < gap = omega (arith, c.requires.above) in
-    above_passes other hunk line gap c.requires.path c.stays_in_range.ensures.own c.requires.range stands between (c.stays_in_range.ensures.within c.if-not-stays_in_range.false)
+    let within : line + length hunk.new + gap + length other.old + length other.new ≤ greatest_reach = grind arith in
+    above_passes other hunk line gap c.requires.path c.line.ensures.in_range c.requires.range stands between within

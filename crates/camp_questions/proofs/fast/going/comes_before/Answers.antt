@@ -1,13 +1,13 @@
-use Rattle.camp_questions.proofs.Words.{List, ◌≡◌, ◌∙◌, list_any, map, not, refl, sym, true, Catch, is_marked, number_of, Going}
+use Rattle.camp_questions.proofs.Words.{List, ◌≡◌, ◌∙◌, ap, list_any, map, not, refl, sym, true, Catch, is_marked, number_of, Going}
 use Rattle.camp_questions.proofs.FileMarks.{all_pass, still_marked_after}
 use Rattle.camp_questions.proofs.PartsArranged.{all_came}
 use Rattle.camp_questions.proofs.fast.going.comes_before.Goals as goal
 
-pub returns-then-are_unmarked-clause-aside : goal.returns-then-are_unmarked-clause-aside
-returns-then-are_unmarked-clause-aside c =
+pub returns-then-not-is_any_marked-clause-aside : goal.returns-then-not-is_any_marked-clause-aside
+returns-then-not-is_any_marked-clause-aside c =
     let list : List Catch = c.args.patch.now.catches.items in
     let free : not (list_any (is_marked c.args.going.now.files.items) (map number_of list)) ≡ true =
-    sym (λ i. not (list_any (is_marked (c.deref.ensures.value i)) ((c.deref-2.ensures.value ∙ c.requires.files.numbers) i))) ∙ sym c.are_unmarked.ensures ∙ c.if-are_unmarked.true in
+    ap not (sym (λ i. list_any (is_marked (c.deref.ensures.value i)) ((c.deref-2.ensures.value ∙ c.requires.files.numbers) i)) ∙ sym c.is_any_marked.ensures ∙ c.if-not-is_any_marked.true) in
     (list, all_came c.args.patch.now.name c.args.going.now.catches.items list c.requires.own (all_pass c.args.going.now.files.items c.args.patch.now.name c.args.going.now.catches.items list c.requires.marked.marked c.requires.apart c.requires.files.plain c.requires.own free))
 
 pub returns-clause-marked : goal.returns-clause-marked

@@ -1,12 +1,12 @@
-use Rattle.camp_questions.proofs.Words.{List, Bool, ℕ, ◌≡◌, ◌<◌, ◌+◌, ◌-◌, ◌++◌, ◌∙◌, ap, arith, false, get_or, length, length-replicate, replicate, subst, sym, true, Catch, set, get_or_default, length-set, with_items_is, GoMarked, marked_in_both, StickBehind, PatchCatches, Needed}
+use Rattle.camp_questions.proofs.Words.{List, Bool, ℕ, ◌≡◌, ◌<◌, ◌+◌, ◌-◌, ◌++◌, ◌∙◌, ap, arith, false, get_or, length, length-replicate, replicate, subst, sym, true, Catch, set, get_or_default, length-set, with_items_is, GoMarked, is_marked, marked_in_both, StickBehind, PatchCatches, Needed}
 use Rattle.camp_questions.proofs.FileMarks.{has_files}
-use Rattle.camp_questions.proofs.MarkedNames.{both_long, mark_at, marked_still}
+use Rattle.camp_questions.proofs.MarkedNames.{both_long, marked_still}
 use Rattle.camp_questions.proofs.ReachedPatches.{goes_apart_from, step_aside, step_first, step_last, step_on, step_stuck}
 use Rattle.camp_questions.proofs.fast.reaching.reached.Goals.{else-not-index, then-not-index+in_ok-comes_before+else-branch}
 use Rattle.camp_questions.proofs.fast.reaching.reached.Goals as goal
 
 -- a place that was looked up is marked so
-told : (marks : List Bool) (place : ℕ) (r b : Bool) → place < length marks → r ≡ get_or marks place r → r ≡ b → mark_at marks place ≡ b
+told : (marks : List Bool) (place : ℕ) (r b : Bool) → place < length marks → r ≡ get_or marks place r → r ≡ b → is_marked marks place ≡ b
 told marks place r b within is e = get_or_default marks place false r within ∙ sym is ∙ e
 
 pub loop-all_below-init : goal.loop-all_below-init
@@ -88,18 +88,18 @@ loop-all_below-preserved c =
           let aside : (w.comes_before.new.going.catches.items ≡ going) × StickBehind p.name going p.catches.items = rw w.if-branch.false at w.in_ok-comes_before.ensures.aside in
           let written = with_items_is c.loop-all_below.marks w.mark_all.new.marks (w.mark_all.auto.marks ∙ ap length w.deref_mut.ensures.value ∙ sym c.loop-all_below.marks.ok.0) in
           let becomes : w.mark_all.new.marks ≡ marked_in_both marks q.needs.items = w.mark_all.ensures ∙ (λ i. marked_in_both (w.deref_mut.ensures.value i) ((w.deref-then-not-index.ensures.value ∙ ap (λ (x : Needed). x.needs.items) (sym w.index-known-place.is)) i)) in
-          let is_marked : c.if-not-index.marks.items ≡ marked_in_both marks q.needs.items = (λ i. (w.marks-is i).items) ∙ written ∙ becomes in
+          let both_marked : c.if-not-index.marks.items ≡ marked_in_both marks q.needs.items = (λ i. (w.marks-is i).items) ∙ written ∙ becomes in
           let looked : c.if-not-index.marks.items ≡ w.deref-then-not-index-2.result.now = (λ i. (w.marks-is i).items) ∙ sym w.deref-then-not-index-2.ensures.value in
           let goes : c.go_too.new.going.catches.items ≡ going ++ p.catches.items = c.in_ok-go_too.ensures.catches ∙ ap (λ l. l ++ p.catches.items) ((λ i. (w.going-is i).catches.items) ∙ aside.0) in
           let free = told marks place c.index.result.now false (omega (arith, before, long)) c.index.ensures w.if-not-index.true in
           record {
             within = omega (arith, before);
-            long = ap length is_marked ∙ both_long marks q.needs.items ∙ long;
+            long = ap length both_marked ∙ both_long marks q.needs.items ∙ long;
             below = λ r less. ap (λ l. get_or l r false) looked ∙ w.first_unmarked-all_below-then-not-index.ensures r (subst (λ b. r < b) w.all_below-is less);
             going = c.in_ok-go_too.ensures.marked;
             reaches = λ branch inverted known.
                 let stuck = step_stuck branch c.args.patches.now inverted c.args.known.now known c.requires.next marks place c.loop-all_below.place next p going (omega (arith, before)) c.index-patches-place.is (c.loop-all_below.invariant.reaches branch inverted known) q w.index-known-place.is free aside.1 in
-                rw (is_marked, goes) stuck;
+                rw (both_marked, goes) stuck;
           }
       | else-not-index w ↦
           let same : c.if-not-index.marks.items ≡ marks = λ i. (w.marks-is i).items in
