@@ -1,6 +1,10 @@
 -- What the changes of a commit make of a tree that git has.
-use Rattle.camp_git.proofs.Words.{◌≡◌, ◌⊎◌, ◌++◌, ◌∷◌, [], ◌||◌, ◌&&◌, ◌∙◌, ℕ, not, Bool, List, Option, None, Some, true, false, true≢false, cond, refl, sym, ap, inl, inr, bytes_eq, bytes_eq-Decides, contains_key, get, is_some, list_any, none-some, Files, Lines}
-use Rattle.camp_git.proofs.HeldTrees.{true_or_false}
+use Rattle.camp_git.proofs.Words.{◌≡◌, ◌⊎◌, ◌++◌, ◌∷◌, [], ◌||◌, ◌&&◌, ◌∙◌, ℕ, not, Bool, List, Option, None, Some, true, false, true≢false, cond, refl, sym, ap, inl, inr, bytes_eq, contains_key, get, is_some, none-some, Files, Lines}
+use Rattle.std.specs.Cmp.{first_so}
+use Rattle.std.proofs.lemmas.Bool.{cases_Bool}
+use Rattle.camp_branch.proofs.NameSets.{or_none}
+use Rattle.camp_branch.proofs.Names.{same_name}
+use Rattle.camp_branch.specs.Branches.{is_among}
 use Rattle.camp_git.specs.Exports.{content_of, Shows}
 use Rattle.camp_git.specs.FastImport.{FileChange, FileDelete, FileModify, GitTree, changed, changed_by, is_inside}
 use Rattle.camp_git.specs.Holding.{CanHold}
@@ -14,7 +18,7 @@ IsWithin git files = (path : List ℕ) (content : List ℕ) → git path ≡ Som
 
 -- in a tree that git holds no file lies in another
 pub not_inside : (files : Files) (folder path : List ℕ) → CanHold files → contains_key files folder ≡ true → contains_key files path ≡ true → is_inside folder path ≡ false
-not_inside files folder path held has there = elim (true_or_false (is_inside folder path)) [
+not_inside files folder path held has there = elim (cases_Bool (is_inside folder path)) [
   | inl inside ↦ absurd (held folder has (inr (path, there, inside)))
   | inr apart ↦ apart
 ]
@@ -24,10 +28,6 @@ some_or_none : (o : Option (List ℕ)) → ((content : List ℕ) × (o ≡ Some 
 some_or_none None = inr refl
 some_or_none (Some content) = inl (content, refl)
 
-or_false : (b : Bool) → (b || false) ≡ b
-or_false true = refl
-or_false false = refl
-
 none_anyway : (b : Bool) (o : Option (List ℕ)) → o ≡ None → cond b None o ≡ o
 none_anyway true o e = sym e
 none_anyway false o e = refl
@@ -35,7 +35,7 @@ none_anyway false o e = refl
 -- a file of a held tree goes alone
 pub deleted_alone : (git : GitTree) (files : Files) (path other : List ℕ) → CanHold files → IsWithin git files → contains_key files path ≡ true → changed git (FileDelete path) other ≡ cond (bytes_eq other path) None (git other)
 deleted_alone git files path other held within has = elim (some_or_none (git other)) [
-  | inl (content, is) ↦ ap (λ b. cond b None (git other)) (ap (λ b. bytes_eq other path || b) (not_inside files path other held has (within other content is)) ∙ or_false (bytes_eq other path))
+  | inl (content, is) ↦ ap (λ b. cond b None (git other)) (ap (λ b. bytes_eq other path || b) (not_inside files path other held has (within other content is)) ∙ or_none (bytes_eq other path))
   | inr is ↦ none_anyway (bytes_eq other path || is_inside path other) (git other) is ∙ sym (none_anyway (bytes_eq other path) (git other) is)
 ]
 
@@ -59,13 +59,6 @@ passed true false false v x none = refl
 passed true a true v x none = absurd (true≢false (none refl))
 passed false a d v x none = refl
 
--- whether a path is among some
-abbrev pub is_listed : List (List ℕ) → List ℕ → Bool
-is_listed paths path = list_any (bytes_eq path) paths
-
-same_path : (a b : List ℕ) → bytes_eq a b ≡ true → a ≡ b
-same_path a b e = (bytes_eq-Decides a b).0 e
-
 -- what a path that stays or goes has, where another goes
 kept_within : (b : Bool) (o : Option (List ℕ)) (content : List ℕ) → cond b None o ≡ Some content → o ≡ Some content
 kept_within true o content e = absurd (none-some content e)
@@ -75,23 +68,19 @@ kept_within false o content e = e
 abbrev pub goes : Files → Files → List ℕ → Bool
 goes old new path = contains_key old path && not (contains_key new path)
 
-first_of : (a b : Bool) → (a && b) ≡ true → a ≡ true
-first_of true b e = refl
-first_of false b e = e
-
 module _ (old new : Files) (held : CanHold old) where
-  delete_next : (path : List ℕ) (paths : List (List ℕ)) (git : GitTree) (other : List ℕ) (b : Bool) → goes old new path ≡ b → IsWithin git old → ((next : GitTree) → IsWithin next old → changed_by next (flat_map (deletion_of old new) paths) other ≡ cond (is_listed paths other && goes old new other) None (next other)) → changed_by git (cond b (FileDelete path ∷ []) [] ++ flat_map (deletion_of old new) paths) other ≡ cond ((bytes_eq other path || is_listed paths other) && goes old new other) None (git other)
+  delete_next : (path : List ℕ) (paths : List (List ℕ)) (git : GitTree) (other : List ℕ) (b : Bool) → goes old new path ≡ b → IsWithin git old → ((next : GitTree) → IsWithin next old → changed_by next (flat_map (deletion_of old new) paths) other ≡ cond (is_among paths other && goes old new other) None (next other)) → changed_by git (cond b (FileDelete path ∷ []) [] ++ flat_map (deletion_of old new) paths) other ≡ cond ((bytes_eq other path || is_among paths other) && goes old new other) None (git other)
   delete_next path paths git other true is within more =
-      let has = first_of (contains_key old path) (not (contains_key new path)) is in
+      let has = first_so (contains_key old path) (not (contains_key new path)) is in
       let next = changed git (FileDelete path) in
       let alone = λ (q : List ℕ). deleted_alone git old path q held within has in
       more next (λ q content e. within q content (kept_within (bytes_eq q path) (git q) content (sym (alone q) ∙ e)))
-      ∙ ap (cond (is_listed paths other && goes old new other) None) (alone other)
-      ∙ taken (bytes_eq other path) (is_listed paths other) (goes old new other) None None (git other) (λ e. ap (goes old new) (same_path other path e) ∙ is) (λ e. refl)
+      ∙ ap (cond (is_among paths other && goes old new other) None) (alone other)
+      ∙ taken (bytes_eq other path) (is_among paths other) (goes old new other) None None (git other) (λ e. ap (goes old new) (same_name other path e) ∙ is) (λ e. refl)
   delete_next path paths git other false is within more =
-      more git within ∙ passed (bytes_eq other path) (is_listed paths other) (goes old new other) None (git other) (λ e. ap (goes old new) (same_path other path e) ∙ is)
+      more git within ∙ passed (bytes_eq other path) (is_among paths other) (goes old new other) None (git other) (λ e. ap (goes old new) (same_name other path e) ∙ is)
 
-  pub deleted : (paths : List (List ℕ)) (git : GitTree) (other : List ℕ) → IsWithin git old → changed_by git (flat_map (deletion_of old new) paths) other ≡ cond (is_listed paths other && goes old new other) None (git other)
+  pub deleted : (paths : List (List ℕ)) (git : GitTree) (other : List ℕ) → IsWithin git old → changed_by git (flat_map (deletion_of old new) paths) other ≡ cond (is_among paths other && goes old new other) None (git other)
   deleted [] git other within = refl
   deleted (path ∷ paths) git other within =
       delete_next path paths git other (goes old new path) refl within (λ next inside. deleted paths next other inside)
@@ -102,24 +91,24 @@ content_at files path = option_map content_of (get files path)
 
 module _ (new : Files) (held : CanHold new) where
   put_within : (git : GitTree) (path content q now : List ℕ) → IsWithin git new → contains_key new path ≡ true → cond (bytes_eq q path) (Some content) (git q) ≡ Some now → contains_key new q ≡ true
-  put_within git path content q now within has e = elim (true_or_false (bytes_eq q path)) [
-    | inl same ↦ ap (contains_key new) (same_path q path same) ∙ has
+  put_within git path content q now within has e = elim (cases_Bool (bytes_eq q path)) [
+    | inl same ↦ ap (contains_key new) (same_name q path same) ∙ has
     | inr other ↦ within q now (ap (λ b. cond b (Some content) (git q)) (sym other) ∙ e)
   ]
 
-  modify_next : (path : List ℕ) (paths : List (List ℕ)) (git : GitTree) (other : List ℕ) (o : Option Lines) → get new path ≡ o → IsWithin git new → ((next : GitTree) → IsWithin next new → changed_by next (flat_map (modification_of new) paths) other ≡ cond (is_listed paths other && contains_key new other) (content_at new other) (next other)) → changed_by git (modified_to path o ++ flat_map (modification_of new) paths) other ≡ cond ((bytes_eq other path || is_listed paths other) && contains_key new other) (content_at new other) (git other)
+  modify_next : (path : List ℕ) (paths : List (List ℕ)) (git : GitTree) (other : List ℕ) (o : Option Lines) → get new path ≡ o → IsWithin git new → ((next : GitTree) → IsWithin next new → changed_by next (flat_map (modification_of new) paths) other ≡ cond (is_among paths other && contains_key new other) (content_at new other) (next other)) → changed_by git (modified_to path o ++ flat_map (modification_of new) paths) other ≡ cond ((bytes_eq other path || is_among paths other) && contains_key new other) (content_at new other) (git other)
   modify_next path paths git other (Some lines) is within more =
       let has : contains_key new path ≡ true = ap is_some is in
       let content = content_of lines in
       let next = changed git (FileModify path content) in
       let alone = λ (q : List ℕ). modified_alone git new path content q held within has in
       more next (λ q now e. put_within git path content q now within has (sym (alone q) ∙ e))
-      ∙ ap (cond (is_listed paths other && contains_key new other) (content_at new other)) (alone other)
-      ∙ taken (bytes_eq other path) (is_listed paths other) (contains_key new other) (content_at new other) (Some content) (git other) (λ e. ap (contains_key new) (same_path other path e) ∙ has) (λ e. sym (ap (content_at new) (same_path other path e) ∙ ap (option_map content_of) is))
+      ∙ ap (cond (is_among paths other && contains_key new other) (content_at new other)) (alone other)
+      ∙ taken (bytes_eq other path) (is_among paths other) (contains_key new other) (content_at new other) (Some content) (git other) (λ e. ap (contains_key new) (same_name other path e) ∙ has) (λ e. sym (ap (content_at new) (same_name other path e) ∙ ap (option_map content_of) is))
   modify_next path paths git other None is within more =
-      more git within ∙ passed (bytes_eq other path) (is_listed paths other) (contains_key new other) (content_at new other) (git other) (λ e. ap (contains_key new) (same_path other path e) ∙ ap is_some is)
+      more git within ∙ passed (bytes_eq other path) (is_among paths other) (contains_key new other) (content_at new other) (git other) (λ e. ap (contains_key new) (same_name other path e) ∙ ap is_some is)
 
-  pub modified : (paths : List (List ℕ)) (git : GitTree) (other : List ℕ) → IsWithin git new → changed_by git (flat_map (modification_of new) paths) other ≡ cond (is_listed paths other && contains_key new other) (content_at new other) (git other)
+  pub modified : (paths : List (List ℕ)) (git : GitTree) (other : List ℕ) → IsWithin git new → changed_by git (flat_map (modification_of new) paths) other ≡ cond (is_among paths other && contains_key new other) (content_at new other) (git other)
   modified [] git other within = refl
   modified (path ∷ paths) git other within =
       modify_next path paths git other (get new path) refl within (λ next inside. modified paths next other inside)
@@ -128,7 +117,7 @@ pub changed_by-append : (git : GitTree) (front rest : List FileChange) → chang
 changed_by-append git [] rest = refl
 changed_by-append git (change ∷ front) rest = changed_by-append (changed git change) front rest
 
-module _ (old new : Files) (was : CanHold old) (held : CanHold new) (paths : List (List ℕ)) (stays : (path : List ℕ) → is_listed paths path ≡ false → get new path ≡ get old path) (git : GitTree) (shows : Shows git old) where
+module _ (old new : Files) (was : CanHold old) (held : CanHold new) (paths : List (List ℕ)) (stays : (path : List ℕ) → is_among paths path ≡ false → get new path ≡ get old path) (git : GitTree) (shows : Shows git old) where
   within_old : IsWithin git old
   within_old path content e = has (get old path) (sym (shows path) ∙ e)
     where
@@ -136,12 +125,12 @@ module _ (old new : Files) (was : CanHold old) (held : CanHold new) (paths : Lis
       has None e = absurd (none-some content e)
       has (Some lines) e = refl
 
-  gone : (path : List ℕ) → changed_by git (flat_map (deletion_of old new) paths) path ≡ cond (is_listed paths path && goes old new path) None (git path)
+  gone : (path : List ℕ) → changed_by git (flat_map (deletion_of old new) paths) path ≡ cond (is_among paths path && goes old new path) None (git path)
   gone path = deleted old new was paths git path within_old
 
   -- of the files that stand there then each is in the new tree
   within_new : IsWithin (changed_by git (flat_map (deletion_of old new) paths)) new
-  within_new path content e = elim (true_or_false (is_listed paths path)) [
+  within_new path content e = elim (cases_Bool (is_among paths path)) [
     | inl listed ↦ stays_there (contains_key old path) (contains_key new path) (within_old path content (kept_within _ (git path) content (sym (gone path) ∙ e))) (sym (gone path ∙ ap (λ b. cond (b && goes old new path) None (git path)) listed) ∙ e)
     | inr apart ↦ ap is_some (stays path apart) ∙ within_old path content (kept_within _ (git path) content (sym (gone path) ∙ e))
   ]
@@ -151,7 +140,7 @@ module _ (old new : Files) (was : CanHold old) (held : CanHold new) (paths : Lis
       stays_there true false has e = absurd (none-some content e)
       stays_there false false has e = absurd (true≢false (sym has))
 
-  told : (path : List ℕ) (listed : Bool) → is_listed paths path ≡ listed → (now : Option Lines) → get new path ≡ now → (before : Option Lines) → get old path ≡ before → cond (listed && is_some now) (option_map content_of now) (cond (listed && (is_some before && not (is_some now))) None (option_map content_of before)) ≡ option_map content_of now
+  told : (path : List ℕ) (listed : Bool) → is_among paths path ≡ listed → (now : Option Lines) → get new path ≡ now → (before : Option Lines) → get old path ≡ before → cond (listed && is_some now) (option_map content_of now) (cond (listed && (is_some before && not (is_some now))) None (option_map content_of before)) ≡ option_map content_of now
   told path true is (Some now) e before f = refl
   told path true is None e (Some before) f = refl
   told path true is None e None f = refl
@@ -162,5 +151,5 @@ module _ (old new : Files) (was : CanHold old) (held : CanHold new) (paths : Lis
   shows_new path =
       ap (λ (t : GitTree). t path) (changed_by-append git (flat_map (deletion_of old new) paths) (flat_map (modification_of new) paths))
       ∙ modified new held paths (changed_by git (flat_map (deletion_of old new) paths)) path within_new
-      ∙ ap (cond (is_listed paths path && contains_key new path) (content_at new path)) (gone path ∙ ap (cond (is_listed paths path && goes old new path) None) (shows path))
-      ∙ told path (is_listed paths path) refl (get new path) refl (get old path) refl
+      ∙ ap (cond (is_among paths path && contains_key new path) (content_at new path)) (gone path ∙ ap (cond (is_among paths path && goes old new path) None) (shows path))
+      ∙ told path (is_among paths path) refl (get new path) refl (get old path) refl

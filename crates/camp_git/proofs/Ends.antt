@@ -14,14 +14,7 @@ use Rattle.camp_git.specs.Inside.Streams.{EndsIn, Streams}
 use Rattle.camp_git.specs.declared.faults.Unexported.{Unexported}
 use Rattle.camp_git.specs.declared.faults.Unexported.TheVariants.{NoBranch, Unheld, Memory, Write}
 
--- an end that is not good is one whatever is good
-pub ends_too : {A B : Type 0} (Good : A → Type 0) (Other : B → Type 0) (name : List ℕ) (tree : Files) (fault : Unexported) → EndsIn Good name tree (Err fault) → EndsIn Other name tree (Err fault)
-ends_too Good Other name tree (NoBranch missing) w = w
-ends_too Good Other name tree (Unheld patch path) w = w
-ends_too Good Other name tree Memory w = w
-ends_too Good Other name tree (Write error) w = w
-
--- and ends the stream
+-- an end that is not good ends the stream
 pub ends_stream : {A : Type 0} (Good : A → Type 0) (called : List ℕ) (tree : Files) (name : List ℕ) (branch : List Catch) (fault : Unexported) → EndsIn Good called tree (Err fault) → ((patch path : List ℕ) → patch ≡ called → contains_key tree path ≡ true → CannotHold tree path → IsUnheld branch patch path) → Streams name branch (Err fault)
 ends_stream Good called tree name branch (NoBranch missing) w bad = w
 ends_stream Good called tree name branch (Unheld patch path) w bad = bad patch path w.0 w.1 w.2

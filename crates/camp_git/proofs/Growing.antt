@@ -1,7 +1,8 @@
 -- Texts that grow by the commands of changes, path by path.
 use Rattle.camp_git.proofs.Words.{◌≡◌, ◌∷◌, [], ◌++◌, ◌∙◌, ◌<◌, ℕ, List, map, sym, ap, subst, append_assoc, append-nil}
-use Rattle.std.specs.List.{AllByRecursion, flat_map}
+use Rattle.std.specs.List.{flat_map}
 use Rattle.std.proofs.lemmas.Grind.{flat_map-append}
+use Rattle.camp_branch.proofs.Names.{all_append}
 use Rattle.camp_git.specs.Exports.{reference_of}
 use Rattle.std.specs.Prelude.{codes}
 use Rattle.camp_base.specs.Signs.{newline}
@@ -9,14 +10,10 @@ use Rattle.camp_git.specs.FastImport.{CanBeNamed, FileChange, FileModify, HasGoo
 use Rattle.camp_git.specs.Inside.Commits.{GrowsBy, IsWritten, commit_at}
 use Rattle.camp_git.specs.declared.commits.Place.{Place}
 
-pub all_of_both : {X : Type 0} (P : X → Type 0) (xs ys : List X) → AllByRecursion P xs → AllByRecursion P ys → AllByRecursion P (xs ++ ys)
-all_of_both P [] ys v w = w
-all_of_both P (x ∷ xs) ys v w = (v.0, all_of_both P xs ys v.1 w)
-
 pub grows_more : (old text new : List ℕ) (xs ys : List FileChange) → GrowsBy old xs text → GrowsBy text ys new → GrowsBy old (xs ++ ys) new
 grows_more old text new xs ys v w = (
   w.0 ∙ ap (λ t. t ++ flat_map change_text ys) v.0 ∙ append_assoc old (flat_map change_text xs) (flat_map change_text ys) ∙ ap (λ t. old ++ t) (sym (flat_map-append change_text xs ys)),
-  all_of_both HasGoodPath xs ys v.1 w.1,
+  all_append HasGoodPath xs ys v.1 w.1,
 )
 
 pub grows_not : (text : List ℕ) → GrowsBy text [] text

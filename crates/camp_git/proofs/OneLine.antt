@@ -1,6 +1,7 @@
 -- Names and paths stand in one line.
-use Rattle.camp_git.proofs.Words.{◌≡◌, ◌∙◌, ◌∷◌, [], ◌++◌, ◌||◌, ◌&&◌, ◌==◌, length, not, ℕ, Bool, true, false, true≢false, List, refl, sym, ap, append_assoc, list_any}
+use Rattle.camp_git.proofs.Words.{◌≡◌, ◌∙◌, ◌∷◌, [], ◌++◌, ◌||◌, ◌==◌, length, not, ℕ, Bool, true, false, true≢false, List, refl, sym, ap, append_assoc, list_any}
 use Rattle.std.specs.Prelude.{codes, nat_le, slice_index}
+use Rattle.std.specs.Cmp.{second_so}
 use Rattle.std.proofs.lemmas.List.Folds.{list_any-append}
 use Rattle.std.specs.List.{list_all}
 use Rattle.std.proofs.lemmas.Bool.{and_parts, ne_eqb}
@@ -16,14 +17,10 @@ no_newline p (b ∷ bytes) never all =
     let both = and_parts (p b) (list_all p bytes) all in
     ap (λ c. c || list_any (λ byte. byte == newline) bytes) (ne_eqb b newline (λ e. true≢false (sym both.0 ∙ ap p e ∙ never))) ∙ no_newline p bytes never both.1
 
-last_of : (a b : Bool) → (a && b) ≡ true → b ≡ true
-last_of true b e = e
-last_of false b e = absurd (true≢false (sym e))
-
 pub name_in_line : (name : List ℕ) → is_name name ≡ true → IsOneLine (reference_of name)
 name_in_line name is =
     list_any-append (λ byte. byte == newline) (codes "refs/heads/") name
-    ∙ ap (λ b. list_any (λ byte. byte == newline) (codes "refs/heads/") || b) (no_newline is_name_byte name refl (last_of (nat_le (length name) longest_name) _ (last_of (not (slice_index name 0 == hyphen)) _ (last_of (not (length name == 0)) _ is))))
+    ∙ ap (λ b. list_any (λ byte. byte == newline) (codes "refs/heads/") || b) (no_newline is_name_byte name refl (second_so (nat_le (length name) longest_name) _ (second_so (not (slice_index name 0 == hyphen)) _ (second_so (not (length name == 0)) _ is))))
 
 pub path_in_line : (path : List ℕ) → is_path path ≡ true → CanBeNamed path
 path_in_line path is =

@@ -1,5 +1,6 @@
 -- Where the patches of a branch end, by the labels of its catches.
 use Rattle.camp_git.proofs.Words.{◌≡◌, ◌∙◌, ◌∷◌, [], ◌++◌, ◌+◌, ◌<◌, ◌≤◌, ℕ, zero, suc, List, drop, take, get_or, length, refl, sym, ap, cond, arith}
+use Rattle.std.proofs.Math.Nat.{add-zero, suc-add, zero-add}
 use Rattle.std.proofs.lemmas.Bool.{ne_eqb}
 use Rattle.std.proofs.lemmas.List.{drop-drop, length-append, length-drop, length-map, take-append-drop}
 use Rattle.std.specs.List.{AllByRecursion}
@@ -7,17 +8,9 @@ use Rattle.camp_prim.specs.declared.labels.Key.{Key}
 use Rattle.camp_catch.specs.Catches.{catch_key}
 use Rattle.camp_catch.specs.Laws.{keys_of}
 use Rattle.camp_catch.specs.declared.catches.Catch.{Catch}
+use Rattle.camp_branch.proofs.BranchLabels.{labels_count}
 use Rattle.camp_branch.specs.Branches.{IsSized, Patch, labels_from, labels_of, name_of}
 use Rattle.camp_git.specs.Inside.Steps.{led_by}
-
-zero_plus : (n : ℕ) → 0 + n ≡ n
-zero_plus n = omega arith
-
-plus_zero : (n : ℕ) → n + 0 ≡ n
-plus_zero n = omega arith
-
-suc_plus : (m n : ℕ) → suc m + n ≡ suc (m + n)
-suc_plus m n = omega arith
 
 keys_dropped : (n : ℕ) (list : List Catch) → keys_of (drop n list) ≡ drop n (keys_of list)
 keys_dropped zero list = refl
@@ -29,10 +22,10 @@ keys_behind at n list = ap keys_of (sym (drop-drop n at list)) ∙ keys_dropped 
 
 -- no label of a place from 2 on ends what leads
 led_from : (name : List ℕ) (place n : ℕ) (rest : List Key) → 2 ≤ place → led_by (labels_from name place n ++ rest) ≡ n + led_by rest
-led_from name place zero rest l = sym (zero_plus (led_by rest))
+led_from name place zero rest l = sym (zero-add (led_by rest))
 led_from name place (suc n) rest l =
     ap (λ b. cond b zero (suc (led_by (labels_from name (place + 1) n ++ rest)))) (ne_eqb place 1 (λ e. omega (arith, l, e)))
-    ∙ ap suc (led_from name (place + 1) n rest (omega (arith, l))) ∙ sym (suc_plus n (led_by rest))
+    ∙ ap suc (led_from name (place + 1) n rest (omega (arith, l))) ∙ sym (suc-add n (led_by rest))
 
 led_by_none : (name : List ℕ) (n : ℕ) (rest : List Key) → 1 ≤ n → led_by (labels_from name 1 n ++ rest) ≡ 0
 led_by_none name zero rest l = absurd (omega (arith, l))
@@ -45,7 +38,7 @@ led_by_next (patch ∷ rest) sized = led_by_none patch.name patch.changes (label
 led_in : (name : List ℕ) (n : ℕ) (rest : List Key) → 1 ≤ n → led_by rest ≡ 0 → 1 + led_by (drop 1 (labels_from name 1 n ++ rest)) ≡ n
 led_in name zero rest l none = absurd (omega (arith, l))
 led_in name (suc n) rest l none =
-    let e : led_by (labels_from name 2 n ++ rest) ≡ n = led_from name 2 n rest (omega arith) ∙ ap (λ m. n + m) none ∙ plus_zero n in
+    let e : led_by (labels_from name 2 n ++ rest) ≡ n = led_from name 2 n rest (omega arith) ∙ ap (λ m. n + m) none ∙ add-zero n in
     omega (arith, e)
 
 -- a patch ends where the next label of place 1 stands
@@ -64,10 +57,6 @@ drop_labels name place (suc n) rest = drop_labels name (place + 1) n rest
 pub labels_behind : (list : List Catch) (at : ℕ) (patch : Patch) (rest : List Patch) → keys_of (drop at list) ≡ labels_of (patch ∷ rest) → keys_of (drop (at + patch.changes) list) ≡ labels_of rest
 labels_behind list at patch rest labels =
     keys_behind at patch.changes list ∙ ap (drop patch.changes) labels ∙ drop_labels patch.name 1 patch.changes (labels_of rest)
-
-labels_count : (name : List ℕ) (place n : ℕ) → length (labels_from name place n) ≡ n
-labels_count name place zero = refl
-labels_count name place (suc n) = ap suc (labels_count name (place + 1) n)
 
 -- the labels of a patch stand within those of its branch
 pub ends_within : (list : List Catch) (at : ℕ) (patch : Patch) (rest : List Patch) → keys_of (drop at list) ≡ labels_of (patch ∷ rest) → 1 ≤ patch.changes → at + patch.changes ≤ length list
@@ -98,16 +87,6 @@ pub no_patch : (list : List Catch) (at : ℕ) (rest : List Patch) → keys_of (d
 no_patch list at [] labels sized end = refl
 no_patch list at (patch ∷ more) labels sized end =
     absurd (omega (arith, ends_within list at patch more labels sized.0.0, sized.0.0, end))
-
-take_none : {X : Type 0} (n : ℕ) → take {A = X} n [] ≡ []
-take_none zero = refl
-take_none (suc n) = refl
-
-pub take_on : {X : Type 0} (at n : ℕ) (list : List X) → take (at + n) list ≡ take at list ++ take n (drop at list)
-take_on zero n list = ap (λ m. take m list) (zero_plus n)
-take_on {X} (suc at) n [] = take_none {X = X} (suc at + n) ∙ sym (take_none {X = X} n)
-take_on (suc at) n (x ∷ list) =
-    ap (λ m. take m (x ∷ list)) (suc_plus at n) ∙ ap (λ l. x ∷ l) (take_on at n list)
 
 pub drop_on : {X : Type 0} (at n : ℕ) (list : List X) → drop at list ≡ take n (drop at list) ++ drop (at + n) list
 drop_on at n list =

@@ -1,10 +1,9 @@
 -- The stream of a branch, as it grows commit by commit.
-use Rattle.camp_git.proofs.Words.{◌≡◌, ◌∙◌, ◌∷◌, [], ◌++◌, ◌+◌, ◌-◌, ◌<◌, ◌≤◌, ◌==◌, inl, inr, ℕ, true, cond, zero, suc, List, Option, None, Some, is_some, drop, take, get_or, length, refl, sym, ap, subst, arith, append_assoc, append-nil, true≢false, contains_key, get, Files}
+use Rattle.camp_git.proofs.Words.{◌≡◌, ◌∙◌, ◌∷◌, [], ◌++◌, ◌+◌, ◌-◌, ◌<◌, ◌≤◌, ◌==◌, inl, inr, ℕ, true, cond, zero, suc, List, Option, None, Some, is_some, drop, take, get_or, length, refl, sym, ap, subst, arith, append_assoc, append-nil, true≢false, contains_key, get, Files, nat_cmp, slice_cmp}
 use Rattle.std.specs.FinMap.{empty, get-empty}
-use Rattle.std.specs.Ordering.{nat_cmp}
-use Rattle.std.specs.Cmp.Lexicographic.{slice_cmp}
 use Rattle.std.specs.List.{AllByRecursion, flat_map}
 use Rattle.std.specs.Prelude.{option_map, slice_range}
+use Rattle.std.proofs.Math.Seq.{take-add}
 use Rattle.std.proofs.lemmas.Bool.{eq-eqb}
 use Rattle.std.proofs.lemmas.Grind.{flat_map-append}
 use Rattle.camp_catch.specs.Catches.{FitsAll}
@@ -12,9 +11,9 @@ use Rattle.camp_catch.specs.Laws.{keys_of}
 use Rattle.camp_catch.specs.declared.catches.Catch.{Catch}
 use Rattle.camp_branch.proofs.BranchTrees.{joined_fits, one_end}
 use Rattle.camp_branch.proofs.EffectSteps.{second_fits}
+use Rattle.camp_branch.proofs.Names.{all_append}
 use Rattle.camp_branch.specs.Branches.{HasPatches, IsLawfulBranch, IsSized, LeadsTo, Patch, labels_of, name_of}
-use Rattle.camp_git.proofs.Growing.{all_of_both}
-use Rattle.camp_git.proofs.PatchEnds.{drop_on, first_name, labels_behind, no_patch, patch_ends, some_patch, take_on}
+use Rattle.camp_git.proofs.PatchEnds.{drop_on, first_name, labels_behind, no_patch, patch_ends, some_patch}
 use Rattle.camp_git.specs.Exports.{IsExport, IsFirstBad, IsUnheld, Shows, TellEach, Tells, content_of, reference_of}
 use Rattle.camp_git.specs.FastImport.{AreFromKnown, Commit, IsFromKnown, IsGood, Kept, commit_text, keep, keep_all, mark_of, marked, parent_of, tree_of}
 use Rattle.camp_git.specs.Holding.{CanHold, CannotHold}
@@ -77,23 +76,20 @@ nothing_told name branch lawful = record {
   first = λ patch path bad. bad;
 }
 
-same_mark : (n : ℕ) → (n == n) ≡ true
-same_mark n = eq-eqb n n refl
-
 -- what a commit is from is the one that was kept last
 from_newest : (kept : List Kept) (at : ℕ) (files : Files) (commit : Commit) → IsNewest kept at files → parent_of kept commit (from_of at) ≡ newest_of kept
 from_newest [] zero files commit newest = refl
 from_newest [] (suc at) files commit newest = absurd (omega (arith, newest.0))
 from_newest (k ∷ older) zero files commit newest = absurd (omega (arith, newest.0))
 from_newest (k ∷ older) (suc at) files commit newest =
-    ap (λ b. cond b (Some k) (marked older (suc at))) (ap (λ m. m == suc at) newest.1 ∙ same_mark (suc at))
+    ap (λ b. cond b (Some k) (marked older (suc at))) (ap (λ m. m == suc at) newest.1 ∙ eq-eqb (suc at) (suc at) refl)
 
 from_known : (kept : List Kept) (at : ℕ) (files : Files) → IsNewest kept at files → IsFromKnown kept (from_of at)
 from_known [] zero files newest = tt
 from_known [] (suc at) files newest = absurd (omega (arith, newest.0))
 from_known (k ∷ older) zero files newest = absurd (omega (arith, newest.0))
 from_known (k ∷ older) (suc at) files newest =
-    ap (λ b. is_some (cond b (Some k) (marked older (suc at)))) (ap (λ m. m == suc at) newest.1 ∙ same_mark (suc at))
+    ap (λ b. is_some (cond b (Some k) (marked older (suc at)))) (ap (λ m. m == suc at) newest.1 ∙ eq-eqb (suc at) (suc at) refl)
 
 shows_newest : (kept : List Kept) (at : ℕ) (files : Files) → IsNewest kept at files → Shows (tree_of (newest_of kept)) files
 shows_newest [] at files newest path =
@@ -114,7 +110,7 @@ module _ (name : List ℕ) (branch : List Catch) (at : ℕ) (text : List ℕ) (t
 
   module _ (new : Files) (fits : FitsAll (take patch.changes (drop at branch)) tree new) where
     pub next_leads : LeadsTo (take (at + patch.changes) branch) new
-    next_leads = subst (λ l. LeadsTo l new) (sym (take_on at patch.changes branch)) (joined_fits (take at branch) (take patch.changes (drop at branch)) empty tree new s.leads fits)
+    next_leads = subst (λ l. LeadsTo l new) (sym (take-add at patch.changes branch)) (joined_fits (take at branch) (take patch.changes (drop at branch)) empty tree new s.leads fits)
 
     next_rest : FitsAll (drop (at + patch.changes) branch) new s.aim
     next_rest = subst (λ t. FitsAll (drop (at + patch.changes) branch) t s.aim) (one_end (take patch.changes (drop at branch)) tree next_fits.0 new next_fits.1 fits) next_fits.2
@@ -167,7 +163,7 @@ module _ (name : List ℕ) (branch : List Catch) (at : ℕ) (text : List ℕ) (t
         held = adds.2;
         commits = s.commits ++ commit ∷ [];
         is = adds.1.0 ∙ ap (λ t. t ++ commit_text commit) s.is ∙ ap (λ t. flat_map commit_text s.commits ++ t) (sym (append-nil (commit_text commit))) ∙ sym (flat_map-append commit_text s.commits (commit ∷ []));
-        good = all_of_both IsGood s.commits (commit ∷ []) s.good (adds.1.1, tt);
+        good = all_append IsGood s.commits (commit ∷ []) s.good (adds.1.1, tt);
         kept = kept_now ∷ s.kept;
         newest = (omega (arith, next_sized.0.0), refl, shows);
         tells = λ later w.

@@ -167,8 +167,6 @@ fn stands_before(tree: &Tree, place: usize, bytes: &[u8]) -> bool
     ensures { (file : List ℕ × Lines) → slice_get (map.entries tree.now) place ≡ Some file →
         IsTrue result ↔ (slice_cmp nat_cmp file.0 bytes.now ≡ Less) }
 {
-    match tree.at(place) {
-        Some(file) => file.0.bytes().cmp(&bytes).is_lt(),
-        None => false,
-    }
+    tree.at(place)
+        .is_some_and(|file| file.0.bytes().cmp(&bytes).is_lt())
 }

@@ -72,8 +72,6 @@ fn append_escaped_byte(text: &mut Vec<u8>, byte: u8) -> Result<(), AllocError>
 {
     if byte == b'"' || byte == b'\\' {
         text.push(b'\\')?;
-        Ok(text.push(byte)?)
-    } else {
-        Ok(text.push(byte)?)
     }
+    Ok(text.push(byte)?)
 }

@@ -1,35 +1,18 @@
 -- Accepted calls list a name, where they list names; so each can be read again.
-use Rattle.std.proofs.Common.{◌≡◌, ◌≢◌, ℕ, Bool, true, false, List, [], ◌∷◌, ◌++◌, Option, None, Some, refl, sym, ◌∙◌, ap, subst, arith, IsSome, is_some, true≢false, bytes_eq}
+use Rattle.std.proofs.Common.{◌≡◌, ◌≢◌, ℕ, List, [], ◌∷◌, ◌++◌, Option, None, Some, refl, sym, ◌∙◌, ap, subst, arith, IsSome, is_some, true≢false}
 use Rattle.std.specs.List.{AllByRecursion}
-use Rattle.std.specs.Option.{option_and_then, option_map_or}
+use Rattle.std.specs.Option.{option_and_then}
 use Rattle.camp_call.specs.declared.calls.Call.{Call}
 use Rattle.camp_call.specs.declared.calls.Call.TheVariants as call
-use Rattle.camp_call.specs.declared.replies.Refusal.{Refusal}
-use Rattle.camp_call.specs.declared.replies.Refusal.TheVariants.{NoBranch, SameBranch}
-use Rattle.camp_catch.specs.declared.catches.Catch.{Catch}
 use Rattle.camp_kept.specs.Accepting.{AreAccepted, alone}
 use Rattle.camp_object.specs.Histories.{IsBeginning, IsLegal, run}
 use Rattle.camp_object.proofs.Replays.{run-none}
+use Rattle.camp_repo.proofs.AcceptedSteps.{obliterates_nothing, pulls_nothing}
 use Rattle.camp_repo.specs.Objects.{next_of, repository}
-use Rattle.camp_repo.specs.States.{Contents, catches_of}
-use Rattle.camp_repo.specs.Steps.{Decision, refused, refused_if, step}
+use Rattle.camp_repo.specs.States.{Contents}
+use Rattle.camp_repo.specs.Steps.{step}
 use Rattle.camp_script.specs.Canonical.{IsScriptCall}
 use Rattle.camp_script.specs.Keeping.{CanStand, ListsNames, calls_of}
-
-none_with : (goes_on : List Catch → Decision) → ((k : List Catch) → next_of (goes_on k) ≡ None) → (found : Option (List Catch)) (refusal : Refusal) → next_of (option_map_or goes_on found (refused refusal)) ≡ None
-none_with goes_on none None refusal = refl
-none_with goes_on none (Some k) refusal = none k
-
-none_if : (fails : Bool) (refusal : Refusal) (goes_on : Decision) → next_of goes_on ≡ None → next_of (refused_if fails refusal goes_on) ≡ None
-none_if true refusal goes_on none = refl
-none_if false refusal goes_on none = none
-
-obliterates_nothing : (state : Contents) (branch : List ℕ) → next_of (step state (call.Obliterate branch [])) ≡ None
-obliterates_nothing state branch = none_with _ (λ k. refl) (catches_of state.branches branch) (NoBranch branch)
-
-pulls_nothing : (state : Contents) (from to : List ℕ) → next_of (step state (call.Pull from to (Some []))) ≡ None
-pulls_nothing state from to =
-    none_with _ (λ theirs. none_with _ (λ ours. none_if (bytes_eq from to) (SameBranch to) _ refl) (catches_of state.branches to) (NoBranch to)) (catches_of state.branches from) (NoBranch from)
 
 -- a call that is accepted lists a name, where it lists names
 pub lists_names : (state : Contents) (c : Call) → next_of (step state c) ≢ None → ListsNames c

@@ -1,5 +1,5 @@
 -- What a file tells that is opened.
-use Rattle.std.proofs.Common.{◌≡◌, inl, inr, ℕ, List, [], ◌∷◌, ◌≤◌, length, refl, sym, ◌∙◌, ap, subst}
+use Rattle.std.proofs.Common.{◌≡◌, inl, inr, ℕ, List, [], ◌≤◌, length, refl, sym, ◌∙◌, ap, subst}
 use Rattle.camp_call.specs.declared.calls.Call.{Call}
 use Rattle.camp_kept.specs.Keeping.{AreTexts, Tells, most_unbegun, store_texts, title}
 use Rattle.camp_kept.proofs.Committing.{stands_told}
@@ -28,11 +28,7 @@ no_bytes file reading is none =
     let front : is.front ≡ [] = subst (λ (ts : List (List ℕ)). AreBlocks first_digest ts is.front) none is.are in
     is.length_is ∙ ap length front
 
--- texts that are a store, one of them at least, or none
-pub a_store : (text : List ℕ) (texts : List (List ℕ)) (calls : List Call) → AreTexts (text ∷ texts) calls → text ∷ texts ≡ store_texts calls
-a_store text texts calls (inl are) = are
-a_store text texts calls (inr none) = absurd (no_texts text texts none.0)
-
+-- no texts are those of no calls
 pub no_calls : (calls : List Call) → AreTexts [] calls → calls ≡ []
 no_calls calls (inl are) = absurd (no_texts title _ (sym are))
 no_calls calls (inr none) = none.1

@@ -1,5 +1,5 @@
 -- Calls by their texts, and what a file tells of them.
-use Rattle.std.proofs.Common.{◌≡◌, inl, inr, Bool, true, false, List, [], ◌∷◌, ◌++◌, length, map, refl, sym, ◌∙◌, ap, subst, arith, append_assoc, Result, Ok, Err, IsSome, IfOk, IfErr, IfSome, Option, None, Some, ◌≢◌, ℕ, Vec, Global, option_to_list}
+use Rattle.std.proofs.Common.{◌≡◌, inl, inr, Bool, true, false, List, [], ◌∷◌, ◌++◌, length, map, refl, sym, ◌∙◌, ap, subst, arith, append_assoc, Result, Ok, Err, IsSome, IfSome, Option, None, Some, ◌≢◌, ℕ, Vec, Global, option_to_list}
 use Rattle.std.specs.List.{AllByRecursion}
 use Rattle.std.proofs.lemmas.List.{map-append}
 use Rattle.camp_call.specs.declared.calls.Call.{Call}
@@ -15,6 +15,7 @@ use Rattle.camp_script.specs.Keeping.{calls_of}
 use Rattle.camp_script.specs.Reading.{script_of}
 use Rattle.camp_script.specs.declared.faults.LineFault.{LineFault}
 use Rattle.camp_script.proofs.CalledLines.{text_reads}
+use Rattle.camp_script.proofs.TextLemmas.{all_more}
 use Rattle.camp_script.proofs.Writable.{read_is_writable}
 use Rattle.camp_store.specs.Blocks.{Stands}
 use Rattle.camp_store.proofs.BlockLemmas.{stands_once}
@@ -101,25 +102,9 @@ calls_alone (c ∷ calls) = ap (λ (l : List Call). c ∷ l) (calls_alone calls)
 pub alone-push : (calls : List Call) (c : Call) → alone calls ++ (0, c) ∷ [] ≡ alone (calls ++ c ∷ [])
 alone-push calls c = sym (map-append (λ (call : Call). (0, call)) calls (c ∷ []))
 
-pub all_push : {A : Type 0} (P : A → Type 0) (xs : List A) (x : A) → AllByRecursion P xs → P x → AllByRecursion P (xs ++ x ∷ [])
-all_push P [] x all one = (one, tt)
-all_push P (y ∷ xs) x all one = (all.0, all_push P xs x all.1 one)
-
 pub last_holds : {A : Type 0} (P : A → Type 0) (xs : List A) (x : A) → AllByRecursion P (xs ++ x ∷ []) → P x
 last_holds P [] x all = all.0
 last_holds P (y ∷ xs) x all = last_holds P xs x all.1
-
-pub nothing : {A : Type 0} (xs : List A) → length xs ≡ 0 → xs ≡ []
-nothing [] e = refl
-nothing (x ∷ xs) e = absurd (omega (arith, e))
-
-pub if_ok : {T E : Type 0} (P Q : T → Type 0) (r : Result T E) → ((t : T) → P t → Q t) → IfOk r P → IfOk r Q
-if_ok P Q (Ok t) f p = f t p
-if_ok P Q (Err e) f p = p
-
-pub if_err : {T E : Type 0} (P Q : E → Type 0) (r : Result T E) → ((e : E) → P e → Q e) → IfErr r P → IfErr r Q
-if_err P Q (Ok t) f p = p
-if_err P Q (Err e) f p = f e p
 
 abbrev sections_in : Result (List (List Call)) LineFault → List (List Call)
 sections_in (Ok sections) = sections
@@ -154,7 +139,7 @@ pub asked_more : (texts : List (List ℕ)) (text : List ℕ) (before after : Lis
 asked_more texts text before after asked (call, can, text_is, grows) = record {
   calls = asked.calls ++ call ∷ [];
   is = grows ∙ ap (λ (h : List (ℕ × Call)). h ++ (0, call) ∷ []) asked.is ∙ alone-push asked.calls call;
-  can = all_push IsScriptCall asked.calls call asked.can can;
+  can = all_more IsScriptCall asked.calls call asked.can can;
   texts_are = ap (λ (l : List (List ℕ)). l ++ text ∷ []) asked.texts_are
       ∙ ap (λ (t : List ℕ). call_texts asked.calls ++ t ∷ []) (sym text_is)
       ∙ sym (map-append call_text asked.calls (call ∷ []));

@@ -1,7 +1,7 @@
 -- Why a file is refused.
-use Rattle.std.proofs.Common.{◌≡◌, ◌≢◌, ◌<◌, ◌≤◌, ◌+◌, inl, inr, ℕ, zero, suc, Bool, false, List, [], ◌∷◌, ◌++◌, length, Result, Ok, Err, IfErr, IsErrAnd, IsTrue, sym, ◌∙◌, ap, subst, arith, length-append, true≢false}
+use Rattle.std.proofs.Common.{◌≡◌, ◌≢◌, ◌≤◌, ◌+◌, inl, inr, ℕ, zero, suc, Bool, false, List, [], ◌∷◌, ◌++◌, length, Result, Ok, Err, IfErr, IsErrAnd, IsTrue, sym, ◌∙◌, ap, subst, arith, length-append, true≢false}
 use Rattle.camp_call.specs.declared.calls.Call.{Call}
-use Rattle.camp_kept.specs.Faults.{IsRefusal, IsUnkept, IsUnopened, IsUntitled, fault_of}
+use Rattle.camp_kept.specs.Faults.{IsRefusal, IsUnopened, IsUntitled, fault_of}
 use Rattle.camp_kept.specs.Keeping.{call_texts, most_unbegun, store_texts, title}
 use Rattle.camp_kept.specs.Replaying.{AreAsked, AsksAgain}
 use Rattle.camp_kept.specs.declared.faults.KeptFault.{KeptFault}
@@ -9,9 +9,8 @@ use Rattle.camp_kept.specs.declared.faults.KeptFault.TheVariants as kept
 use Rattle.camp_kept.proofs.Recalling.{accepted_behind, no_texts, no_title, told_texts}
 use Rattle.camp_store.specs.Blocks.{AllFit, Stands, blocks, body, head}
 use Rattle.camp_store.specs.Logs.{IsOfClosing, IsOfPutting, IsOpen, KeepsTexts, LeavesAfter, end_with}
-use Rattle.camp_store.specs.Readings.{IsDamage, IsOfBytes, IsOfReading, IsReading}
+use Rattle.camp_store.specs.Readings.{IsDamage, IsOfBytes, IsOfReading}
 use Rattle.camp_store.specs.declared.logs.Log.{Log}
-use Rattle.camp_store.specs.declared.readings.Reading.{Reading}
 use Rattle.camp_store.specs.declared.faults.StoreFault.{StoreFault}
 use Rattle.camp_store.specs.declared.faults.StoreFault.TheVariants as store
 use Rattle.camp_store.proofs.BlockLemmas.{damage_is_no_store, stands_once}
@@ -86,32 +85,12 @@ title_is_unput seen may_leave is_usable log (store.Damaged zero at) keeps open_ 
 title_is_unput seen may_leave is_usable log (store.Damaged (suc n) at) keeps open_ of = absurd of
 title_is_unput seen may_leave is_usable log store.Failed keeps open_ of = absurd (of open_)
 
--- calls that are not put are not kept
-pub unput_unkept : {D : Type 0} (is_usable : D → Bool) (log : Log D) (texts : List (List ℕ)) (why : StoreFault) → IsOfPutting is_usable log texts why → IsUnkept (fault_of why)
-unput_unkept is_usable log texts store.Memory of = tt
-unput_unkept is_usable log texts (store.Disk error) of = tt
-unput_unkept is_usable log texts store.TooLong of = tt
-unput_unkept is_usable log texts (store.Damaged zero at) of = absurd of
-unput_unkept is_usable log texts (store.Damaged (suc n) at) of = absurd of
-unput_unkept is_usable log texts store.Failed of = tt
-
 -- a file of texts, the first of which is no title
 pub another_title : (text : List ℕ) (texts : List (List ℕ)) → text ≢ title → (file : List ℕ) → Stands (text ∷ texts) file → IsRefusal kept.NoStore file
 another_title text texts other file stands = record {
   untitled = λ others titled. other (no_title text texts others file stands titled);
   long = λ none. absurd (no_texts text texts (stands_once (text ∷ texts) [] file stands none));
 }
-
--- a file of no texts, and of many bytes
-pub without_title : (file : List ℕ) → Stands [] file → most_unbegun < length file → IsRefusal kept.NoStore file
-without_title file stands many = record {
-  untitled = λ texts titled. no_texts title texts (stands_once (title ∷ texts) [] file titled stands);
-  long = λ none. many;
-}
-
--- all that was read of a file stands in it
-pub behind_within : (file : List ℕ) (reading : Reading) → IsReading file reading → reading.behind ≤ length file
-behind_within file reading is = omega (arith, is.behind_is, ap length is.split, length-append is.front is.end)
 
 -- a file of texts, one of which is of no call that is accepted there
 pub not_accepted : (done : List (List ℕ)) (text : List ℕ) (rest : List (List ℕ)) (history after : List (ℕ × Call)) → AreAsked done history → AsksAgain history text false after

@@ -70,4 +70,8 @@ abbrev pub IsUnkept : KeptFault → Type 0
 IsUnkept kept.Memory = Unit {0}
 IsUnkept kept.NoStore = ⊥
 IsUnkept (kept.Damaged call at) = ⊥
-IsUnkept (kept.Store fault) = Unit {0}
+IsUnkept (kept.Store store.Memory) = ⊥
+IsUnkept (kept.Store (store.Disk error)) = Unit {0}
+IsUnkept (kept.Store store.TooLong) = Unit {0}
+IsUnkept (kept.Store (store.Damaged count at)) = ⊥
+IsUnkept (kept.Store store.Failed) = Unit {0}

@@ -90,12 +90,8 @@ impl<D: Disk> Kept<D> {
             return Err(KeptFault::Store(StoreFault::Failed));
         }
         let texts = texts_to_keep(alloc, &history[self.count..])?;
-        match self.log.put(alloc, &texts) {
-            Ok(()) => {
-                self.count = count;
-                Ok(())
-            }
-            Err(fault) => Err(fault.into()),
-        }
+        self.log.put(alloc, &texts)?;
+        self.count = count;
+        Ok(())
     }
 }

@@ -68,10 +68,7 @@ fn accept(book: &mut Book<State>, call: &Call) -> Result<bool, AllocError>
     ensures { IfOk result (λ yes. AsksCall book.old call.now yes book.new) }
 {
     match book.ask(0, call) {
-        Ok(reply) => match State::done_at(&reply) {
-            Some(_) => Ok(true),
-            None => Ok(false),
-        },
+        Ok(reply) => Ok(State::done_at(&reply).is_some()),
         Err(_) => Err(AllocError),
     }
 }

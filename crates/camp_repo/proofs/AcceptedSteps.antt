@@ -1,5 +1,7 @@
 -- What a call passes on its way to a next state.
-use Rattle.camp_repo.proofs.Words.{◌≡◌, ℕ, Bool, true, false, List, Option, None, Some, Result, Ok, Err, refl, option_map_or, Files, Catch, Outcome, Refusal, Next, Has, Branches, Contents, after, catches_of, with_catches, NoBranch, NoPatch, first_lacked, Decision, accepted, becomes, record_leads, refused, refused_if, with_branch, with_patches}
+use Rattle.camp_repo.proofs.Words.{◌≡◌, ℕ, Bool, true, false, List, [], Option, None, Some, Result, Ok, Err, bytes_eq, refl, option_map_or, Files, Catch, Outcome, Refusal, Next, Has, Branches, Contents, after, catches_of, with_catches, NoBranch, NoPatch, SameBranch, first_lacked, Decision, accepted, becomes, record_leads, refused, refused_if, step, with_branch, with_patches}
+use Rattle.camp_call.specs.declared.calls.Call.TheVariants as call
+use Rattle.camp_repo.specs.Objects.{next_of}
 
 module _ (state next : Contents) where
   has_at : (name : List ℕ) (goes_on : List Catch → Decision) (o : Option (List Catch)) → catches_of state.branches name ≡ o → option_map_or goes_on o (refused (NoBranch name)) ≡ Next next → (catches : List Catch) × Has state name catches × (goes_on catches ≡ Next next)
@@ -41,3 +43,19 @@ module _ (state next : Contents) where
   -- an accepted call leads to the state after it
   pub next_is : (branches : Branches) → accepted state branches ≡ Next next → after state branches ≡ next
   next_is branches e = cc
+
+none_with : (goes_on : List Catch → Decision) → ((catches : List Catch) → next_of (goes_on catches) ≡ None) → (found : Option (List Catch)) (refusal : Refusal) → next_of (option_map_or goes_on found (refused refusal)) ≡ None
+none_with goes_on none None refusal = refl
+none_with goes_on none (Some catches) refusal = none catches
+
+none_if : (fails : Bool) (refusal : Refusal) (goes_on : Decision) → next_of goes_on ≡ None → next_of (refused_if fails refusal goes_on) ≡ None
+none_if true refusal goes_on none = refl
+none_if false refusal goes_on none = none
+
+-- a call that lists no name leads nowhere
+pub obliterates_nothing : (state : Contents) (branch : List ℕ) → next_of (step state (call.Obliterate branch [])) ≡ None
+obliterates_nothing state branch = none_with _ (λ k. refl) (catches_of state.branches branch) (NoBranch branch)
+
+pub pulls_nothing : (state : Contents) (from to : List ℕ) → next_of (step state (call.Pull from to (Some []))) ≡ None
+pulls_nothing state from to =
+    none_with _ (λ theirs. none_with _ (λ ours. none_if (bytes_eq from to) (SameBranch to) _ refl) (catches_of state.branches to) (NoBranch to)) (catches_of state.branches from) (NoBranch from)

@@ -1,5 +1,5 @@
 -- What is known of beginnings stays so while branches grow.
-use Rattle.camp_repo.proofs.Words.{◌≡◌, ℕ, zero, suc, List, [], ◌∷◌, ◌++◌, length, slice_get, slice_set, Some, Result, Ok, Err, IfOk, refl, sym, ap, ◌∙◌, subst, append-nil, all_append, none-some, same_Some, Catch, Agree, AgreesIn, AllHold, catches_in, placed, Branches, AllByRecursion, remove, agree_grown, agree_itself, agree_none}
+use Rattle.camp_repo.proofs.Words.{◌≡◌, ℕ, zero, suc, List, [], ◌∷◌, ◌++◌, length, slice_get, slice_set, Some, Result, Ok, Err, IfOk, refl, sym, ap, ◌∙◌, subst, append-nil, all_append, none-some, same_Some, Catch, Agree, AgreesIn, AllHold, catches_in, placed, Branches, AllByRecursion, remove, agree_grown, agree_itself}
 use Rattle.camp_repo.specs.declared.beginnings.KnownBeginning.{KnownBeginning}
 
 all_but : {X : Type 0} (P : X → Type 0) (xs : List X) (i : ℕ) → AllByRecursion P xs → AllByRecursion P (remove xs i)
@@ -8,16 +8,10 @@ all_but P [] (suc i) all = tt
 all_but P (x ∷ xs) zero all = all.1
 all_but P (x ∷ xs) (suc i) all = (all.0, all_but P xs i all.1)
 
-pub all_without : {X : Type 0} (P : X → Type 0) (xs ys : List X) (i : ℕ) → ys ≡ remove xs i → AllByRecursion P xs → AllByRecursion P ys
-all_without P xs ys i is all = subst (AllByRecursion P) (sym is) (all_but P xs i all)
-
 all_set : {X : Type 0} (P : X → Type 0) (xs : List X) (i : ℕ) (x : X) → AllByRecursion P xs → P x → AllByRecursion P (slice_set xs i x)
 all_set P [] i x all is = tt
 all_set P (y ∷ xs) zero x all is = (is, all.1)
 all_set P (y ∷ xs) (suc i) x all is = (all.0, all_set P xs i x all.1 is)
-
-all_same : {X : Type 0} (P : X → Type 0) (xs ys : List X) → ys ≡ xs → AllByRecursion P xs → AllByRecursion P ys
-all_same P xs ys is all = subst (AllByRecursion P) (sym is) all
 
 -- all still to come hold where all do
 abbrev pub RestHold : List KnownBeginning → List KnownBeginning → Type 0
@@ -36,9 +30,6 @@ known_agrees all rest more beginning from to hold steps is is_too branches w the
     let one = same_Some found.theirs theirs (sym found.from_is ∙ ap (slice_get branches) is ∙ there) in
     let other = same_Some found.ours ours (sym found.to_is ∙ ap (slice_get branches) is_too ∙ here) in
     subst (λ l. Agree l ours beginning.long) one (subst (λ l. Agree found.theirs l beginning.long) other found.agree)
-
-pub none_known : (theirs ours : List Catch) → Agree theirs ours 0
-none_known theirs ours = agree_none theirs ours
 
 -- a branch at a place, and what it is where the one at another place grows
 grown_at : (branches : Branches) (place i : ℕ) (old more b : List Catch) → slice_get (catches_in branches) place ≡ Some old → slice_get (catches_in branches) i ≡ Some b → (x : List Catch) × (slice_get (catches_in (placed branches place (old ++ more))) i ≡ Some (b ++ x))
@@ -122,15 +113,15 @@ HoldWithOne {E} known beginning result =
 
 pub replaced_hold : {E : Type 0} (known : List KnownBeginning) (i : ℕ) (beginning : KnownBeginning) (result : Result (List KnownBeginning) E) → IfOk result (λ list. list ≡ slice_set known i beginning) → HoldWithOne known beginning result
 replaced_hold known i beginning (Ok all) is = λ branches w new.
-    all_same (AgreesIn branches) (slice_set known i beginning) all is (all_set (AgreesIn branches) known i beginning w new)
+    subst (AllByRecursion (AgreesIn branches)) (sym is) (all_set (AgreesIn branches) known i beginning w new)
 replaced_hold known i beginning (Err error) is = tt
 
 pub removed_hold : (known others : List KnownBeginning) (i : ℕ) → others ≡ remove known i → RestHold known others
-removed_hold known others i is branches w = all_without (AgreesIn branches) known others i is w
+removed_hold known others i is branches w = subst (AllByRecursion (AgreesIn branches)) (sym is) (all_but (AgreesIn branches) known i w)
 
 pub pushed_hold : {E : Type 0} (known others : List KnownBeginning) (beginning : KnownBeginning) → RestHold known others → (result : Result (List KnownBeginning) E) → IfOk result (λ list. list ≡ others ++ beginning ∷ []) → HoldWithOne known beginning result
 pushed_hold known others beginning hold (Ok all) is = λ branches w new.
-    all_same (AgreesIn branches) (others ++ beginning ∷ []) all is (all_append (AgreesIn branches) others (beginning ∷ []) (hold branches w) (new, tt))
+    subst (AllByRecursion (AgreesIn branches)) (sym is) (all_append (AgreesIn branches) others (beginning ∷ []) (hold branches w) (new, tt))
 pushed_hold known others beginning hold (Err error) is = tt
 
 -- nothing is known at first

@@ -1,5 +1,5 @@
 -- Pulls and obliterations go by which names are there, and not by their order or number.
-use Rattle.camp_repo.proofs.Words.{◌≡◌, ◌==◌, ℕ, Bool, not, nat_lt, ◌+◌, ◌||◌, List, [], ◌∷◌, filter, length, Ok, refl, sym, ap, ◌∙◌, subst, inl, inr, true≢false, length-map, ◌↔◌, Contains, entries, keys, len, len-entries, Catch, is_among, name_of, names_of, ObliterateGives, Names, is_empty, is_full_with, MergesBehind, Outcome, PullGives, WantedNext, common_names, is_among_is, name_itself}
+use Rattle.camp_repo.proofs.Words.{◌≡◌, ◌==◌, ℕ, Bool, not, nat_lt, ◌+◌, ◌||◌, List, [], ◌∷◌, filter, length, Ok, refl, sym, ap, ◌∙◌, subst, inl, inr, true≢false, length-map, ◌↔◌, Contains, entries, keys, len, len-entries, Catch, catches_named, is_among, name_of, names_of, ObliterateGives, Names, is_empty, is_full_with, MergesBehind, Outcome, PullGives, WantedNext, common_names, is_among_is, name_itself}
 use Rattle.std.proofs.Math.Dec.{eqb-suc-zero}
 use Rattle.camp_catch.proofs.ListResults.{arrange_by_members}
 
@@ -33,11 +33,14 @@ module _ (names others : List (List ℕ)) (alike : AreAlike names others) where
       subst (λ staying. WantedNext staying branch (λ staying gone outcome. outcome ≡ Ok staying) outcome)
       (filter_alike (λ name. not (is_among names name)) (λ name. not (is_among others name)) (λ name. ap not (alike name)) (names_of branch)) w
 
+  -- a branch has the same catches of them
+  pub named_alike : (branch : List Catch) → catches_named names branch ≡ catches_named others branch
+  named_alike branch =
+      filter_alike (λ k. is_among names (name_of k)) (λ k. is_among others (name_of k)) (λ k. alike (name_of k)) branch
+
   -- a branch is as full with the same names
   pub full_alike : (ours theirs : List Catch) → is_full_with ours theirs names ≡ is_full_with ours theirs others
-  full_alike ours theirs =
-      ap (λ list. nat_lt 4_096 (length ours + length list))
-      (filter_alike (λ k. is_among names (name_of k)) (λ k. is_among others (name_of k)) (λ k. alike (name_of k)) theirs)
+  full_alike ours theirs = ap (λ list. nat_lt 4_096 (length ours + length list)) (named_alike theirs)
 
   empty_names : (ns os : List (List ℕ)) → ns ≡ names → os ≡ others → is_empty ns ≡ is_empty os
   empty_names [] [] e f = refl

@@ -1,5 +1,5 @@
 -- What the functions that decide have found, and what the step is then.
-use Rattle.camp_repo.proofs.Words.{◌≡◌, ℕ, true, false, List, ◌++◌, Option, None, Some, MatchOption, Ok, Err, is_some, bytes_eq, refl, sym, ap, ◌∙◌, Files, Primitive, Catch, LeadsTo, recorded, ObliterateGives, Outcome, PullGives, conflicts_are_determined, outcomes_are_determined, Call, Refusal, Next, Answer, Has, IsLawfulState, obliterated, pulled, placed, settled, Contents, after, stands, with_catches, first_lacked, becomes, changed, is_empty, is_full_with, is_too_large, listed, record_leads, refused, step, step_obliterate, step_pull, step_record, wanted}
+use Rattle.camp_repo.proofs.Words.{◌≡◌, ℕ, true, false, List, ◌++◌, Option, None, Ok, Err, bytes_eq, refl, sym, ap, ◌∙◌, Files, Primitive, Catch, LeadsTo, recorded, ObliterateGives, Outcome, PullGives, conflicts_are_determined, outcomes_are_determined, Call, Refusal, Next, Answer, Has, IsLawfulState, obliterated, pulled, placed, settled, Contents, after, stands, with_catches, first_lacked, becomes, changed, is_empty, is_full_with, is_too_large, listed, record_leads, refused, step, step_obliterate, step_pull, step_record, wanted}
 use Rattle.camp_branch.specs.Conflicting.{AreConflicts}
 use Rattle.camp_call.specs.declared.calls.Call.TheVariants as call
 use Rattle.camp_call.specs.declared.replies.Reply.TheVariants as reply
@@ -7,11 +7,6 @@ use Rattle.camp_repo.proofs.ByMembers.{AreAlike, obliterate_alike, pull_alike}
 use Rattle.camp_repo.proofs.StateSteps.{settled_by_name}
 use Rattle.camp_repo.proofs.StepsLawful.{steps_lawful}
 use Rattle.camp_repo.proofs.TreeSteps.{tree_found}
-
--- what no match finds
-pub none_found : {X : Type 0} (P : Type 0) (Q : X → Type 0) (o : Option X) → MatchOption o P Q → is_some o ≡ false → P
-none_found P Q None matches e = matches
-none_found P Q (Some x) matches e = cc
 
 -- the tree of a branch is shown
 pub tree_shown : (state : Contents) (name : List ℕ) (catches : List Catch) (tree copy : Files) → Has state name catches → LeadsTo catches tree → copy ≡ tree → Answer (reply.Tree copy) ≡ step state (call.Tree name)

@@ -1,5 +1,5 @@
 -- What each accepted call does.
-use Rattle.camp_repo.proofs.Words.{◌≡◌, ℕ, ◌+◌, AreDistinct, Branches, Call, all_append, Bool, true, false, not, ◌&&◌, List, [], ◌∷◌, ◌++◌, Option, None, Some, Ok, is_some, length, nat_le, bytes_eq, refl, sym, ap, ◌∙◌, subst, same_Some, Files, Primitive, Catch, LeadsTo, has_patch, is_among, names_of, recorded, AreLacked, ObliterateGives, PullGives, conflicts_are_determined, among_kept, outcomes_are_determined, BranchExists, NothingToDo, PatchExists, SameBranch, TooLarge, Next, IsLawfulState, IsLawfulBy, names_of_branches, obliterated, pulled, Contents, catches_of, stands, tree_of, with_catches, accepted, is_empty, is_full_with, is_too_large, listed, shown, step, wanted, obliterates_keep_lawful, pulls_keep_lawful, pulled_by, AcceptedCallsHaveEffect, ChangesOne, Copies, Effect, Has, Obliterates, OutcomesAreDefined, Pulls, Records}
+use Rattle.camp_repo.proofs.Words.{◌≡◌, ℕ, ◌+◌, AreDistinct, Branches, Call, all_append, false, not, List, [], ◌∷◌, ◌++◌, Option, None, Some, Ok, is_some, length, nat_le, bytes_eq, refl, sym, ap, ◌∙◌, subst, same_Some, Files, Primitive, Catch, LeadsTo, has_patch, is_among, names_of, recorded, AreLacked, ObliterateGives, PullGives, conflicts_are_determined, among_kept, outcomes_are_determined, BranchExists, NothingToDo, PatchExists, SameBranch, TooLarge, Next, IsLawfulState, IsLawfulBy, names_of_branches, obliterated, pulled, Contents, catches_of, stands, tree_of, with_catches, accepted, is_empty, is_full_with, is_too_large, listed, shown, step, wanted, obliterates_keep_lawful, pulls_keep_lawful, pulled_by, AcceptedCallsHaveEffect, ChangesOne, Copies, Effect, Has, Obliterates, OutcomesAreDefined, Pulls, Records, and_parts, not-true}
 use Rattle.camp_call.specs.declared.calls.Call.TheVariants as call
 use Rattle.camp_repo.proofs.AcceptedSteps.{becomes_other, has_branch, has_tree, lacks_none, leads_on, next_is, passes}
 use Rattle.camp_repo.proofs.BranchSteps.{OfEach, absent, distinct_grown, free_of_each, has_other, names_grown, names_stay, of_each_with, of_one, others_stay}
@@ -15,16 +15,11 @@ pull_gives from to pulled_to names e = subst (PullGives from to names) e (outcom
 pub obliterate_gives : (branch left : List Catch) (names : List (List ℕ)) → obliterated branch names ≡ Ok left → ObliterateGives branch names (Ok left)
 obliterate_gives branch left names e = subst (ObliterateGives branch names) e (outcomes_are_determined.obliterates branch names).1
 
-passes_not : (a b : Bool) → (a && not b) ≡ true → b ≡ false
-passes_not true true e = sym e
-passes_not true false e = refl
-passes_not false b e = cc
-
 -- what is wanted is lacked
 pub wanted_is_lacked : (ours : List Catch) (names : List (List ℕ)) → AreLacked ours (wanted ours names)
 wanted_is_lacked ours names name among =
-    passes_not (is_among names name) (has_patch ours name)
-    (sym (among_kept (λ n. not (has_patch ours n)) names name) ∙ among)
+    let both = and_parts (is_among names name) _ (sym (among_kept (λ n. not (has_patch ours n)) names name) ∙ among) in
+    not-true (has_patch ours name) both.1
 
 module _ (state next : Contents) (branch : List ℕ) (old new : List Catch) where
   -- one branch is given other catches

@@ -1,5 +1,5 @@
 -- The size of a patch, as a test and as a fact.
-use Rattle.camp_repo.proofs.Words.{◌≡◌, ℕ, ◌≤◌, ◌+◌, ◌∙◌, true, false, Bool, not, ◌&&◌, ◌||◌, List, [], length, drop, Option, nat_le, nat_lt, refl, sym, ap, subst, arith, list_any, option_map_or, Files, Primitive, Catch, Agree, AreLacked, is_among, name_of, path_of, has_long_file, is_full_with, ◌-◌, leb-true, length-drop, Lines, Applies, has_long_side, is_patch_sized, is_too_large, longest_file, most_catches}
+use Rattle.camp_repo.proofs.Words.{◌≡◌, ℕ, ◌≤◌, ◌+◌, ◌∙◌, false, Bool, not, List, [], length, drop, Option, nat_le, nat_lt, refl, sym, ap, arith, list_any, option_map_or, Files, Primitive, Catch, Agree, AreLacked, is_among, name_of, path_of, has_long_file, is_full_with, ◌-◌, leb-true, length-drop, Lines, Applies, has_long_side, is_patch_sized, is_too_large, longest_file, most_catches, and_parts, not-false, or_parts}
 use Rattle.std.proofs.lemmas.Bool.Decides.{nat_tests}
 use Rattle.std.proofs.lemmas.List.Sums.{count_by-le-length, length-filter}
 use Rattle.camp_prim.proofs.Maps.{get_inserted, get_removed}
@@ -8,25 +8,14 @@ use Rattle.camp_prim.specs.declared.primitives.Primitive.TheVariants.{Add, Hunk,
 use Rattle.camp_repo.proofs.NameSteps.{named_behind}
 use Rattle.camp_call.specs.Patches.{IsPatchSized}
 
--- what passes both tests
-both : (a b : Bool) → a && b ≡ true → (a ≡ true) × (b ≡ true)
-both true true e = (refl, refl)
-both true false e = cc
-both false b e = cc
-
--- neither of the former two, and not the negation of the third
-last_holds : (a b c : Bool) → a || (b || not c) ≡ false → c ≡ true
-last_holds false false true e = refl
-last_holds false false false e = cc
-last_holds false true c e = cc
-last_holds true b c e = cc
-
 -- a record that is not too large has the size of a patch
 pub sized_of : (catches : List Catch) (changes : List Primitive) → is_too_large catches changes ≡ false
     → IsPatchSized changes
 sized_of catches changes small =
-    let sized = last_holds (nat_lt 4_096 (length catches + length changes)) (list_any has_long_side changes) (is_patch_sized changes) small in
-    let ends = both (nat_le 1 (length changes)) (nat_le (length changes) 64) sized in
+    let few = or_parts (nat_lt 4_096 (length catches + length changes)) _ small in
+    let short = or_parts (list_any has_long_side changes) _ few.1 in
+    let sized = not-false (is_patch_sized changes) short.1 in
+    let ends = and_parts (nat_le 1 (length changes)) (nat_le (length changes) 64) sized in
     (leb-true 1 (length changes) ends.0, leb-true (length changes) 64 ends.1)
 
 abbrev is_long : Option Lines → Bool

@@ -44,7 +44,7 @@ pub use Rattle.camp_branch.proofs.KeepLawful.{obliterates_keep_lawful, pulls_kee
 pub use Rattle.camp_branch.proofs.Steps.{pulled_by, pulls_begin_with_own}
 pub use Rattle.camp_prim.proofs.Applied.{Applies-from_applied, applied-from_Applies, applied-none}
 pub use Rattle.camp_prim.specs.Effect.{Applies}
-pub use Rattle.std.proofs.lemmas.Bool.{cond_both, false_from_ne_true, leb-true}
+pub use Rattle.std.proofs.lemmas.Bool.{and_parts, cond_both, false_from_ne_true, leb-true, not-false, not-true}
 pub use Rattle.std.proofs.lemmas.List.{length-append, length-drop, length-map, length_push, take-append-drop}
 pub use Rattle.std.proofs.lemmas.Slice.Zip.{firsts-zip, seconds-zip}
 pub use Rattle.std.specs.Prelude.{Contains, ◌-◌, ◌↔◌}

@@ -112,10 +112,7 @@ impl KnownBeginnings {
 fn is_of(beginning: &KnownBeginning, from: usize, to: usize) -> bool
     ensures { IsTrue result ↔ ((beginning.now.from ≡ from) × (beginning.now.to ≡ to)) }
 {
-    if beginning.from != from {
-        return false;
-    }
-    beginning.to == to
+    beginning.from == from && beginning.to == to
 }
 
 /// All pairs, with how long the beginnings of two branches agree: at the place of their pair, if
@@ -188,12 +185,9 @@ fn of_copy(beginning: &KnownBeginning, of: usize, copy: usize) -> Option<KnownBe
 fn place_of(known: &SharedList<KnownBeginning>, from: usize, to: usize) -> Option<usize>
     ensures { IfSome result (λ at. at < length known.now) }
 {
-    for at in 0..known.len() {
-        if let Some(beginning) = known.get(at) {
-            if is_of(beginning, from, to) {
-                return Some(at);
-            }
-        }
-    }
-    None
+    // The proof is told that a length is a number of the machine.
+    prove!(known.len() <= usize::MAX);
+    known
+        .iter()
+        .position(|beginning| is_of(beginning, from, to))
 }

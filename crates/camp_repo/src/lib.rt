@@ -17,6 +17,7 @@ pub use laws::{
     initial_is_lawful, outcomes_are_defined, repository_is_lawful, steps_keep_lawful,
     trees_are_answered,
 };
+pub use name_lists::count_brought;
 pub use states::State;
 
 /// The most branches of a repository.

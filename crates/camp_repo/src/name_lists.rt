@@ -26,10 +26,9 @@ pub(crate) fn first_lacked(branch: &Branch, names: &Option<Names>) -> Option<Nam
 pub(crate) fn lists_none(names: &Option<Names>) -> bool
     ensures { result ≡ lists_none names.now }
 {
-    match names {
-        Some(names) => names.as_slice().is_empty(),
-        None => false,
-    }
+    names
+        .as_ref()
+        .is_some_and(|names| names.as_slice().is_empty())
 }
 
 /// Of the listed names, or where there is no list of all names of `theirs`: those of which `ours`
@@ -97,6 +96,19 @@ pub(crate) fn is_full_with(ours: &Branch, theirs: &Branch, names: &NameSet, long
     }
     let more = count_behind(theirs, names, long);
     len.saturating_add(more) > MAX_CATCHES
+}
+
+/// How many catches a pull of these names from `theirs` brings to `ours`.
+pub fn count_brought(
+    ours: &Branch,
+    theirs: &Branch,
+    names: &Option<Names>,
+) -> Result<usize, AllocError>
+    ensures { IfOk result (λ count.
+        count ≡ length (catches_named (wanted ours.now (listed theirs.now names.now)) theirs.now)) }
+{
+    let wanted = wanted(ours, theirs, names, 0)?;
+    Ok(count_behind(theirs, &wanted, 0))
 }
 
 /// How many catches of a branch from a place on have one of these names.

@@ -82,10 +82,8 @@ impl State {
             (λ branch. catches_of self.now.branches name.now ≡ Some branch.now) }
         ensures lawful { IsLawfulState self.now }
     {
-        match self.find(name) {
-            Some((_, branch)) => Some(branch),
-            None => None,
-        }
+        let (_, branch) = self.find(name)?;
+        Some(branch)
     }
 
     /// An equal state. It shares everything with this one.
@@ -257,12 +255,7 @@ impl State {
 fn is_in_some(branches: &SharedList<Shared<Branch>>, name: &Name) -> bool
     ensures { result ≡ list_any (λ branch. has_patch branch name.now) branches.now }
 {
-    for branch in branches.iter() {
-        if branch.has_patch(name) {
-            return true;
-        }
-    }
-    false
+    branches.iter().any(|branch| branch.has_patch(name))
 }
 
 fn main_name() -> Name

@@ -1,67 +1,34 @@
 -- The calls of a kept history, asked again of a new repository.
-use Rattle.std.proofs.Common.{◌≡◌, ℕ, ◌+◌, ◌≤◌, Bool, true, false, List, [], ◌∷◌, ◌++◌, length, map, subst, Option, None, Some, Ok, bytes_eq}
-use Rattle.camp_run.proofs.Words.{refl, sym, ◌∙◌, ap, arith, AllByRecursion, Next, Answer, is_writing, Call, repository_is_lawful, next_of, replies_to, reply_of, repository, state_behind, accepted_from, booked}
-use Rattle.std.specs.Option.{option_and_then, option_map_or}
+use Rattle.std.proofs.Common.{◌≡◌, ℕ, ◌+◌, ◌≤◌, List, [], ◌∷◌, length, map, subst, Option, None, Some, Ok}
+use Rattle.camp_run.proofs.Words.{refl, sym, ◌∙◌, ap, arith, AllByRecursion, Next, Answer, is_writing, Call, repository_is_lawful, next_of, replies_to, reply_of, repository, state_behind, IsSerial, accepted_from, booked, Entries}
+use Rattle.std.specs.Option.{option_and_then}
 use Rattle.std.proofs.lemmas.List.{append-nil, length-map}
 use Rattle.std.proofs.lemmas.List.Sums.{count_by-le-length}
 use Rattle.std.proofs.lemmas.Option.{none-some}
-use Rattle.camp_object.specs.Histories.{replay, run}
+use Rattle.camp_object.specs.Histories.{run}
 use Rattle.camp_object.proofs.Replays.{run-none}
 use Rattle.camp_call.specs.declared.calls.Call.TheVariants as call
 use Rattle.camp_call.specs.declared.replies.Reply.TheVariants as reply
-use Rattle.camp_call.specs.declared.replies.Refusal.{Refusal}
-use Rattle.camp_call.specs.declared.replies.Refusal.TheVariants.{NoBranch, SameBranch}
-use Rattle.camp_repo.specs.States.{Contents, catches_of, initial}
-use Rattle.camp_repo.specs.Steps.{Decision, refused, refused_if, step}
+use Rattle.camp_repo.proofs.AcceptedSteps.{obliterates_nothing, pulls_nothing}
+use Rattle.camp_repo.specs.States.{Contents, initial}
+use Rattle.camp_repo.specs.Steps.{Decision, step}
 use Rattle.camp_run.specs.Keeping.{KeptLeadsBack, SeatZeroStays, at_seat_0, dones}
-use Rattle.camp_run.specs.Serial.{IsSerial}
 use Rattle.camp_script.specs.Canonical.{IsScriptCall, CanBeWritten}
 use Rattle.camp_script.specs.Keeping.{CanStand, ListsNames, calls_of}
 use Rattle.camp_script.proofs.CanonicalCalls.{reads_back}
 
--- the call is not accepted
-abbrev Stays : Decision → Type 0
-Stays (Next next) = ⊥
-Stays (Answer answer) = Unit {0}
-
-not_accepted : (decision : Decision) (next : Contents) → Stays decision → decision ≡ Next next → ⊥
-not_accepted (Next other) next stays is = stays
-not_accepted (Answer answer) next stays is = cc
-
-with_stays : {X : Type 0} (found : Option X) (otherwise : Decision) (goes_on : X → Decision) → Stays otherwise
-    → ((x : X) → Stays (goes_on x)) → Stays (option_map_or goes_on found otherwise)
-with_stays None otherwise goes_on stays each = stays
-with_stays (Some x) otherwise goes_on stays each = each x
-
-if_stays : (fails : Bool) (why : Refusal) (goes_on : Decision) → Stays goes_on → Stays (refused_if fails why goes_on)
-if_stays true why goes_on stays = tt
-if_stays false why goes_on stays = stays
-
--- a call that lists no name is not accepted
-module _ (state : Contents) where
-  pull_stays : (from to : List ℕ) → Stays (step state (call.Pull from to (Some [])))
-  pull_stays from to =
-      with_stays (catches_of state.branches from) (refused (NoBranch from)) _ tt (λ theirs.
-      with_stays (catches_of state.branches to) (refused (NoBranch to)) _ tt (λ ours.
-      if_stays (bytes_eq from to) (SameBranch to) _ tt))
-
-  obliterate_stays : (branch : List ℕ) → Stays (step state (call.Obliterate branch []))
-  obliterate_stays branch = with_stays (catches_of state.branches branch) (refused (NoBranch branch)) _ tt (λ catches. tt)
-
-  lists_names : (asked : Call) (next : Contents) → step state asked ≡ Next next → ListsNames asked
-  lists_names (call.Branch new from) next is = tt
-  lists_names (call.Record branch name changes) next is = tt
-  lists_names (call.Pull from to None) next is = tt
-  lists_names (call.Pull from to (Some [])) next is = absurd (not_accepted _ next (pull_stays from to) is)
-  lists_names (call.Pull from to (Some (name ∷ names))) next is = omega arith
-  lists_names (call.Obliterate branch []) next is = absurd (not_accepted _ next (obliterate_stays branch) is)
-  lists_names (call.Obliterate branch (name ∷ names)) next is = omega arith
-  lists_names (call.Tree branch) next is = tt
-  lists_names (call.Conflicts branch) next is = tt
-  lists_names (call.Names branch) next is = tt
-
-abbrev Entries : Type 0
-Entries = List (ℕ × Call)
+-- an accepted call lists a name, where it lists names
+lists_names : (state : Contents) (asked : Call) (next : Contents) → step state asked ≡ Next next → ListsNames asked
+lists_names state (call.Branch new from) next is = tt
+lists_names state (call.Record branch name changes) next is = tt
+lists_names state (call.Pull from to None) next is = tt
+lists_names state (call.Pull from to (Some [])) next is = absurd (none-some next (sym (pulls_nothing state from to) ∙ ap next_of is))
+lists_names state (call.Pull from to (Some (name ∷ names))) next is = omega arith
+lists_names state (call.Obliterate branch []) next is = absurd (none-some next (sym (obliterates_nothing state branch) ∙ ap next_of is))
+lists_names state (call.Obliterate branch (name ∷ names)) next is = omega arith
+lists_names state (call.Tree branch) next is = tt
+lists_names state (call.Conflicts branch) next is = tt
+lists_names state (call.Names branch) next is = tt
 
 -- the calls of a history that leads on from a state are each accepted when they are asked again from there
 record Retraces (state : Contents) (history : Entries) : Type 0 where
@@ -128,7 +95,7 @@ kept_leads_back history state replays stand few =
       leads = run_at_seat_0 history (Some initial) ∙ replays;
     }
 
-as_it_was : (history : List (ℕ × Call)) → AllByRecursion (λ entry. entry.0 ≡ 0) history → at_seat_0 history ≡ history
+as_it_was : (history : Entries) → AllByRecursion (λ entry. entry.0 ≡ 0) history → at_seat_0 history ≡ history
 as_it_was [] all = refl
 as_it_was (entry ∷ history) all =
     ap (λ n. (n, entry.1) ∷ at_seat_0 history) (sym all.0) ∙ ap (λ h. entry ∷ h) (as_it_was history all.1)

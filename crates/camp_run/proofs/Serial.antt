@@ -1,5 +1,5 @@
 -- Sections that are asked one after the other of a new book come to what the definitions of a serial run say.
-use Rattle.camp_run.proofs.Words.{◌≡◌, ℕ, ◌+◌, List, [], ◌∷◌, ◌++◌, length, map, Option, None, Some, Result, Ok, Err, option_and_then, append-nil, Fault, Next, Answer, SaysAlone, OneByOne, Section, Call, Reply, repository_is_lawful, Contents, initial, Decision, step}
+use Rattle.camp_run.proofs.Words.{◌≡◌, ℕ, ◌+◌, List, [], ◌∷◌, ◌++◌, length, map, Option, None, Some, Result, Ok, Err, option_and_then, append-nil, Fault, Next, Answer, SaysAlone, OneByOne, Section, Call, Reply, repository_is_lawful, Contents, initial, Decision, step, Entries}
 use Rattle.std.proofs.Common.{MatchOption, refl, sym, ◌∙◌, ap, subst, append_assoc}
 use Rattle.std.proofs.lemmas.Option.{same_Some}
 use Rattle.camp_object.specs.Histories.{IsBeginning, IsAnswered, IsLegal, replay}
@@ -10,9 +10,6 @@ use Rattle.camp_call.specs.declared.replies.Reply.TheVariants as reply
 use Rattle.camp_repo.specs.Objects.{next_of, number_told, replies_to, reply_of, repository, state_after, state_behind}
 use Rattle.camp_run.specs.Laws.{LockedSectionIsSerial, SharedSectionIsSerial}
 use Rattle.camp_run.specs.Serial.{IsSerial, accepted_from, booked, history_from, replies_from}
-
-abbrev Entries : Type 0
-Entries = List (ℕ × Call)
 
 -- a call that is asked alone comes to the reply of its step, and to the state behind it
 record IsStep (seat : ℕ) (before : Entries) (state : Contents) (call : Call) (answer : Result Reply Fault)

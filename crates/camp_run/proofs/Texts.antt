@@ -2,14 +2,11 @@
 use Rattle.std.proofs.Common.{ℕ, ◌+◌, ◌<◌, zero, suc, List, [], ◌∷◌, length, get_or, Result, Ok, Err, subst, arith}
 use Rattle.std.specs.List.{All, AllZip}
 use Rattle.std.proofs.lemmas.List.{get_or_default}
-use Rattle.camp_run.proofs.Words.{All-cons, All-nil, Fault, Call, Reply, Section, repository, HaveTexts}
+use Rattle.camp_run.proofs.Words.{All-cons, All-nil, Fault, Call, Reply, Section, repository, HaveTexts, Entries}
 use Rattle.camp_object.specs.declared.faults.Fault.TheVariants.{Memory, Busy, Full}
 use Rattle.camp_clients.specs.Answers.{SaysAmongThreads, SaysAlone}
 use Rattle.camp_clients.specs.Runs.{IsLocked, IsShared, OneByOne, SaysSomewhere}
 use Rattle.camp_script.specs.Texts.{HasText}
-
-abbrev Entries : Type 0
-Entries = List (ℕ × Call)
 
 reply_has : (reply : Reply) → HasText (Ok reply)
 reply_has reply is = cc

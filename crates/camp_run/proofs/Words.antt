@@ -19,3 +19,7 @@ pub use Rattle.camp_repo.specs.Steps.{Decision, step}
 pub use Rattle.camp_run.specs.Runs.{HasOutput}
 pub use Rattle.camp_run.specs.Serial.{IsSerial, accepted_from, booked}
 pub use Rattle.camp_script.specs.Outputs.{HaveTexts}
+
+-- calls, each with the seat at which it was asked
+abbrev pub Entries : Type 0
+Entries = List (ℕ × Call)

@@ -1,7 +1,7 @@
 -- Refusals of calls, and their causes.
 use Rattle.std.specs.List.{list_any}
 use Rattle.camp_why.proofs.Words.{◌&&◌, ◌||◌, ◌+◌, ◌≡◌, ◌∙◌, ◌∷◌, ℕ, suc, Bool, true, false, not, cond, List, [], length, None, Some, Option, ap, arith, false≢true, ltb-true, nat_lt, none-some, refl, same_Some, slice_get, sym, Files, Edit, Primitive, Add, Hunk, Remove}
-use Rattle.std.proofs.lemmas.Bool.{le-leb}
+use Rattle.std.proofs.lemmas.Bool.{cond-false, cond-true, le-leb, or_parts}
 use Rattle.camp_why.proofs.Stopping.{StopsWith, is_stop}
 use Rattle.camp_branch.specs.Branches.{LeadsTo}
 use Rattle.camp_catch.specs.declared.catches.Catch.{Catch}
@@ -32,12 +32,6 @@ by_hindrance (hindrance.TooLong count) = refl
 pub by_cause : (cause : Cause) → is_of_changes (refusal_by cause) ≡ true
 by_cause (Stops stop) = by_hindrance stop.why
 by_cause other = refl
-
-if_true : {X : Type 0} (b : Bool) (x y : X) → b ≡ true → cond b x y ≡ x
-if_true b x y is = ap (λ c. cond c x y) is
-
-if_false : {X : Type 0} (b : Bool) (x y : X) → b ≡ false → cond b x y ≡ y
-if_false b x y is = ap (λ c. cond c x y) is
 
 -- ---- changes that a record makes
 
@@ -121,11 +115,6 @@ is_sized changes size = (λ j. not (le-leb 1 (length changes) size.0 j && le-leb
 
 -- ---- causes of a record
 
-neither : (a b c : Bool) → a || (b || c) ≡ false → (a ≡ false) × (b ≡ false)
-neither true b c e = absurd (false≢true (sym e))
-neither false true c e = absurd (false≢true (sym e))
-neither false false c e = (refl, refl)
-
 module _ (state : Contents) (branch name : List ℕ) (changes : List Primitive) (catches : List Catch) (has : Has state branch catches) where
   abbrev asked : Call
   asked = call.Record branch name changes
@@ -136,14 +125,14 @@ module _ (state : Contents) (branch name : List ℕ) (changes : List Primitive) 
   explains : (cause : Cause) → record_cause changes (Some catches) ≡ Some cause → IsSo state asked cause → IsExplained state asked (refusal_by cause)
   explains cause told is_so = record {
     cause = cause;
-    told = if_true (is_of_changes (refusal_by cause)) (record_cause changes (catches_of state.branches branch)) None (by_cause cause)
+    told = cond-true (is_of_changes (refusal_by cause)) (record_cause changes (catches_of state.branches branch)) None (by_cause cause)
         ∙ ap (record_cause changes) has ∙ told;
     of = refl;
     is_so = is_so;
   }
 
   fills : nat_lt most_catches (length catches + length changes) ≡ true → IsExplained state asked TooLarge
-  fills full = explains (FullBranch (length catches) (length changes)) (if_true _ _ _ full) (record {
+  fills full = explains (FullBranch (length catches) (length changes)) (cond-true _ _ _ full) (record {
     catches = catches;
     changes = changes;
     in_branch = in_branch;
@@ -159,7 +148,7 @@ module _ (state : Contents) (branch name : List ℕ) (changes : List Primitive) 
       let place : suc (0 + at_first.before) ≡ suc at_first.before = omega arith in
       let told : cause_or (first_long 1 changes) (stop_from changes (tree_of catches)) ≡ Some (long_at (suc (0 + at_first.before)) at_first.hunk) =
       ap (λ o. cause_or o (stop_from changes (tree_of catches))) first ∙ ap Some at_first.is in
-      explains (long_at (suc (0 + at_first.before)) at_first.hunk) (if_false _ _ _ few ∙ told) (record {
+      explains (long_at (suc (0 + at_first.before)) at_first.hunk) (cond-false _ _ _ few ∙ told) (record {
         catches = catches;
         changes = changes;
         in_branch = in_branch;
@@ -188,10 +177,11 @@ module _ (state : Contents) (branch name : List ℕ) (changes : List Primitive) 
   pub stops : is_too_large catches changes ≡ false → (tree : Files) → LeadsTo catches tree → (refusal : Refusal) → (with_stop : StopsWith 1 changes tree refusal)
       → IsExplained state asked (refusal_at with_stop.stop.why)
   stops small tree leads refusal with_stop =
-      let (few, short) = neither (nat_lt most_catches (length catches + length changes)) (list_any has_long_side changes) (not (is_patch_sized changes)) small in
+      let (few, others) = or_parts (nat_lt most_catches (length catches + length changes)) _ small in
+      let short = (or_parts (list_any has_long_side changes) _ others).0 in
       let told : cause_or (first_long 1 changes) (stop_from changes (tree_of catches)) ≡ Some (Stops with_stop.stop) =
       (λ j. cause_or (none_long 1 changes short j) (stop_from changes (tree_found catches tree leads j))) ∙ ap stop_cause with_stop.first in
-      explains (Stops with_stop.stop) (if_false _ _ _ few ∙ told) (record {
+      explains (Stops with_stop.stop) (cond-false _ _ _ few ∙ told) (record {
         catches = catches;
         changes = changes;
         in_branch = in_branch;
@@ -208,6 +198,6 @@ pub stops_in : (catches : List Catch) (changes : List Primitive) (tree : Files)
     → (found : Option Stop) → found ≡ first_stop 1 changes tree → stop_cause found ≡ record_cause changes (Some catches)
 stops_in catches changes tree few short leads found is =
     ap stop_cause is
-    ∙ sym (if_false (nat_lt most_catches (length catches + length changes)) (Some (FullBranch (length catches) (length changes)))
+    ∙ sym (cond-false (nat_lt most_catches (length catches + length changes)) (Some (FullBranch (length catches) (length changes)))
     (cause_or (first_long 1 changes) (stop_from changes (tree_of catches))) few
     ∙ (λ j. cause_or (short j) (stop_from changes (tree_found catches tree leads j))))

@@ -1,5 +1,5 @@
 -- Where a change does not apply, and where it does.
-use Rattle.camp_why.proofs.Words.{Bool, true, false, cond, ◌++◌, ◌+◌, ◌-◌, ◌≡◌, ◌≢◌, ◌≤◌, ◌<◌, ◌∙◌, ◌∷◌, ℕ, zero, suc, List, [], Option, Some, None, get, insert, ap, append_assoc, arith, bytes_eq, bytes_eq-Decides, drop, drop-drop, drop_all, false≢true, length, length-append, length-drop, length-take-le, ltb-false, ltb-true, nat_lt, none-some, not, refl, same_Some, slice_get, slice_get_past, subst, sym, take, take-append-drop, Files, Lines, SplicesLines, Applies, InRange, Edit, Primitive, Add, Hunk, Remove, IsMisfit, why_not, other_line, Misfit, EndsBefore, FileIsThere, HasLines, NoFile, OtherLine}
+use Rattle.camp_why.proofs.Words.{Bool, true, false, cond, ◌++◌, ◌+◌, ◌-◌, ◌≡◌, ◌≢◌, ◌≤◌, ◌<◌, ◌∙◌, ◌∷◌, ℕ, zero, suc, List, [], Option, Some, None, get, insert, ap, append_assoc, arith, bytes_eq, bytes_eq-Decides, drop, drop-drop, drop_all, false≢true, length, length-append, length-drop, length-take-le, ltb-false, ltb-true, nat_lt, none-some, not, not-false, not-true, refl, same_Some, slice_get, slice_get_past, subst, sym, take, take-append-drop, Files, Lines, SplicesLines, Applies, InRange, Edit, Primitive, Add, Hunk, Remove, IsMisfit, why_not, other_line, Misfit, EndsBefore, FileIsThere, HasLines, NoFile, OtherLine}
 use Rattle.camp_why.specs.Misfits.{Edits, StandThere, add_misfit, edit_misfit, ends_before, lacking, lacking_at, misfit_or, remove_misfit}
 
 -- ---- lists from a place on
@@ -286,14 +286,6 @@ pub found_none : (from at : ℕ) (old lines : Lines) → length old ≡ at → f
 found_none from at old lines all =
     ap (λ (ls : Lines). other_line (suc (from + at)) ls (drop (from + at) lines)) (drop_all at old (omega (arith, all)))
 
-not_true : (b : Bool) → true ≡ not b → b ≡ false
-not_true true e = absurd (false≢true (sym e))
-not_true false e = refl
-
-not_false : (b : Bool) → false ≡ not b → b ≡ true
-not_false true e = refl
-not_false false e = absurd (false≢true e)
-
 -- the first line that is another one, of an edit in the lines of a file
 abbrev pub of_edit : Edit → Lines → Option Misfit
 of_edit hunk lines = other_line hunk.line hunk.old (drop (hunk.line - 1) lines)
@@ -311,8 +303,8 @@ module _ (hunk : Edit) (lines : Lines) (from at : ℕ) (old : Lines) (found : fo
     differs other s e s_is e_is =
         let number : from + at + 1 ≡ suc (from + at) = omega arith in
         (λ j. Some (OtherLine (number j) (s_is j) (e_is j)))
-        ∙ sym (found_other from at old lines stands expected is_expected is_there (not_true (bytes_eq stands expected) other))
+        ∙ sym (found_other from at old lines stands expected is_expected is_there (not-true (bytes_eq stands expected) (sym other)))
         ∙ found
 
     pub agrees : false ≡ not (bytes_eq stands expected) → found_from from (at + 1) old lines ≡ of_edit hunk lines
-    agrees same = found_same from at old lines stands expected is_expected is_there (not_false (bytes_eq stands expected) same) ∙ found
+    agrees same = found_same from at old lines stands expected is_expected is_there (not-false (bytes_eq stands expected) (sym same)) ∙ found

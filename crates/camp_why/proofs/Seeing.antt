@@ -2,7 +2,7 @@
 use Rattle.std.specs.List.{list_any}
 use Rattle.std.specs.Prelude.{codes}
 use Rattle.std.proofs.Common.{inl, inr}
-use Rattle.camp_why.proofs.Words.{◌||◌, ◌&&◌, ◌≡◌, ◌∙◌, ℕ, Bool, true, false, false≢true, cond, List, ap, bytes_eq, bytes_eq-Decides, refl, sym}
+use Rattle.camp_why.proofs.Words.{◌||◌, ◌≡◌, ◌∙◌, ℕ, Bool, true, false, false≢true, cond, List, ap, and_parts, bytes_eq, bytes_eq-Decides, refl, sym}
 use Rattle.camp_base.specs.Signs.{is_capital_letter}
 use Rattle.camp_script.specs.Lines.{words_of}
 use Rattle.camp_script.specs.Pieces.{begins_with}
@@ -19,10 +19,6 @@ pick P false first second holds fails = fails refl
 
 no_sign : (line : List ℕ) → begins (codes "-") line ≡ false → begins (codes "+") line ≡ false → begins_signed line ≡ false
 no_sign line minus plus = (λ j. plus j || minus j)
-
-both : (a b : Bool) → (a && b) ≡ true → (a ≡ true) × (b ≡ true)
-both true b holds = (refl, holds)
-both false b holds = absurd (false≢true holds)
 
 -- what holds of two lines holds of a line that is one of them
 module _ (P : List ℕ → Bool) (one other : List ℕ) (of_one : P one ≡ true) (of_other : P other ≡ true) (line : List ℕ) where
@@ -95,7 +91,7 @@ is_so kind.BadNumber line =
     pick (IsSeen kind.BadNumber line) (ends_in_return (number_word line)) seen.CarriageReturn _ (λ e. e) (λ none.
     pick (IsSeen kind.BadNumber line) (is_zero (number_word line)) seen.Zero _ (λ e. e) (λ none.
     pick (IsSeen kind.BadNumber line) (has_zero_in_front line) seen.ZeroInFront seen.Nothing
-    (both (begins_with (codes "help") (words_of line)) (begins_zero (number_word line))) (λ none. tt))))
+    (and_parts (begins_with (codes "help") (words_of line)) (begins_zero (number_word line))) (λ none. tt))))
 is_so kind.BadEdit line = in_body kind.BadEdit line refl refl refl
 is_so kind.BadLine line = pick (IsSeen kind.BadLine line) (is_cut line) seen.TooLong seen.Nothing (λ e. e) (λ none. tt)
 is_so other line = tt

@@ -1,7 +1,6 @@
 -- Changes that are made one after the other, up to one that can't be.
-use Rattle.std.proofs.Common.{Err, Ok, Result}
 use Rattle.std.specs.List.{AllByRecursion}
-use Rattle.camp_why.proofs.Words.{◌+◌, ◌≡◌, ◌∙◌, ◌∷◌, ℕ, suc, Bool, true, false, cond, List, [], length, take, slice_get, None, Some, Option, ap, arith, ltb-true, nat_lt, none-some, option_map_or, refl, subst, sym, get, Files, Lines, AppliesEach, Applies, Applies-from_applied, InRange, Primitive, applied, applied-from_Applies, path_of, why_not, Misfit}
+use Rattle.camp_why.proofs.Words.{◌+◌, ◌≡◌, ◌∙◌, ◌∷◌, ℕ, suc, Bool, true, false, cond, List, [], length, take, slice_get, None, Some, Option, ap, arith, ltb-true, nat_lt, none-some, option_map_or, refl, subst, sym, get, Files, Lines, AppliesEach, Applies, Applies-from_applied, InRange, Primitive, applied, applied-from_Applies, path_of, why_not, Misfit, Err, Ok, Result}
 use Rattle.camp_why.proofs.Misfitting.{is_told, none_applies, not_applied}
 use Rattle.camp_call.specs.declared.replies.Refusal.{Refusal}
 use Rattle.camp_call.specs.declared.replies.Refusal.TheVariants.{DoesNotApply, TooLarge}

@@ -3,7 +3,7 @@ ghost use Rattle.std.specs.Prelude.{◌≡◌, []};
 ghost use Rattle.std.specs.List.{list_any};
 ghost use Rattle.camp_base.specs.Signs.{is_capital_letter};
 ghost use Rattle.camp_script.specs.Lines.{words_of};
-ghost use Rattle.camp_why.specs.Hints.{begins_blank, begins_end, begins_inner, begins_quoted, begins_signed, begins_zero, call_part, call_word, command_word, count_hint, edit_hint, ends_in_return, first_word, form_hint, has_zero_in_front, hint, is_capital_end, is_cut, is_empty, is_end, is_other_than_zero, is_quote, is_return, is_returned_end, is_strange, is_zero, last_words, line_hint, long_hint, misnamed, number_hint, number_word, path_hint, path_word, unsigned_hint, word_hint};
+ghost use Rattle.camp_why.specs.Hints.{begins_blank, begins_end, begins_inner, begins_quoted, begins_signed, begins_zero, call_part, call_word, command_word, count_hint, edit_hint, ends_in_return, first_word, form_hint, has_zero_in_front, hint, is_capital_end, is_cut, is_end, is_other_than_zero, is_quote, is_return, is_returned_end, is_strange, is_zero, last_words, line_hint, long_hint, misnamed, number_hint, number_word, path_hint, path_word, unsigned_hint, word_hint};
 
 use camp_base::Name;
 use camp_script::{FaultKind, Words, begins_edit, begins_with, behind_word};
@@ -177,7 +177,7 @@ fn edit_hint(line: &[u8]) -> Hint
     if is_cut(line) {
         return Hint::TooLong;
     }
-    if is_empty(line) {
+    if line.is_empty() {
         return Hint::Empty;
     }
     if begins_blank(line) {
@@ -295,10 +295,7 @@ fn last_words(line: &[u8]) -> (&[u8], &[u8])
 fn first_word(line: &[u8]) -> &[u8]
     ensures { result.now ≡ first_word (words_of line.now) }
 {
-    match Words::new(line).next() {
-        Some(word) => word,
-        None => &[],
-    }
+    Words::new(line).next().unwrap_or(&[])
 }
 
 /// The first word of a line that is no name; an empty one, where there is none.
@@ -317,24 +314,14 @@ pub fn misnamed(line: &[u8]) -> &[u8]
 fn has_quoted(line: &[u8]) -> bool
     ensures { result ≡ list_any begins_quoted (words_of line.now) }
 {
-    for word in Words::new(line) {
-        if begins_quoted(word) {
-            return true;
-        }
-    }
-    false
+    Words::new(line).any(begins_quoted)
 }
 
 // Whether a word of a line is a carriage return alone.
 fn has_return(line: &[u8]) -> bool
     ensures { result ≡ list_any is_return (words_of line.now) }
 {
-    for word in Words::new(line) {
-        if word == b"\r".as_slice() {
-            return true;
-        }
-    }
-    false
+    Words::new(line).any(|word| word == b"\r".as_slice())
 }
 
 fn begins_quoted(word: &[u8]) -> bool
@@ -414,12 +401,6 @@ fn is_end(line: &[u8]) -> bool
     ensures { result ≡ is_end line.now }
 {
     line == b"end".as_slice()
-}
-
-fn is_empty(line: &[u8]) -> bool
-    ensures { result ≡ is_empty line.now }
-{
-    line.is_empty()
 }
 
 // Whether a line is as one of too many bytes is read.

@@ -47,10 +47,7 @@ pub fn why_not(change: &Primitive, tree: &Tree) -> Result<Option<Misfit>, AllocE
 fn add_misfit(path: &Path, tree: &Tree) -> Option<Misfit>
     ensures { result ≡ why_not (Add path.now) tree.now }
 {
-    match tree.file(path) {
-        Some(_) => Some(Misfit::FileIsThere),
-        None => None,
-    }
+    tree.file(path).map(|_| Misfit::FileIsThere)
 }
 
 fn remove_misfit(path: &Path, tree: &Tree) -> Option<Misfit>

@@ -68,9 +68,7 @@ fn make(change: &Primitive, tree: &mut Tree) -> Result<Option<Hindrance>, AllocE
 fn long_file(path: &Path, tree: &Tree) -> Option<Hindrance>
     ensures { result ≡ long_file (get tree.now path.now) }
 {
-    let Some(lines) = tree.file(path) else {
-        return None;
-    };
+    let lines = tree.file(path)?;
     if lines.len() > MAX_FILE_LINES {
         return Some(Hindrance::TooLong(lines.len()));
     }

@@ -1,7 +1,5 @@
-use Rattle.camp_git.proofs.Words.{entries}
+use Rattle.camp_git.proofs.Words.{entries, map_of, slice_cmp, nat_cmp}
 use Rattle.camp_git.proofs.HeldTrees.{AreFree}
-use Rattle.camp_share.specs.Maps.{map_of}
-use Rattle.camp_git.proofs.Words.{slice_cmp, nat_cmp}
 use Rattle.camp_git.proofs.folders.first_unheld.Given as goal
 
 abbrev pub invariant-loop-entry : goal.invariant-loop-entry

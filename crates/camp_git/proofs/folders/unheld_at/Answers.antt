@@ -1,7 +1,5 @@
-use Rattle.camp_git.proofs.Words.{◌≡◌, ℕ, Bool, true, false, List, Option, None, Some, Result, Ok, Err, ◌∙◌, sym, inr}
+use Rattle.camp_git.proofs.Words.{◌≡◌, ℕ, Bool, true, false, List, Option, None, Some, Result, Ok, Err, ◌∙◌, sym, inr, contains_key, Files}
 use Rattle.std.specs.Prelude.{IsTrue, IfOk, MatchOption, ◌↔◌}
-use Rattle.std.specs.FinMap.{contains_key}
-use Rattle.camp_base.specs.Trees.{Files}
 use Rattle.camp_git.specs.Holding.{CannotHold, has_git_part}
 use Rattle.camp_git.specs.Inside.Finding.{HasInside, IsAround, IsFree, IsNoneAround}
 use Rattle.camp_git.proofs.folders.unheld_at.Goals as goal

@@ -1,15 +1,16 @@
 use Rattle.std.proofs.Common.{rules, ◌≡◌, [], length, ap, subst, sym}
+use Rattle.std.proofs.lemmas.List.{nil_from_length}
+use Rattle.std.proofs.lemmas.Result.{IfErr-weaker}
 use Rattle.camp_kept.specs.Keeping.{AreTexts, Tells}
 use Rattle.camp_kept.proofs.Opening.{no_calls}
-use Rattle.camp_kept.proofs.Recalling.{if_err, nothing}
 use Rattle.camp_store.specs.Logs.{KeepsTexts, texts_of}
 use Rattle.camp_kept.proofs.openings.begin.Goals as goal
 
 pub returns-clause-crash : goal.returns-clause-crash
 returns-clause-crash g c =
     let zero : length c.args.texts.now ≡ 0 = search rules in
-    let none : texts_of c.args.texts.now ≡ [] = ap texts_of (nothing c.args.texts.now zero) in
-    if_err _ _ c.put_title.result
+    let none : texts_of c.args.texts.now ≡ [] = ap texts_of (nil_from_length c.args.texts.now zero) in
+    IfErr-weaker c.put_title.result _ _
     (λ e crash calls are keeps short f now.
     subst (λ l. Tells l f) (sym (no_calls calls (subst (λ ts. AreTexts ts calls) none are)))
     (crash (subst (λ ts. KeepsTexts g.D.Disk.seen g.D.Disk.may_leave ts c.args.log) none keeps) (short none) f now))
@@ -18,7 +19,7 @@ returns-clause-crash g c =
 pub returns-clause-untitled : goal.returns-clause-untitled
 returns-clause-untitled g c =
     let zero : length c.args.texts.now ≡ 0 = search rules in
-    let none : texts_of c.args.texts.now ≡ [] = ap texts_of (nothing c.args.texts.now zero) in
-    if_err _ _ c.put_title.result
+    let none : texts_of c.args.texts.now ≡ [] = ap texts_of (nil_from_length c.args.texts.now zero) in
+    IfErr-weaker c.put_title.result _ _
     (λ e untitled keeps may. untitled (subst (λ ts. KeepsTexts g.D.Disk.seen g.D.Disk.may_leave ts c.args.log) none keeps) may)
     c.put_title.ensures.untitled

@@ -1,7 +1,8 @@
 use Rattle.std.proofs.Common.{rules, ◌≡◌, ◌≢◌, ◌∙◌, true, false, true≢false, ◌∷◌, ap, subst, sym}
+use Rattle.std.proofs.lemmas.Result.{IfOk-weaker}
 use Rattle.camp_kept.specs.Keeping.{title}
 use Rattle.camp_kept.specs.Replaying.{AreRecalled}
-use Rattle.camp_kept.proofs.Recalling.{if_ok, recalled}
+use Rattle.camp_kept.proofs.Recalling.{recalled}
 use Rattle.camp_kept.proofs.Refusing.{another_title}
 use Rattle.camp_store.specs.Blocks.{Stands}
 use Rattle.camp_store.specs.Logs.{texts_of}
@@ -22,6 +23,6 @@ returns-clause-recalled c =
     let is : first.items ≡ title = sym c.deref.ensures.value ∙ c.is_title.ensures.0 yes in
     let e : texts_of c.args.texts.now ≡ title ∷ texts_of c.in-Some.others.now =
     ap texts_of c.in-Some.ensures.cases.0 ∙ ap (λ t. t ∷ texts_of c.in-Some.others.now) is in
-    if_ok _ _ c.ask_all.result
+    IfOk-weaker c.ask_all.result _ _
     (λ history asked. subst (λ ts. AreRecalled ts history) (sym e) (recalled (texts_of c.in-Some.others.now) history asked))
     c.ask_all.ensures.texts

@@ -3,9 +3,9 @@ use Rattle.std.specs.List.{AllByRecursion}
 use Rattle.std.proofs.lemmas.List.{map-append, take_more}
 use Rattle.camp_kept.specs.Keeping.{call_texts}
 use Rattle.camp_kept.proofs.Committing.{call_texts-push}
-use Rattle.camp_kept.proofs.Recalling.{all_push}
 use Rattle.camp_script.specs.Canonical.{call_text}
 use Rattle.camp_script.specs.Keeping.{CanStand, calls_of}
+use Rattle.camp_script.proofs.TextLemmas.{all_more}
 use Rattle.camp_store.specs.Logs.{texts_of}
 use Rattle.camp_store.proofs.BlockLemmas.{texts_of-push}
 use Rattle.camp_kept.proofs.texts.texts_to_keep.Goals as goal
@@ -26,7 +26,7 @@ loop-entry-preserved c =
           ∙ (λ j. c.loop-entry.invariant.0 j ++ text j ∷ [])
           ∙ sym (call_texts-push (take i xs) x)
           ∙ ap (λ l. call_texts (calls_of l)) (sym next),
-      subst (AllByRecursion CanStand) (sym calls) (all_push CanStand (calls_of (take i xs)) x.1 c.loop-entry.invariant.1 stands),
+      subst (AllByRecursion CanStand) (sym calls) (all_more CanStand (calls_of (take i xs)) x.1 c.loop-entry.invariant.1 stands),
     )
 
 pub returns-clause-stand : goal.returns-clause-stand

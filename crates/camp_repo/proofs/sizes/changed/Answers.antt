@@ -1,4 +1,4 @@
-use Rattle.camp_repo.proofs.Words.{arith, ap, ◌∙◌, sym, has_long_file}
+use Rattle.camp_repo.proofs.Words.{arith, sym}
 use Rattle.camp_repo.proofs.ChangedSteps.{leads_nowhere, leads_to_next, leads_too_far}
 use Rattle.camp_repo.proofs.sizes.changed.Goals as goal
 

@@ -1,5 +1,5 @@
-use Rattle.camp_repo.proofs.Words.{◌∙◌, sym, subst}
-use Rattle.camp_repo.proofs.BeginningSteps.{RestHold, known_agrees, none_known, rest_more}
+use Rattle.camp_repo.proofs.Words.{◌∙◌, sym, subst, agree_none}
+use Rattle.camp_repo.proofs.BeginningSteps.{RestHold, known_agrees, rest_more}
 use Rattle.camp_repo.proofs.beginnings.KnownBeginnings.between.Goals as goal
 
 pub loop-beginning-init : goal.loop-beginning-init
@@ -17,4 +17,4 @@ returns-then-is_of c =
     known_agrees c.args.self.now c.loop-beginning.beginning-iterator c.next.new.self c.in-Some.beginning.now c.args.from c.args.to c.loop-beginning.invariant c.in-Some.ensures.steps same.0 same.1
 
 pub returns : goal.returns
-returns c branches w theirs ours there here = none_known theirs ours
+returns c branches w theirs ours there here = agree_none theirs ours
