@@ -1,5 +1,5 @@
-ghost use Rattle.std.specs.Prelude.{◌≡◌, [], ◌∷◌, ◌+◌, ◌<◌, ◌≤◌, length, count_by, IfOk, IsOk};
-ghost use Rattle.std.specs.List.{All, AllZip};
+ghost use Rattle.std.specs.Prelude.{◌≡◌, [], ◌+◌, ◌<◌, ◌≤◌, length, count_by, IfOk, IsOk};
+ghost use Rattle.std.specs.List.{All};
 ghost use Rattle.std.specs.Thread.{IsSync};
 ghost use Rattle.camp_history.specs.Opening.{farthest_version, most_calls, IsInRange, IsOpened};
 ghost use Rattle.camp_history.specs.Seats.{IsSeatOf, calls_per_seat, history_of, caller_at, number_of, seats_of};

@@ -1,5 +1,5 @@
 //! How the seats of a run meet, before and after its threads.
-ghost use Rattle.std.specs.Prelude.{◌≡◌, ◌≤◌, length, IfOk};
+ghost use Rattle.std.specs.Prelude.{◌≡◌, IfOk};
 ghost use Rattle.std.specs.List.{All, AllZip};
 ghost use Rattle.camp_object.specs.Histories.{IsBeginning, own};
 ghost use Rattle.camp_history.specs.Seats.{IsSeatOf, history_of, number_of};

@@ -143,12 +143,14 @@ module _ {Call : Type 0} (one other : List (Mark Call)) where
     other_is = sym (take-append-drop from (map told other)) ∙ (λ k. sym share.same k ++ drop-map told from other k);
   }
 
-  pub compared_step : (left others : List (Mark Call)) (mark mark' : Mark Call) → told mark ≡ told mark' → Compared one other (mark ∷ left) (mark' ∷ others) → Compared one other left others
-  compared_step left others mark mark' same past = record {
-    front = past.front ++ told mark ∷ [];
-    one_is = past.one_is ∙ sym (append_assoc past.front (told mark ∷ []) (map told left));
-    other_is = past.other_is ∙ ap (λ t. past.front ++ t ∷ map told others) (sym same) ∙ sym (append_assoc past.front (told mark ∷ []) (map told others));
-  }
+  pub compared_step : (marks marks' left others : List (Mark Call)) (mark mark' : Mark Call) → marks ≡ mark ∷ left → marks' ≡ mark' ∷ others → told mark ≡ told mark' → Compared one other marks marks' → Compared one other left others
+  compared_step marks marks' left others mark mark' first second same past =
+      let here : Compared one other (mark ∷ left) (mark' ∷ others) = rw (← first, ← second) past in
+      record {
+        front = here.front ++ told mark ∷ [];
+        one_is = here.one_is ∙ sym (append_assoc here.front (told mark ∷ []) (map told left));
+        other_is = here.other_is ∙ ap (λ t. here.front ++ t ∷ map told others) (sym same) ∙ sym (append_assoc here.front (told mark ∷ []) (map told others));
+      }
 
   pub compared_end : (others : List (Mark Call)) → Compared one other [] others → Begins one other
   compared_end others past = record { rest = map told others; makes = ap (λ l. l ++ map told others) (past.one_is ∙ append-nil past.front) ∙ sym past.other_is }
@@ -263,10 +265,11 @@ stands {Call} whole list left front mark begins is =
     subst (λ l. slice_get l (length front) ≡ Some (entry_of mark)) begins.is (get_append (map entry_of list) begins.rest (length front) (entry_of mark) here)
 
 -- the marks that are left first of two parts of one chain are of one entry
-pub same_next : {Call : Type 0} (whole : List Entry) (one other left others : List (Mark Call)) (mark mark' : Mark Call) → chain.IsBeginning (map entry_of one) whole → chain.IsBeginning (map entry_of other) whole
-    → Compared one other (mark ∷ left) (mark' ∷ others) → entry_of mark ≡ entry_of mark'
-same_next whole one other left others mark mark' begins begins' past =
-    same_Some (entry_of mark) (entry_of mark') (sym (stands whole one left past.front mark begins past.one_is) ∙ stands whole other others past.front mark' begins' past.other_is)
+pub same_next : {Call : Type 0} (whole : List Entry) (one other marks marks' left others : List (Mark Call)) (mark mark' : Mark Call) → marks ≡ mark ∷ left → marks' ≡ mark' ∷ others
+    → chain.IsBeginning (map entry_of one) whole → chain.IsBeginning (map entry_of other) whole → Compared one other marks marks' → entry_of mark ≡ entry_of mark'
+same_next whole one other marks marks' left others mark mark' first second begins begins' past =
+    let here : Compared one other (mark ∷ left) (mark' ∷ others) = rw (← first, ← second) past in
+    same_Some (entry_of mark) (entry_of mark') (sym (stands whole one left here.front mark begins here.one_is) ∙ stands whole other others here.front mark' begins' here.other_is)
 
 -- what a seat has seen begins the chain that it found
 pub seat_begins : {Call : Type 0} (seat : Seated Call) → entries_of seat ≡ seat.known.seen → IsSound seat.known → chain.IsBeginning (entries_of seat) seat.known.ahead

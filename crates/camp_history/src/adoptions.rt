@@ -1,5 +1,5 @@
 //! How a seat that is behind adopts a version.
-ghost use Rattle.std.specs.Prelude.{◌≡◌, ℕ, ◌<◌, ◌≤◌, ◌+◌, length, map, drop, slice_get, slice_index_or, All, Some, IfOk, IfSome, IsTrue};
+ghost use Rattle.std.specs.Prelude.{◌≡◌, ℕ, ◌<◌, ◌≤◌, ◌+◌, length, drop, slice_get, slice_index_or, All, Some, IfSome, IsTrue};
 ghost use Rattle.boxcar.specs.Table.{Shows};
 ghost use Rattle.camp_history.specs.Versions.{ids, Adopts, Begins, GoesOn, Share};
 

@@ -1,5 +1,3 @@
-ghost use Rattle.std.specs.Prelude.{◌≡◌};
-
 use boxcar::Pushed;
 use camp_share::Share;
 use std::alloc::AllocError;

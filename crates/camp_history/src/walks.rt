@@ -1,6 +1,5 @@
 //! How a seat moves along the row.
-ghost use Rattle.std.specs.Prelude.{◌≡◌, ℕ, ◌<◌, ◌+◌, ◌++◌, [], ◌∷◌, length, slice_get, All, Some, IfOk, OnOk, OnErr, MatchOption, MatchResult, MatchBool};
-ghost use Rattle.boxcar.specs.Table.{Shows};
+ghost use Rattle.std.specs.Prelude.{◌≡◌, ℕ, ◌<◌, ◌+◌, ◌++◌, [], ◌∷◌, length, All, Some, IfOk, OnOk, OnErr, MatchOption, MatchResult, MatchBool};
 ghost use Rattle.camp_object.specs.declared.faults.Fault.TheVariants.{Memory};
 ghost use Rattle.camp_row.specs.Chains.{turns};
 ghost use Rattle.camp_row.specs.Known.{Won, Lost, with_draft};

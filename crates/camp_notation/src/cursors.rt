@@ -1,4 +1,4 @@
-ghost use Rattle.std.specs.Prelude.{◌≡◌, ◌≤◌, ◌<◌, length, IfOk, IsOkAnd, OnOk, string_bytes};
+ghost use Rattle.std.specs.Prelude.{◌≡◌, ◌≤◌, ◌<◌, ℕ, List, length, IfOk, OnOk, string_bytes};
 
 use crate::NotationError;
 use crate::words::is_plain_byte;
@@ -97,7 +97,7 @@ impl<'a> Cursor<'a> {
         text: &[u8],
         written: Result<String, AllocError>,
     ) -> Result<(), NotationError>
-        ensures { OnOk result (IsOkAnd written (λ words. string_bytes words ≡ text.now)) }
+        ensures { OnOk result ((bytes : List ℕ) → IfOk written (λ words. string_bytes words ≡ bytes) → text.now ≡ bytes) }
     {
         self.expect_end()?;
         if written?.as_bytes() != text {

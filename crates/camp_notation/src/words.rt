@@ -111,10 +111,7 @@ fn hex_digit(n: u8) -> char
 fn is_plain(bytes: &[u8]) -> bool
     ensures { result ≡ is_plain bytes.now }
 {
-    if bytes.is_empty() {
-        return false;
-    }
-    has_plain_bytes(bytes)
+    !bytes.is_empty() && has_plain_bytes(bytes)
 }
 
 fn has_plain_bytes(bytes: &[u8]) -> bool

@@ -4,6 +4,7 @@ use Rattle.std.specs.List.{list_any}
 use Rattle.camp_call.specs.declared.calls.Call.TheVariants as call
 use Rattle.camp_script.specs.Faults.{fault_at}
 use Rattle.camp_script.specs.declared.faults.FaultKind.TheVariants.{BadGroup, EditNotEnded, GroupNotEnded, TooManyClients, TooManyCommands}
+use Rattle.camp_script.proofs.EndSteps.{has_one}
 use Rattle.camp_script.proofs.Holding.{Holds}
 use Rattle.camp_script.proofs.Asked.{Fits, is_edit, is_group, is_section, fits, FitsGroup, is_edit_change, is_end, fits_group}
 
@@ -85,12 +86,6 @@ behind_step (Err fault) f g h = refl
 
 -- ---- a body
 
--- one more change is one at least
-some_change : (changes : List Primitive) (change : Primitive) → (length (changes ++ change ∷ []) == 0) ≡ false
-some_change changes change =
-    let long : length (changes ++ change ∷ []) ≡ length changes + 1 = length-append changes (change ∷ []) in
-    ap (λ n. n == 0) long ∙ grind (arith, nat_tests)
-
 module _ (n : ℕ) (bytes : List ℕ) (lines : List (List ℕ)) (next : Agrees (n + 1) lines) (closed : List (List Call)) (calls : List Call) (branch name : List ℕ) (opened : ℕ) where
   -- behind the line `end`
   body_ends : (grouped : Bool) (changes : List Primitive) (begun : ℕ) (edit : Edit) (r : Result Edit LineFault)
@@ -99,7 +94,7 @@ module _ (n : ℕ) (bytes : List ℕ) (lines : List (List ℕ)) (next : Agrees (
   body_ends grouped changes begun edit (Err fault) = refl
   body_ends true changes begun edit (Ok more) = next.in_group closed calls branch name opened (changes ++ Hunk more ∷ [])
   body_ends false changes begun edit (Ok more) =
-      ap (λ (r : Result Progress LineFault). r >>= λ p. read_from (n + 1) p lines) (cond-false (length (changes ++ Hunk more ∷ []) == 0) _ _ (some_change changes (Hunk more)))
+      ap (λ (r : Result Progress LineFault). r >>= λ p. read_from (n + 1) p lines) (cond-false (length (changes ++ Hunk more ∷ []) == 0) _ _ (has_one changes (Hunk more)))
       ∙ next.beyond closed (calls ++ call.Record branch name (changes ++ Hunk more ∷ []) ∷ [])
 
   -- behind another line

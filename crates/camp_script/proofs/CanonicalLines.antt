@@ -1,10 +1,7 @@
 -- Lines of words, cut into lines and words again.
 use Rattle.camp_script.proofs.Common.{cond-true, cond-false, false≢true, and_parts, not-true, nat_tests, line_text, ◌≡◌, ℕ, Bool, true, false, not, ◌&&◌, ◌==◌, nat_lt, cond, List, [], ◌∷◌, ◌++◌, length, filter, ap, ◌∙◌, refl, append_assoc, arith, lines_of, words_of, is_blank, without_empty_last}
+pub use Rattle.std.proofs.lemmas.Bool.{and_from as both}
 use Rattle.std.specs.List.{list_all, slice_split, onto_first, join_with_byte, AllByRecursion}
-
--- two tests that both pass
-pub both : (a b : Bool) → a ≡ true → b ≡ true → (a && b) ≡ true
-both a b p q = ap (λ x. x && b) p ∙ q
 
 pub all_weaker : (p q : ℕ → Bool) → ((x : ℕ) → p x ≡ true → q x ≡ true) → (xs : List ℕ) → list_all p xs ≡ true → list_all q xs ≡ true
 all_weaker p q each [] h = refl

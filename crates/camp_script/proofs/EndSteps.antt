@@ -1,14 +1,10 @@
 -- The line `end` where its body has a fault.
-use Rattle.camp_script.proofs.Common.{arith, nat_tests, ◌≡◌, ℕ, Bool, true, false, List, [], ◌∷◌, ◌++◌, refl, ap, Result, Ok, Err, LineFault, ScriptFault, Line, Memory, ◌>>=◌, IsFaultFirst, HasNoFault, Progress}
-use Rattle.std.specs.Prelude.{◌==◌, length, if◌then◌else◌}
-use Rattle.camp_prim.specs.declared.primitives.Primitive.{Primitive}
-use Rattle.camp_prim.specs.declared.primitives.Primitive.TheVariants.{Hunk}
-use Rattle.camp_script.specs.Changes.{ended}
+use Rattle.camp_script.proofs.Common.{arith, nat_tests, ◌≡◌, ℕ, Bool, true, false, List, [], ◌∷◌, ◌++◌, ◌==◌, length, if◌then◌else◌, refl, ap, Result, Ok, Err, Primitive, Hunk, LineFault, ScriptFault, Line, Memory, ◌>>=◌, ended, IsFaultFirst, HasNoFault, OpenEdit, OpenRecord, Progress, after_change}
 use Rattle.camp_script.specs.Inside.Asking.{ended_change}
-use Rattle.camp_script.specs.Inside.Progress.{OpenRecord, OpenEdit, after_change}
 use Rattle.camp_script.specs.Inside.Steps.{after_end}
 
-has_one : (changes : List Primitive) (change : Primitive) → (length (changes ++ change ∷ []) == 0) ≡ false
+-- one more change is one at least
+pub has_one : (changes : List Primitive) (change : Primitive) → (length (changes ++ change ∷ []) == 0) ≡ false
 has_one [] change = refl
 has_one (other ∷ changes) change = grind (arith, nat_tests)
 

@@ -2,7 +2,6 @@ pub mod Booked
 pub mod Emptied
 pub mod Kept
 pub mod Once
-pub mod Output
 pub mod Questioned
 pub mod ReadBack
 pub mod Shared

@@ -15,9 +15,6 @@ use Rattle.camp_seq.specs.Running.{AppliesAll, inverse_all}
 pub applies_once : AppliedIsApplies → (p : Primitive) (old a b : Files) → Applies p old a → Applies p old b → a ≡ b
 applies_once is p old a b x y = same_Some a b (sym ((is p old a).1 x) ∙ (is p old b).1 y)
 
-pub leads_once : AppliedIsApplies → (p q : Primitive) (old a b : Files) → Leads p q old a → Leads p q old b → a ≡ b
-leads_once is p q old a b x y = applies_once is q y.between a b (subst (λ tree. Applies q tree a) (applies_once is p old x.between y.between x.first y.first) x.second) y.second
-
 pub runs_once : AppliedIsApplies → (s : List Named) (old a b : Files) → AppliesAll s old a → AppliesAll s old b → a ≡ b
 runs_once is [] old a b x y = x ∙ sym y
 runs_once is (p ∷ s) old a b (m, first, rest) (n, other, others) =

@@ -1,9 +1,10 @@
 -- What was answered to a question, and what comes of a call that goes by it.
-use Rattle.camp_uses.proofs.Words.{◌≡◌, ◌≢◌, ◌<◌, ◌||◌, ◌⊎◌, inl, inr, ℕ, Bool, true, false, not, ◌&&◌, List, [], ◌∷◌, ◌++◌, map, length, map-append, Option, None, Some, MatchOption, Result, Ok, Err, IsErrAnd, bytes_eq, refl, sym, ap, ◌∙◌, subst, arith, same_Some, Catch, has_patch, is_among, name_of, names_of, other_names}
+use Rattle.camp_uses.proofs.Words.{◌≡◌, ◌≢◌, ◌<◌, ◌||◌, ◌⊎◌, inl, inr, ℕ, Bool, true, false, not, ◌&&◌, List, [], ◌∷◌, ◌++◌, map, length, Option, None, Some, MatchOption, Result, Ok, Err, IsErrAnd, bytes_eq, refl, sym, ap, ◌∙◌, subst, arith, same_Some, Catch, has_patch, is_among, name_of, names_of, other_names}
 use Rattle.camp_uses.proofs.Words.{Outcome, Reply, Next, Answer, AcceptedCallsHaveEffect, Has, Contents, catches_of, Decision, becomes, first_lacked, is_empty, is_full_with, pull_wanted, refused, refused_if, step, wanted, with_patches, IsShown, Patch, patch_in, GoesWithHeld, HasThem, IsRefusal, MayRefuse, MayRefuseFor, PullsAlong}
 use Rattle.std.specs.Option.{option_map_or}
 use Rattle.std.proofs.lemmas.List.Folds.{list_any-append}
 use Rattle.camp_branch.specs.declared.faults.Blocked.TheVariants as blocked
+use Rattle.camp_branch.proofs.AgreedFronts.{front_has}
 use Rattle.camp_branch.proofs.Names.{same_name}
 use Rattle.camp_branch.proofs.NamesKept.{among_kept, among_once}
 use Rattle.camp_call.specs.declared.calls.Call.TheVariants as call
@@ -184,11 +185,6 @@ is_refusal state from to names (reply.Names listed) w = absurd w
 none_among : {A : Type 0} (names : List (List ℕ)) (n : List ℕ) → is_empty names ≡ true → is_among names n ≡ true → A
 none_among [] n none among = cc
 none_among (name ∷ names) n none among = cc
-
--- a list has the patches of its front
-front_has : (front rest : List Catch) (n : List ℕ) → has_patch front n ≡ true → has_patch (front ++ rest) n ≡ true
-front_has front rest n has =
-    ap (λ names. is_among names n) (map-append name_of front rest) ∙ list_any-append (bytes_eq n) (map name_of front) _ ∙ ap (λ b. b || is_among (map name_of rest) n) has
 
 -- the same of a decision that is not refused for a patch that another stands on
 abbrev UnlessHeld : Contents → List ℕ → List ℕ → List (List ℕ) → Decision → Type 0

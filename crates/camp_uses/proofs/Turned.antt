@@ -1,5 +1,5 @@
 -- What becomes of catches that fit a tree.
-use Rattle.camp_uses.proofs.Words.{◌≡◌, List, Option, None, Some, Result, Ok, Err, IfOk, IfSome, FindsPair, Files, MergeLists, Catch}
+use Rattle.camp_uses.proofs.Words.{◌≡◌, List, Option, None, Some, Result, Ok, Err, IfOk, IfSome, refl, FindsPair, Files, MergeLists, Catch}
 use Rattle.std.specs.Option.{option_zip}
 use Rattle.camp_catch.specs.Catches.{Fits, FitsAll}
 use Rattle.camp_catch.specs.Commuting.{CommuteCatch}
@@ -18,9 +18,18 @@ behind law ours theirs merged rest gives old left right first second =
     let (new, fits, other) = law.merged theirs ours merged rest gives old left right first second in
     (new, fits)
 
+-- what is told of two answers is what each of them tells
+pub told_by_both : {T E : Type 0} → (here told : Option T) (there : Result (Option T) E) → there ≡ Ok told → IfSome (option_zip here told) (λ pair. (here ≡ Some pair.0) × (there ≡ Ok (Some pair.1)))
+told_by_both None told there e = tt
+told_by_both (Some one) None there e = tt
+told_by_both (Some one) (Some other) there e = (refl, e)
+
 -- what two catches become behind each other is the same, whichever is asked first
-pub agreed : MergeIsSymmetric → MergeIsUnique → (j k : Catch) (here there : Option (Catch × Catch)) → FindsPair (MergeCatch j k) here → FindsPair (MergeCatch k j) there → IfSome (option_zip here there) (λ both. (both.0.0 ≡ both.1.1) × (both.0.1 ≡ both.1.0))
-agreed symmetric unique j k None there one other = tt
-agreed symmetric unique j k (Some here) None one other = tt
-agreed symmetric unique j k (Some here) (Some there) one other =
-    let same = unique k j here.1 here.0 there.0 there.1 (symmetric j k here.0 here.1 one) other in (same.1, same.0)
+pub agreed : {E : Type 0} → MergeIsSymmetric → MergeIsUnique → (j k : Catch) (here : Option (Catch × Catch)) (there : Result (Option (Catch × Catch)) E) (found : Result (Option ((Catch × Catch) × (Catch × Catch))) E) → FindsPair (MergeCatch j k) here → IfOk there (FindsPair (MergeCatch k j)) → IfOk found (λ told. IfSome told (λ pair. (here ≡ Some pair.0) × (there ≡ Ok (Some pair.1)))) → IfOk found (λ told. IfSome told (λ both. (both.0.0 ≡ both.1.1) × (both.0.1 ≡ both.1.0)))
+agreed symmetric unique j k here there (Err why) one other are = tt
+agreed symmetric unique j k here there (Ok None) one other are = tt
+agreed symmetric unique j k here there (Ok (Some (a, b))) one other are =
+    let first : MergeCatch j k a.0 a.1 = rw are.0 at one in
+    let second : MergeCatch k j b.0 b.1 = rw are.1 at other in
+    let same = unique k j a.1 a.0 b.0 b.1 (symmetric j k a.0 a.1 first) second in
+    (same.1, same.0)

@@ -1,6 +1,5 @@
 -- The words that most proofs of this crate use.
 pub use Rattle.std.proofs.Common.{Bool, Err, IfOk, IfSome, IsErrAnd, IsSome, List, MatchOption, None, Ok, OnOk, Option, Result, Some, [], ap, append-nil, arith, bytes_eq, false, inl, inr, length, map, not, refl, subst, sym, true, ℕ, ◌&&◌, ◌++◌, ◌<◌, ◌∙◌, ◌∷◌, ◌≡◌, ◌≢◌, ◌≤◌, ◌⊎◌, ◌||◌}
-pub use Rattle.std.proofs.lemmas.List.{map-append}
 pub use Rattle.std.proofs.lemmas.Option.{same_Some}
 pub use Rattle.std.specs.List.{AllByRecursion}
 pub use Rattle.camp_base.specs.Answers.{Answers, AnswersByTrial, FindsPair}
@@ -28,7 +27,7 @@ pub use Rattle.camp_repo.specs.Objects.{repository}
 pub use Rattle.camp_repo.specs.States.{Contents, catches_of, initial}
 pub use Rattle.camp_repo.specs.Steps.{Decision, becomes, is_empty, is_full_with, pull_wanted, refused, refused_if, step, wanted, with_patches}
 pub use Rattle.camp_run.specs.Keeping.{KeptLeadsBack, at_seat_0}
-pub use Rattle.camp_run.specs.Serial.{IsSerial, history_from}
+pub use Rattle.camp_run.specs.Serial.{history_from}
 pub use Rattle.camp_script.specs.Canonical.{ReadsBack, call_text}
 pub use Rattle.camp_script.specs.Keeping.{CanStand, calls_of, kept_text}
 pub use Rattle.camp_script.specs.Reading.{script_of}

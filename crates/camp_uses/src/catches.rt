@@ -1,5 +1,5 @@
 //! Callers of `camp_catch`.
-ghost use Rattle.std.specs.Prelude.{◌≡◌, IfOk, IfSome};
+ghost use Rattle.std.specs.Prelude.{◌≡◌, Ok, Some, IfOk, IfSome};
 ghost use Rattle.camp_base.specs.Trees.{Files};
 ghost use Rattle.camp_catch.specs.Catches.{Fits, FitsAll};
 ghost use Rattle.camp_catch.specs.Laws.{keys_of};
@@ -37,7 +37,18 @@ pub fn merged_either_way(
     merge_is_symmetric();
     merge_is_unique();
     let here = merge(alloc, j, k)?;
-    let there = merge(alloc, k, j)?;
+    let there = merge(alloc, k, j);
+    both(here, there)
+}
+
+/// What two answers tell, where each of them tells something.
+fn both<T: Drop>(
+    here: Option<T>,
+    there: Result<Option<T>, AllocError>,
+) -> Result<Option<(T, T)>, AllocError>
+    ensures exact { IfOk result (λ found. IfSome found (λ pair. (here ≡ Some pair.0) × (there ≡ Ok (Some pair.1)))) }
+{
+    let there = there?;
     Ok(here.zip(there))
 }
 

@@ -73,8 +73,13 @@ pub fn meets(
         return conflict(&passed, other);
     }
     let seen = Contexted::add(list, x)?;
-    let set = CtxSet::empty(alloc).insert(x)?.insert(&seen)?;
-    Ok(set.len() == 1 && conflict(&seen, other)?)
+    Ok(is_one(alloc, x, &seen)? && conflict(&seen, other)?)
+}
+
+/// Whether two contexted patches are one member of a set.
+fn is_one(alloc: Global, x: &Contexted, seen: &Contexted) -> Result<bool, AllocError> {
+    let set = CtxSet::empty(alloc).insert(x)?.insert(seen)?;
+    Ok(set.len() == 1)
 }
 
 /// The text of a list in normal order, from the text of a list; `camp_notation`.

@@ -2,6 +2,7 @@
 ghost use Rattle.std.specs.Prelude.{◌≡◌, OnOk, IfOk, IfSome};
 ghost use Rattle.camp_base.specs.Trees.{Files};
 ghost use Rattle.camp_seq.specs.Equivalence.{◌~◌};
+ghost use Rattle.camp_seq.specs.Merging.{CleanMerge};
 ghost use Rattle.camp_seq.specs.NormalOrder.{Norm};
 ghost use Rattle.camp_seq.specs.Room.{HasRoom};
 ghost use Rattle.camp_seq.specs.Running.{AppliesAll};
@@ -56,11 +57,26 @@ pub fn merged_in_both_orders(a: &Seq, b: &Seq, tree: &Tree) -> Result<Option<(Tr
     let Some((behind_a, behind_b)) = clean_merge(a, b)? else {
         return Ok(None);
     };
+    let both = trees_of_merged(a, b, &behind_a, &behind_b, tree)?;
+    Ok(Some(both))
+}
+
+/// The trees after two lists that merge to the two others, in both orders.
+fn trees_of_merged(
+    a: &Seq,
+    b: &Seq,
+    behind_a: &Seq,
+    behind_b: &Seq,
+    tree: &Tree,
+) -> Result<(Tree, Tree), Apply>
+    requires { CleanMerge a.now b.now behind_a.now behind_b.now }
+    ensures same { IfOk result (λ both. both.0 ≡ both.1) }
+{
     clean_merge_closes();
     applied_is_applies();
-    let here = after_both(a, &behind_a, tree)?;
-    let there = after_both(b, &behind_b, tree)?;
-    Ok(Some((here, there)))
+    let here = after_both(a, behind_a, tree)?;
+    let there = after_both(b, behind_b, tree)?;
+    Ok((here, there))
 }
 
 /// The tree after two lists, one behind the other.

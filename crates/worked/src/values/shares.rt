@@ -1,5 +1,4 @@
 //! Values: the calls on shared lists.
-ghost use Rattle.std.specs.Prelude.{◌≤◌, ◌<◌, IsTrue, length};
 
 use crate::tables::Table;
 use crate::values::arguments::Value;

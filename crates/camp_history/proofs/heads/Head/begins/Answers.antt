@@ -1,5 +1,5 @@
-use Rattle.camp_history.proofs.Words.{◌≡◌, ◌∷◌, refl, sym, subst, All-rest, All-drop, All-same, Shows, Mark, drop}
-use Rattle.camp_history.proofs.Versioned.{Compared, compared_start, compared_step, left_first}
+use Rattle.camp_history.proofs.Words.{◌≡◌, refl, All-rest, All-drop, All-same, Shows, Mark, drop}
+use Rattle.camp_history.proofs.Versioned.{compared_start, compared_step, left_first}
 use Rattle.camp_history.proofs.heads.Head.begins.Goals as goal
 
 pub loop-mark-init : goal.loop-mark-init
@@ -11,7 +11,7 @@ loop-mark-init g c =
     let left : c.marks_from-marks.result ≡ drop c.args.from seat.marks = c.marks_from-marks.ensures in
     let others : c.marks_from-others.result ≡ drop c.args.from version = c.marks_from-others.ensures in
     record {
-      compared = subst (λ list. Compared seat.marks version list c.marks_from-others.result) (sym left) (subst (λ list. Compared seat.marks version (drop c.args.from seat.marks) list) (sym others) start);
+      compared = rw (left, others) start;
       stored = All-same Stored c.marks_from-marks.result (drop c.args.from seat.marks) left (All-drop Stored c.args.from seat.marks c.requires.seat.stored);
       others_stored = All-same Stored c.marks_from-others.result (drop c.args.from version) others (All-drop Stored c.args.from version c.requires.version);
     }
@@ -27,20 +27,9 @@ is_same-requires g c =
 pub loop-mark-preserved : goal.loop-mark-preserved
 loop-mark-preserved g c =
     let past = c.loop-mark.invariant in
-    let seat = c.args.seat.now in
-    let version = c.args.version.now in
-    let mark = c.in-Some.mark.now in
-    let other = c.in-Some-next.other.now in
-    let left = c.next.new.self in
-    let others = c.next-in-Some.new.self in
     let Stored : Mark g.row.State-Call.Denot → Type 0 = λ mark. Shows c.args.self.now.store mark.call in
-    let first : c.loop-mark.marks ≡ mark ∷ left = c.in-Some.ensures in
-    let second : c.loop-mark.others ≡ other ∷ others = c.in-Some-next.ensures in
-    let here : Compared seat.marks version (mark ∷ left) (other ∷ others) =
-    subst (λ list. Compared seat.marks version (mark ∷ left) list) second (subst (λ list. Compared seat.marks version list c.loop-mark.others) first past.compared)
-    in
     record {
-      compared = compared_step seat.marks version left others mark other (c.if-not-is_same.ensures refl) here;
-      stored = All-rest Stored mark left c.loop-mark.marks first past.stored;
-      others_stored = All-rest Stored other others c.loop-mark.others second past.others_stored;
+      compared = compared_step _ _ _ _ _ _ _ _ c.in-Some.ensures c.in-Some-next.ensures (c.if-not-is_same.ensures refl) past.compared;
+      stored = All-rest Stored _ _ _ c.in-Some.ensures past.stored;
+      others_stored = All-rest Stored _ _ _ c.in-Some-next.ensures past.others_stored;
     }

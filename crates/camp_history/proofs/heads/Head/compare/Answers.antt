@@ -1,6 +1,6 @@
-use Rattle.camp_history.proofs.Words.{◌≡◌, [], ◌∷◌, sym, ap, subst, All-rest, All-drop, All-same, Shows, Mark, drop, entries_of, arith}
+use Rattle.camp_history.proofs.Words.{◌≡◌, [], sym, ap, subst, All-rest, All-drop, All-same, Shows, Mark, drop, entries_of}
 use Rattle.camp_row.specs.Chains as chain
-use Rattle.camp_history.proofs.Versioned.{Compared, compared_start, compared_step, compared_end, compared_other_end, same_next, seat_begins, begins_either, begins_asked}
+use Rattle.camp_history.proofs.Versioned.{Compared, compared_start, compared_step, compared_end, compared_other_end, same_next, seat_begins, begins_either, begins_asked, left_first}
 use Rattle.camp_history.proofs.heads.Head.compare.Goals as goal
 
 pub loop-mark-init : goal.loop-mark-init
@@ -13,7 +13,7 @@ loop-mark-init g c =
     let left : c.marks_from-marks.result ≡ drop from a.marks = c.marks_from-marks.ensures in
     let others : c.marks_from-others.result ≡ drop from b.marks = c.marks_from-others.ensures in
     record {
-      compared = subst (λ list. Compared a.marks b.marks list c.marks_from-others.result) (sym left) (subst (λ list. Compared a.marks b.marks (drop from a.marks) list) (sym others) start);
+      compared = rw (left, others) start;
       stored = All-same Stored c.marks_from-marks.result (drop from a.marks) left (All-drop Stored from a.marks c.requires.seats.0.stored);
       others_stored = All-same Stored c.marks_from-others.result (drop from b.marks) others (All-drop Stored from b.marks c.requires.seats.1.stored);
     }
@@ -25,17 +25,12 @@ agrees-requires g c =
     let b = c.args.b.now in
     let mark = c.in-Some.mark.now in
     let other = c.in-Some-next.other.now in
-    let left = c.next.new.self in
-    let others = c.next-in-Some.new.self in
     let Stored : Mark g.row.State-Call.Denot → Type 0 = λ mark. Shows c.args.self.now.store mark.call in
-    let first : c.loop-mark.marks ≡ mark ∷ left = c.in-Some.ensures in
-    let second : c.loop-mark.others ≡ other ∷ others = c.in-Some-next.ensures in
-    let here : Compared a.marks b.marks (mark ∷ left) (other ∷ others) = rw (← first, ← second) past.compared in
-    let entry = same_next a.known.ahead a.marks b.marks left others mark other (seat_begins a c.is_whole.ensures.places c.is_whole.ensures.sound)
-    (subst (λ ahead. chain.IsBeginning (entries_of b) ahead) (sym c.requires.chain) (seat_begins b c.is_whole-2.ensures.places c.is_whole-2.ensures.sound)) here in
+    let entry = same_next a.known.ahead a.marks b.marks _ _ _ _ mark other c.in-Some.ensures c.in-Some-next.ensures (seat_begins a c.is_whole.ensures.places c.is_whole.ensures.sound)
+    (subst (λ ahead. chain.IsBeginning (entries_of b) ahead) (sym c.requires.chain) (seat_begins b c.is_whole-2.ensures.places c.is_whole-2.ensures.sound)) past.compared in
     let store : c.self.inside.calls ≡ c.args.self.now.store = ap (λ head. head.store) c.self.view_is in
-    let one : Shows c.args.self.now.store mark.call = All-same Stored (mark ∷ left) c.loop-mark.marks (sym first) past.stored 0 mark (omega arith) in
-    let two : Shows c.args.self.now.store other.call = All-same Stored (other ∷ others) c.loop-mark.others (sym second) past.others_stored 0 other (omega arith) in
+    let one : Shows c.args.self.now.store mark.call = left_first Stored _ _ mark c.in-Some.ensures past.stored in
+    let two : Shows c.args.self.now.store other.call = left_first Stored _ _ other c.in-Some-next.ensures past.others_stored in
     (rw store one, rw store two, ap (λ entry. entry.place) entry)
 
 pub loop-mark-preserved : goal.loop-mark-preserved
@@ -45,18 +40,13 @@ loop-mark-preserved g c =
     let b = c.args.b.now in
     let mark = c.in-Some.mark.now in
     let other = c.in-Some-next.other.now in
-    let left = c.next.new.self in
-    let others = c.next-in-Some.new.self in
     let Stored : Mark g.row.State-Call.Denot → Type 0 = λ mark. Shows c.args.self.now.store mark.call in
-    let first : c.loop-mark.marks ≡ mark ∷ left = c.in-Some.ensures in
-    let second : c.loop-mark.others ≡ other ∷ others = c.in-Some-next.ensures in
-    let here : Compared a.marks b.marks (mark ∷ left) (other ∷ others) = rw (← first, ← second) past.compared in
-    let entry = same_next a.known.ahead a.marks b.marks left others mark other (seat_begins a c.is_whole.ensures.places c.is_whole.ensures.sound)
-    (subst (λ ahead. chain.IsBeginning (entries_of b) ahead) (sym c.requires.chain) (seat_begins b c.is_whole-2.ensures.places c.is_whole-2.ensures.sound)) here in
+    let entry = same_next a.known.ahead a.marks b.marks _ _ _ _ mark other c.in-Some.ensures c.in-Some-next.ensures (seat_begins a c.is_whole.ensures.places c.is_whole.ensures.sound)
+    (subst (λ ahead. chain.IsBeginning (entries_of b) ahead) (sym c.requires.chain) (seat_begins b c.is_whole-2.ensures.places c.is_whole-2.ensures.sound)) past.compared in
     record {
-      compared = compared_step a.marks b.marks left others mark other (λ k. (entry k, c.agrees.ensures k)) here;
-      stored = All-rest Stored mark left c.loop-mark.marks first past.stored;
-      others_stored = All-rest Stored other others c.loop-mark.others second past.others_stored;
+      compared = compared_step a.marks b.marks _ _ _ _ mark other c.in-Some.ensures c.in-Some-next.ensures (λ k. (entry k, c.agrees.ensures k)) past.compared;
+      stored = All-rest Stored _ _ _ c.in-Some.ensures past.stored;
+      others_stored = All-rest Stored _ _ _ c.in-Some-next.ensures past.others_stored;
     }
 
 pub returns-in_default-next-clause-b_shorter : goal.returns-in_default-next-clause-b_shorter

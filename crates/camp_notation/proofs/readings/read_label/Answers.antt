@@ -1,6 +1,0 @@
-use Rattle.camp_notation.proofs.Common.{string_bytes}
-use Rattle.camp_notation.proofs.ReadLemmas.{written_so}
-use Rattle.camp_notation.proofs.readings.read_label.Goals as goal
-
-pub returns : goal.returns
-returns c = record { text = written_so string_bytes c.label_text.result c.in_ok-expect_written.ensures c.label_text.ensures.exact }
