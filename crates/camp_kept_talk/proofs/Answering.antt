@@ -1,6 +1,6 @@
 -- Commands that are answered one after the other, and the bytes of their answers.
 use Rattle.std.proofs.Common.{◌≡◌, ◌⊎◌, inl, inr, ℕ, Bool, true, false, List, [], ◌∷◌, ◌++◌, Option, None, Some, OnSome, refl, sym, ◌∙◌, ap, subst, append_assoc, append-nil, flat_map}
-use Rattle.std.proofs.KnownBytes.{Appends-trans, Consumes-trans}
+use Rattle.std.proofs.KnownBytes.{Appends-kept, Appends-trans, Consumes-trans}
 use Rattle.std.proofs.lemmas.Grind.{flat_map-append}
 use Rattle.std.proofs.lemmas.List.{map-append}
 use Rattle.std.specs.Io.KnownBytes.{Appends, Consumes, IsAtEnd, Keeps, append_known}
@@ -27,12 +27,6 @@ follow-append first middle last (said ∷ one) two (next, command, answered, fol
 
 pub appends_some : (old new : Option (List ℕ)) (text : List ℕ) → Appends old new text → AppendsSome old new text
 appends_some old new text writes = (text, [], sym (append-nil text), writes)
-
-pub appends_kept : (old now after : Option (List ℕ)) (text : List ℕ) → Appends old now text → Keeps now after → Appends old after text
-appends_kept None now after text writes keeps = tt
-appends_kept (Some x) None after text writes keeps = absurd writes
-appends_kept (Some x) (Some y) None text writes keeps = absurd keeps
-appends_kept (Some x) (Some y) (Some z) text writes keeps = keeps ∙ writes
 
 -- bytes that are held back are written, and no more
 pub keeps_behind : (now after : Option (List ℕ)) (held more : List ℕ) → more ≡ held → Appends now after more → Keeps (append_known now held) after
@@ -94,7 +88,7 @@ holds_kept a b old now after first last holds keeps = record {
   said = holds.said;
   follow = holds.follow;
   reads = holds.reads;
-  writes = appends_kept old now after (flat_map (λ (e : Exchange). e.answer) holds.said) holds.writes keeps;
+  writes = Appends-kept old now after (flat_map (λ (e : Exchange). e.answer) holds.said) holds.writes keeps;
 }
 
 -- whatever was written

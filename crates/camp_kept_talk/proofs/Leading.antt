@@ -34,9 +34,6 @@ at history lines cause = record { history = history; lines = lines; cause = caus
 reads_none : (b : Option (List ℕ)) → ReadsWithin b b
 reads_none b = record { some = []; reads = Consumes-nil b; is = tt }
 
-same_calls : (a b : Entries) → a ≡ b → calls_of a ≡ calls_of b
-same_calls a b same = ap (λ (h : Entries). calls_of h) same
-
 module _ {D : Type 0} (seen : D → List ℕ) (may_leave : D → List ℕ → Type 0) (a old now : Option (List ℕ)) (first : Standing) (kept : Kept D) where
   -- at first
   pub begins : (lines : ℕ) (cause : Account) → Holds seen may_leave (calls_in kept) kept → Goes seen may_leave a a now now [] (at kept.book lines cause) (at kept.book lines cause) kept

@@ -1,7 +1,5 @@
--- What a turn reads, and what it writes.
-use Rattle.std.proofs.Common.{◌≡◌, ℕ, Bool, true, List, Option, Result, Ok, Err, IfOk, sym, subst}
-use Rattle.std.specs.Io.KnownBytes.{Appends}
-use Rattle.camp_kept_talk.specs.declared.faults.StoredFault.{StoredFault}
+-- What a turn reads.
+use Rattle.std.proofs.Common.{ℕ, Bool, List, Option, Result, Ok, Err}
 use Rattle.camp_talk.specs.Answers.{Standing}
 use Rattle.camp_talk.specs.Talks.{ReadsWithin, Turns}
 use Rattle.camp_talk.specs.declared.faults.TalkFault.{TalkFault}
@@ -23,9 +21,3 @@ turns_within a b old now before after (Err (talk.Write error)) turns = record {
   is = command_left a b turns.whole turns.said.command turns.reads;
 }
 turns_within a b old now before after (Err talk.Internal) turns = record { some = turns.none.some; reads = turns.none.reads; is = turns.none.is }
-
--- what was written stays, where a turn goes on
-pub appends_then : (before middle after : Option (List ℕ)) (held : List ℕ) (result : Result Bool StoredFault) → Appends before middle held
-    → IfOk result (λ more. more ≡ true → after ≡ middle) → IfOk result (λ more. more ≡ true → Appends before after held)
-appends_then before middle after held (Ok more) writes same = λ on. subst (λ (o : Option (List ℕ)). Appends before o held) (sym (same on)) writes
-appends_then before middle after held (Err why) writes same = tt

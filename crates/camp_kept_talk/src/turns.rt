@@ -69,10 +69,8 @@ pub fn stored_turn<D: Disk, R: BufRead, W: Write>(
     ensures settles { is_ready ≡ false → IfOk result (λ more. more ≡ true → Appends (W.contents writer.old) (W.contents writer.new) held.old.answers.items) }
     ensures clean { D.Disk.is_clean (disk_in kept.new) ≡ D.Disk.is_clean (disk_in kept.old) }
 {
-    match settle_first(alloc, kept, held, is_ready, writer) {
-        Ok(()) => turn_on(alloc, kept, held, reader, writer),
-        Err(why) => Err(why),
-    }
+    settle_first(alloc, kept, held, is_ready, writer)?;
+    turn_on(alloc, kept, held, reader, writer)
 }
 
 // Settles what is held back, where no command stands ready or much waits.
@@ -109,6 +107,7 @@ fn may_wait<D: Disk>(kept: &Kept<D>, held: &HeldBack, is_ready: bool) -> bool
 }
 
 // Reads a command and asks it. Where there is no more behind it, all is settled.
+#[tactic(auto, using(crate::proofs::Writing::turns_within))]
 fn turn_on<D: Disk, R: BufRead, W: Write>(
     alloc: Global,
     kept: &mut Kept<D>,

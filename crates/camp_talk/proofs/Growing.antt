@@ -1,19 +1,13 @@
 -- What answers commands and requests takes no call back.
-use Rattle.std.proofs.Common.{◌≡◌, ◌⊎◌, inl, inr, ℕ, Bool, true, List, [], ◌∷◌, Option, Result, Ok, Err, sym, subst}
+use Rattle.camp_talk.proofs.Words.{◌≡◌, ◌⊎◌, inl, inr, ℕ, Bool, true, List, [], ◌∷◌, Option, Result, Ok, Err, sym, subst, LineFault, Answers, Standing, Tells, TellsWant, asked_by, Entries, Exchange, Follow, Asked}
 use Rattle.camp_object.specs.Histories.{IsBeginning}
 use Rattle.camp_object.proofs.Beginnings.{begins_through, begins_self}
-use Rattle.camp_script.specs.declared.faults.LineFault.{LineFault}
 use Rattle.camp_talk.specs.Accounts.{no_account}
-use Rattle.camp_talk.specs.Answers.{Answers, Standing, Tells, TellsWant}
-use Rattle.camp_talk.specs.Asking.{asked_by}
-use Rattle.camp_talk.specs.Entries.{Entries}
 use Rattle.camp_talk.specs.Frames.{Serves}
 use Rattle.camp_talk.specs.Requests.{AnswersRequest, AnswersSome, AsksOneMore}
-use Rattle.camp_talk.specs.Talks.{Exchange, Follow}
 use Rattle.camp_talk.specs.declared.faults.TalkFault.TheVariants as talk
 use Rattle.camp_talk.specs.declared.frames.FrameFault.{FrameFault}
 use Rattle.camp_talk.specs.declared.frames.FrameFault.TheVariants as frame
-use Rattle.camp_talk.specs.declared.questions.Asked.{Asked}
 use Rattle.camp_talk.specs.declared.questions.Asked.TheVariants as asked
 
 front_same : (before now : Entries) → now ≡ before → IsBeginning before now

@@ -1,5 +1,5 @@
 -- Commands that are loaded, one behind another.
-use Rattle.camp_talk.proofs.Words.{◌≡◌, ℕ, ◌+◌, Bool, true, false, List, [], ◌∷◌, ◌++◌, Option, Result, Ok, Err, Vec, refl, sym, ap, subst, ◌∙◌, append-nil, flat_map, Consumes, Consumes-nil, Consumes-trans, flat_map-append, All-append, All-cons, All-nil, Call, LineFault, Answers, Standing, Tells, asked_by, Entries, Exchange, Asked, DoesOne, Hears, LoadsOne, Done, Fails, ReadsCommand, TellsSuccess, Wants, tells_failure}
+use Rattle.camp_talk.proofs.Words.{◌≡◌, ℕ, ◌+◌, Bool, true, false, List, [], ◌∷◌, ◌++◌, Option, Result, Ok, Err, Vec, refl, sym, ap, subst, ◌∙◌, append-nil, flat_map, Consumes, Consumes-nil, Consumes-trans, flat_map-append, All-append, All-cons, All-nil, LineFault, Answers, Standing, Tells, asked_by, Entries, Exchange, Asked, DoesOne, Hears, LoadsOne, Done, Fails, ReadsCommand, TellsSuccess, Wants, tells_failure}
 use Rattle.camp_talk.specs.declared.questions.Asked.TheVariants as asked
 use Rattle.camp_talk.proofs.NotDone.{by_reply}
 use Rattle.camp_talk.proofs.Turns.{answered, one_more}

@@ -1,5 +1,5 @@
 -- What is read of a command, part behind part.
-use Rattle.camp_talk.proofs.Words.{◌≡◌, ◌≢◌, ℕ, ◌-◌, ◌≤◌, ◌<◌, Bool, true, false, cond, nat_lt, List, [], ◌∷◌, ◌++◌, length, map, take, drop, All, Consumes, Consumes-trans, drop-append_seam, take-append_seam, flat_map-append, lines_of, as_read, lines_in, Option, None, Some, refl, sym, ap, subst, ◌∙◌, append_assoc, append-nil, arith, length-append, map-append, All-append, All-cons, All-drop, All-head, All-nil, All-tail, All-take, CommandLines, Ends, GoesOn, HasRead, IsLine, ReadsLine, ReadsLines, ReadsNext, ended, with_last}
+use Rattle.camp_talk.proofs.Words.{◌≡◌, ◌≢◌, ℕ, ◌-◌, ◌<◌, Bool, true, false, cond, nat_lt, List, [], ◌∷◌, ◌++◌, length, map, take, drop, All, Consumes, Consumes-trans, drop-append_seam, take-append_seam, flat_map-append, lines_of, as_read, lines_in, Option, None, Some, refl, sym, ap, subst, ◌∙◌, append_assoc, append-nil, arith, length-append, map-append, All-append, All-cons, All-drop, All-head, All-nil, All-tail, All-take, CommandLines, Ends, GoesOn, HasRead, IsLine, ReadsLine, ReadsLines, ReadsNext, ended, with_last}
 use Rattle.camp_talk.proofs.Cuts.{lines-ended, lines_read}
 
 -- ---- lines as they are read
@@ -120,23 +120,3 @@ module _ (a b : Option (List ℕ)) (old new given : List ℕ) (x y : CommandLine
 -- what had no LF
 pub last_is : (a b : Option (List ℕ)) (old new : List ℕ) (reads : ReadsLine a b false old new) → drop (length old) new ≡ reads.0
 last_is a b old new (last, reads, ends) = ap (drop (length old)) reads.grows ∙ drop-append_seam old last
-
--- there was no more
-pub none_on : (a b : Option (List ℕ)) (old new : List ℕ) (x : CommandLines) → ReadsLine a b false old new → length new ≤ length old → ReadsNext a b false old new x x
-none_on a b old new x ([], reads, ends) none =
-    ([], reads, λ first rest has. subst (HasRead x first) (sym (append-nil rest)) has, ends)
-none_on a b old new x (byte ∷ last, reads, ends) none =
-    absurd (omega (arith, none, ap (λ (bytes : List ℕ). length bytes) reads.grows, length-append old (byte ∷ last)))
-
--- ---- what was read is longer
-
-pub line_longer : (a b : Option (List ℕ)) (old new line : List ℕ) → ReadsLines a b old new (line ∷ []) [] → length old < length new
-line_longer a b old new line reads =
-    omega (
-      arith,
-      ap (λ (bytes : List ℕ). length bytes) reads.grows,
-      length-append old (ended (line ∷ []) ++ []),
-      length-append (ended (line ∷ [])) [],
-      length-append (line ++ 10 ∷ []) [],
-      length-append line (10 ∷ []),
-    )

@@ -1,5 +1,5 @@
 -- The first words of a question say all that it asks, where it lists no names.
-use Rattle.camp_talk.proofs.Words.{◌≡◌, false, ℕ, List, [], ◌∷◌, take, refl, sym, ap, subst, ◌∙◌, Gives, ScriptFault, cond-false, Option, Result, bytes_eq, codes, question_of, short_question}
+use Rattle.camp_talk.proofs.Words.{◌≡◌, false, ℕ, List, ◌∷◌, take, refl, sym, ap, subst, ◌∙◌, Gives, ScriptFault, cond-false, Option, Result, bytes_eq, codes, question_of, short_question}
 use Rattle.camp_talk.specs.declared.questions.Question.{Question}
 
 six_are_enough : (word : List ℕ) (words : List (List ℕ)) → short_question word (take 6 words) ≡ short_question word words

@@ -1,11 +1,10 @@
 -- What a view tells, command by command.
-use Rattle.camp_talk.proofs.Words.{◌≡◌, ℕ, true, false, List, [], ◌∷◌, ◌++◌, length, Some, ap, append-nil, append_assoc, flat_map, flat_map-append, refl, subst, sym, take, take-append_seam, ◌∙◌, Exchange, IsCommand, IsNotWriting, IsReading}
+use Rattle.camp_talk.proofs.Words.{◌≡◌, ℕ, true, false, List, [], ◌∷◌, ◌++◌, length, Some, ap, append-nil, append_assoc, flat_map, flat_map-append, refl, subst, sym, take, take-append_seam, ◌∙◌, Call, Exchange, IsCommand, IsNotWriting, IsReading}
 use Rattle.camp_talk.specs.Inside.Viewing.{HoldsView, SeesTurn}
 use Rattle.camp_talk.specs.Views.{AnswersView, Sees, SeesAll}
 use Rattle.camp_talk.specs.declared.faults.TalkFault.{TalkFault}
 use Rattle.camp_talk.specs.declared.faults.TalkFault.TheVariants.{Internal}
 use Rattle.camp_call.specs.Calls.{is_writing}
-use Rattle.camp_call.specs.declared.calls.Call.{Call}
 use Rattle.camp_object.specs.declared.objects.Decided.TheVariants.{Next}
 use Rattle.camp_repo.specs.ObjectLaws.{repository_is_lawful}
 use Rattle.camp_repo.specs.Objects.{next_of}

@@ -141,11 +141,6 @@ no_branch_text branch = codes "There is no branch " ++ branch ++ codes ".\n"
 abbrev pub absent_text : Contents → List ℕ → List ℕ
 absent_text state branch = if is_some (catches_of state.branches branch) then [] else no_branch_text branch
 
--- that there is one, where there is one
-abbrev pub there_text : Contents → List ℕ → List ℕ
-there_text state branch =
-    if is_some (catches_of state.branches branch) then codes "There is a branch " ++ branch ++ codes ".\n" else []
-
 -- the branch TO, where it is another one
 abbrev pub other_target : Option (Place × List ℕ) → Option (List ℕ) → Option (List ℕ)
 other_target None to = to
@@ -157,9 +152,10 @@ abbrev pub absent_sides : Contents → Option (Place × List ℕ) → Option (Li
 absent_sides state place to =
     option_map_or (λ side. absent_text state side.1) place [] ++ option_map_or (absent_text state) (other_target place to) []
 
--- that the branch which a call would make is there
+-- that the branch which a call would make is there, where it is
 abbrev pub new_text : Contents → Asked → List ℕ
-new_text state (asked.Call (call.Branch new from)) = there_text state new
+new_text state (asked.Call (call.Branch new from)) =
+    if is_some (catches_of state.branches new) then codes "There is a branch " ++ new ++ codes ".\n" else []
 new_text state other = []
 
 -- which branches have the patch that a call would record

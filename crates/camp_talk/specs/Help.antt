@@ -67,9 +67,9 @@ details topic.Along = page (
 details topic.Show = page (
     codes "Its catches, a line for each: [PATCH], or (EFFECT, CONFLICTS, IDENTITY) in a conflict." ∷
     codes "Then what they change, as a script has it." ∷ [])
-details topic.Open = page (codes "A patch recorded on top that touches the place settles a conflict." ∷ [])
+details topic.Open = page (codes "A conflict is settled where patches on top change its lines, at each of its places." ∷ [])
 details topic.Side = page (
-    codes "They can be recorded as a group: between record BRANCH NAME group and done." ∷ [])
+    codes "1 to 64 of them can be recorded: between record BRANCH NAME group and done." ∷ [])
 details topic.Marks = page (
     codes "Lines behind =. At each place conflict SIDES LINES, and what stands there; then of each" ∷
     codes "patch side NAME LINES, and behind + what it would put there." ∷ [])
@@ -81,7 +81,7 @@ details topic.WhatIf = page (codes "If it would be accepted: the conflicts and t
 details topic.Why = page (
     codes "Its answer, and its line behind >. Of a refusal what that says, what stands against the command," ∷
     codes "and what can be done; of a fault what is to be seen in the line, and the rule." ∷ [])
-details topic.History = page (codes "Of each its number, its seat, which is 0, and its words." ∷ [])
+details topic.History = page (codes "Of each its number, its seat, which is 0, and its words; of a body and a group the counts." ∷ [])
 details other = []
 
 -- a command as one writes it

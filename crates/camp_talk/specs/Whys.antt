@@ -3,7 +3,6 @@ use Rattle.std.specs.Prelude.{ℕ, ◌-◌, Bool, true, false, not, ◌||◌, �
 use Rattle.std.specs.Char.{is_ascii_whitespace}
 use Rattle.std.specs.Fmt.{decimal}
 use Rattle.std.specs.List.{suffix_len}
-use Rattle.camp_call.specs.declared.calls.Call.{Call}
 use Rattle.camp_call.specs.declared.replies.Refusal.TheVariants as refusal
 use Rattle.camp_repo.specs.States.{Contents}
 use Rattle.camp_script.specs.Lines.{lines_of, words_of}
@@ -33,7 +32,6 @@ use Rattle.camp_why.specs.declared.misfits.Misfit.{Misfit}
 use Rattle.camp_why.specs.declared.misfits.Misfit.TheVariants as misfit
 use Rattle.camp_why.specs.declared.stops.Hindrance.{Hindrance}
 use Rattle.camp_why.specs.declared.stops.Hindrance.TheVariants as hindrance
-use Rattle.camp_why.specs.declared.stops.Stop.{Stop}
 
 -- whether an answer is a fault or a refusal
 abbrev pub is_failure : List ℕ → Bool
@@ -207,11 +205,7 @@ hindrance_text (hindrance.TooLong count) =
 abbrev pub change_text : ℕ → List ℕ → List ℕ
 change_text change path = codes "Change " ++ decimal change ++ codes ", file " ++ path
 
--- where a record stops, and why
-abbrev pub stop_text : Stop → List ℕ
-stop_text stop = change_text stop.change stop.path ++ hindrance_text stop.why
-
--- what stands against a command
+-- what stands against a command; of a record that stops, where and why
 abbrev pub cause_text : Cause → List ℕ
 cause_text (cause.FullRepository count) =
     codes "There are " ++ decimal count ++ codes " branches, and 256 is the most.\n"
@@ -222,22 +216,17 @@ cause_text (cause.FullWithPull has more) =
 cause_text (cause.LongSide change path old new) =
     change_text change path
     ++ two_numbers (codes ": the edit has ") old (codes " old lines and ") new (codes " new ones, and 65535 is the most of each.\n")
-cause_text (cause.Stops stop) = stop_text stop
+cause_text (cause.Stops stop) = change_text stop.change stop.path ++ hindrance_text stop.why
 
 -- the same, where its refusal does not say it all
 abbrev pub found_text : Option Cause → List ℕ
 found_text None = []
 found_text (Some found) = cause_text found
 
--- why a call is refused at a state, by the reason that its answer tells
-abbrev pub cause_for : Contents → Call → Reason → Option Cause
-cause_for state call reason.TooLarge = explained state call refusal.TooLarge
-cause_for state call reason.DoesNotApply = explained state call refusal.DoesNotApply
-cause_for state call other = None
-
--- the same of a command; a question has no more than its refusal says
+-- why a command is refused at a state, by the reason that its answer tells; a question has no more than its refusal says
 abbrev pub cause_found : Contents → Asked → Reason → Option Cause
-cause_found state (asked.Call call) reason = cause_for state call reason
+cause_found state (asked.Call call) reason.TooLarge = explained state call refusal.TooLarge
+cause_found state (asked.Call call) reason.DoesNotApply = explained state call refusal.DoesNotApply
 cause_found state other reason = None
 
 -- the reason of a refusal, by the words of its answer: behind `refused` stands the number
@@ -268,15 +257,10 @@ limit_cure (cause.FullWithPull has more) = page (codes "Pull fewer patches, or t
 limit_cure (cause.LongSide change path old new) = page (codes "Cut the edit in parts." ∷ [])
 limit_cure (cause.Stops stop) = page (codes "Put some of the lines into another file." ∷ [])
 
--- the same, by the cause that was found
-abbrev pub found_cure : Option Cause → List ℕ
-found_cure None = cure reason.TooLarge
-found_cure (Some found) = limit_cure found
-
--- what can be done about a refusal of a command
+-- what can be done about a refusal of a command, by the cause that was found
 abbrev pub cure_at : Contents → Asked → Option Cause → Reason → List ℕ
 cure_at state asked found reason.PatchExists = record_cure state asked
-cure_at state asked found reason.TooLarge = found_cure found
+cure_at state asked (Some found) reason.TooLarge = limit_cure found
 cure_at state asked found reason.Depends = depends_cure asked
 cure_at state asked found other = cure other
 
@@ -315,16 +299,11 @@ cut_off number kind line = if number == 1 && may_record kind line then left_by l
 abbrev pub comes_of_another : Awaited → FaultKind → List ℕ → Bool
 comes_of_another awaited kind line = may_be awaited line && is_no_command kind line
 
--- what is kept of a command with a fault of its own, by which lines may follow it
-abbrev pub account_of : LineFault → List (List ℕ) → List ℕ → Awaited → Account
-account_of fault lines answer awaited = record {
-  told = fault_lines fault.kind (line_at fault.line lines) answer awaited;
-  awaited = awaited;
-}
-
--- what is kept of a command with a fault of its own
+-- what is kept of a command with a fault of its own, and which lines may follow it
 abbrev pub fault_account : LineFault → List (List ℕ) → List ℕ → Account
-fault_account fault lines answer = account_of fault lines answer (cut_off fault.line fault.kind (first_of lines))
+fault_account fault lines answer =
+    let awaited = cut_off fault.line fault.kind (first_of lines) in
+    record { told = fault_lines fault.kind (line_at fault.line lines) answer awaited; awaited = awaited }
 
 -- what is kept of a command with a fault; where that comes of a fault before it, the lines that tell of that one stay
 abbrev pub fault_cause : Account → LineFault → List (List ℕ) → List ℕ → Account

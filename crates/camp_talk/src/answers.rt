@@ -24,6 +24,7 @@ use camp_repo::{Book, Call, Object, Reply, State};
 use camp_script::{FaultKind, ScriptFault, answer_text, write_text};
 use itoa::Buffer;
 use std::alloc::{AllocError, Global};
+use std::io;
 use std::io::Write;
 
 /// The text of the answer to a command, by the number of the lines before it. Where it is not done, `cause`
@@ -147,22 +148,18 @@ pub(crate) fn fault_text(
     joined(alloc, &[b"fault ", line, b" ", kind, b"\n"])
 }
 
-// Writes an answer and flushes it. Of none, nothing is flushed.
-fn write_answer<W: Write>(writer: &mut W, text: &[u8]) -> Result<(), TalkFault>
-    ensures { MatchResult result
+/// Writes an answer and flushes it. Of none, nothing is flushed. Where the writer fails, a beginning of it is written.
+pub fn write_answer<W: Write>(writer: &mut W, text: &[u8]) -> io::Result<()>
+    ensures writes { MatchResult result
         (λ _. Appends (W.contents writer.old) (W.contents writer.new) text.now)
-        (λ why. IsWriting why × AppendsSome (W.contents writer.old) (W.contents writer.new) text.now) }
+        (λ _. AppendsSome (W.contents writer.old) (W.contents writer.new) text.now) }
 {
     if text.is_empty() {
         return Ok(());
     }
-    if let Err(error) = write_text(writer, text) {
-        return Err(TalkFault::Write(error));
-    }
-    match writer.flush() {
-        Ok(()) => Ok(()),
-        Err(error) => Err(TalkFault::Write(error)),
-    }
+    write_text(writer, text)?;
+    writer.flush()?;
+    Ok(())
 }
 
 /// Writes what answers a command: a text, or that there was no memory for it.
@@ -174,8 +171,17 @@ pub(crate) fn write_said<W: Write>(
         (λ _. Appends (W.contents writer.old) (W.contents writer.new) (said_text said.now))
         (λ why. IsWriting why × AppendsSome (W.contents writer.old) (W.contents writer.new) (said_text said.now)) }
 {
-    match said {
-        Ok(text) => write_answer(writer, text),
-        Err(_) => write_answer(writer, b"memory\n"),
+    match write_answer(writer, said_text(said)) {
+        Ok(()) => Ok(()),
+        Err(error) => Err(TalkFault::Write(error)),
     }
+}
+
+fn said_text(said: &Result<Vec<u8>, AllocError>) -> &[u8]
+    ensures { result.now ≡ said_text said.now }
+{
+    let Ok(text) = said else {
+        return b"memory\n";
+    };
+    text
 }

@@ -42,10 +42,9 @@ pub(crate) fn read_asked(
     if is_why(word) {
         return read_why(words);
     }
-    match read_question(alloc, word, words) {
-        Ok(Some(question)) => Ok(Asked::Question(question)),
-        Ok(None) => read_call(script),
-        Err(fault) => Err(fault),
+    match read_question(alloc, word, words)? {
+        Some(question) => Ok(Asked::Question(question)),
+        None => read_call(script),
     }
 }
 

@@ -1,5 +1,5 @@
 //! Requests in frames: each stands behind a line with the number of its bytes, and so does its answer.
-ghost use Rattle.std.specs.Prelude.{◌≡◌, ◌+◌, ◌-◌, ◌^◌, ◌<◌, true, Some, IfOk};
+ghost use Rattle.std.specs.Prelude.{◌≡◌, ◌-◌, ◌^◌, Some};
 ghost use Rattle.camp_talk.specs.Frames.{Serves, frame_status, frame_words};
 ghost use Rattle.camp_talk.specs.declared.frames.FrameFault.TheVariants as frame;
 

@@ -34,6 +34,7 @@ mod topics;
 mod views;
 
 pub use accounts::Account;
+pub use answers::write_answer;
 pub use camp_repo::{Book, State};
 pub use dialogues::{Conversation, Dialogue, talk};
 pub use faults::{LoadFault, TalkFault};

@@ -111,18 +111,14 @@ fn plain_question(word: &[u8], words: &[&[u8]]) -> Result<Option<Question>, Scri
     Ok(None)
 }
 
-fn branch_and_names(alloc: Global, mut words: Words<'_>) -> Result<(Name, Names), ScriptFault>
+fn branch_and_names(alloc: Global, words: Words<'_>) -> Result<(Name, Names), ScriptFault>
     ensures { Gives result (branch_and_names words.entry) }
 {
-    let Some(branch) = words.next() else {
-        return Err(at_line(1, FaultKind::WrongNumberOfWords));
-    };
-    if words.again().next().is_none() {
+    let mut counted = words.again();
+    if counted.next().is_none() || counted.next().is_none() {
         return Err(at_line(1, FaultKind::WrongNumberOfWords));
     }
-    let branch = name_at(1, branch)?;
-    let names = names_at(alloc, 1, words)?;
-    Ok((branch, names))
+    branch_and_any_names(alloc, words)
 }
 
 fn branch_and_any_names(alloc: Global, mut words: Words<'_>) -> Result<(Name, Names), ScriptFault>

@@ -12,6 +12,7 @@ use std::alloc::Global;
 /// it is. A body or a group that is not ended has its fault; an empty request has an empty answer; several commands
 /// have their answers one behind another. Lines count from the beginning of the request. After a fault the book
 /// holds what the commands before it did; a command whose answer is not there whole may have been done.
+#[tactic(auto, using(crate::proofs::Turns::begins_so, crate::proofs::Turns::holds_on))]
 pub fn answer_request(
     alloc: Global,
     book: &mut Book<State>,

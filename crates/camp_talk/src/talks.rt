@@ -72,11 +72,7 @@ pub fn turn<R: BufRead, W: Write>(
     ensures counts { IfOk result (λ more. more ≡ true → HasRisen lines.old lines.new) }
 {
     let heard = hear(alloc, book, *lines, cause, reader)?;
-    match write_said(writer, &heard.said) {
-        Ok(()) => {
-            *lines = heard.lines;
-            Ok(heard.is_whole)
-        }
-        Err(why) => Err(why),
-    }
+    write_said(writer, &heard.said)?;
+    *lines = heard.lines;
+    Ok(heard.is_whole)
 }

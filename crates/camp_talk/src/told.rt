@@ -1,5 +1,5 @@
 //! What answers to questions have in common.
-ghost use Rattle.std.specs.Prelude.{◌≡◌, ◌++◌, IfOk, MatchResult, OnOk};
+ghost use Rattle.std.specs.Prelude.{◌≡◌, ◌++◌, IfOk, MatchResult, OnOk, string_bytes};
 ghost use Rattle.std.specs.List.{flat_map};
 ghost use Rattle.camp_script.specs.Texts.{reply_text};
 ghost use Rattle.camp_questions.specs.declared.faults.Unanswered.TheVariants as fault;
@@ -32,6 +32,13 @@ pub(crate) fn counted_text(
     ensures { IfOk result (λ whole. MatchResult text (λ text. whole.items ≡ counted word.now text.items) (λ _. ⊥)) }
 {
     counted(alloc, word, &text?)
+}
+
+/// The bytes of words that were made, unless there was no memory for them.
+pub(crate) fn made(words: Result<String, AllocError>) -> Result<Vec<u8>, AllocError>
+    ensures { IfOk result (λ text. MatchResult words (λ words. text.items ≡ string_bytes words) (λ _. ⊥)) }
+{
+    Ok(words?.into_bytes())
 }
 
 /// Parts, one behind the other.

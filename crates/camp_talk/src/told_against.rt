@@ -1,7 +1,7 @@
 //! What stands against a command that is refused: the branches that it names, what is there, and what is not.
 ghost use Rattle.std.specs.List.{flat_map};
 ghost use Rattle.std.specs.Prelude.{◌≡◌, ◌++◌, IfOk, OnOk, Some, codes, take};
-ghost use Rattle.camp_talk.specs.Against.{about, absent_sides, absent_text, branches_line, depends_cure, had_text, holders, holders_line, holds, lack_line, lack_text, lacked_text, lacks, more_names, most_names, names_line, new_text, nothing_text, other_target, place_word, record_cure, recorded_text, sides_text, target, there_text};
+ghost use Rattle.camp_talk.specs.Against.{about, absent_sides, absent_text, branches_line, depends_cure, had_text, holders, holders_line, holds, lack_line, lack_text, lacked_text, lacks, more_names, most_names, names_line, new_text, nothing_text, other_target, place_word, record_cure, recorded_text, sides_text, target};
 
 use crate::questions::{Asked, Question, Reason};
 use crate::told::{append_parts, both, joined};
@@ -269,23 +269,16 @@ fn append_absent(text: &mut Vec<u8>, state: &State, branch: &Name) -> Result<(),
     append_parts(text, &[b"There is no branch ", branch.bytes(), b".\n"])
 }
 
+// That the branch which a call would make is there, where it is.
 fn new_text(alloc: Global, state: &State, asked: &Asked) -> Result<Vec<u8>, AllocError>
     ensures { IfOk result (λ text. text.items ≡ new_text state.now asked.now) }
 {
     match asked {
-        Asked::Call(Call::Branch { new, .. }) => there_text(alloc, state, new),
+        Asked::Call(Call::Branch { new, .. }) if state.branch(new).is_some() => {
+            joined(alloc, &[b"There is a branch ", new.bytes(), b".\n"])
+        }
         _ => Ok(Vec::new(alloc)),
     }
-}
-
-// That there is a branch of a name, where there is one.
-fn there_text(alloc: Global, state: &State, branch: &Name) -> Result<Vec<u8>, AllocError>
-    ensures { IfOk result (λ text. text.items ≡ there_text state.now branch.now) }
-{
-    if state.branch(branch).is_none() {
-        return Ok(Vec::new(alloc));
-    }
-    joined(alloc, &[b"There is a branch ", branch.bytes(), b".\n"])
 }
 
 // That a branch lacks a patch, and which have it.

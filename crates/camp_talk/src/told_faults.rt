@@ -1,7 +1,7 @@
 //! Why a command with a fault was not done.
 ghost use Rattle.std.specs.Prelude.{◌≡◌, ◌++◌, IfOk, codes, take};
 ghost use Rattle.camp_script.specs.Lines.{lines_of};
-ghost use Rattle.camp_talk.specs.Whys.{account_of, awaited_text, body_rule, comes_of_another, cut_off, cut_text, fault_account, fault_cause, fault_lines, hint_text, is_no_command, line_at, may_record, misnamed_text, most_shown, rule, shown_line, word_text};
+ghost use Rattle.camp_talk.specs.Whys.{awaited_text, body_rule, comes_of_another, cut_off, cut_text, fault_account, fault_cause, fault_lines, hint_text, is_no_command, line_at, may_record, misnamed_text, most_shown, rule, shown_line, word_text};
 
 use crate::Account;
 use crate::asking::first_line;
@@ -34,7 +34,7 @@ pub(crate) fn fault_cause(
     fault_account(alloc, fault, command, answer)
 }
 
-// What is kept of a command with a fault of its own.
+// What is kept of a command with a fault of its own, and which lines may follow it.
 fn fault_account(
     alloc: Global,
     fault: &LineFault,
@@ -44,19 +44,6 @@ fn fault_account(
     ensures { IfOk result (λ cause. cause ≡ fault_account fault.now (lines_of command.now) answer.now) }
 {
     let awaited = cut_off(fault.line, fault.kind, first_line(command));
-    account_of(alloc, fault, command, answer, awaited)
-}
-
-// The same, by which lines may follow it.
-fn account_of(
-    alloc: Global,
-    fault: &LineFault,
-    command: &[u8],
-    answer: &[u8],
-    awaited: Awaited,
-) -> Result<Account, AllocError>
-    ensures { IfOk result (λ cause. cause ≡ account_of fault.now (lines_of command.now) answer.now awaited) }
-{
     let line = line_at(command, fault.line);
     let told = fault_lines(alloc, fault.kind, line, answer, awaited);
     Account::of(told, awaited)

@@ -171,16 +171,18 @@ fn details(topic: Topic) -> &'static str
             "Its catches, a line for each: [PATCH], or (EFFECT, CONFLICTS, IDENTITY) in a conflict.\n\
             Then what they change, as a script has it.\n"
         }
-        Topic::Open => "A patch recorded on top that touches the place settles a conflict.\n",
+        Topic::Open =>
+            "A conflict is settled where patches on top change its lines, at each of its places.\n",
         Topic::Side =>
-            "They can be recorded as a group: between record BRANCH NAME group and done.\n",
+            "1 to 64 of them can be recorded: between record BRANCH NAME group and done.\n",
         Topic::Marks => MARKS,
         Topic::Graph => GRAPH,
         Topic::WhatIf => {
             "If it would be accepted: the conflicts and the files that its branch would have, too.\n"
         }
         Topic::Why => WHY,
-        Topic::History => "Of each its number, its seat, which is 0, and its words.\n",
+        Topic::History =>
+            "Of each its number, its seat, which is 0, and its words; of a body and a group the counts.\n",
         _ => "",
     }
 }

@@ -1,11 +1,10 @@
 //! Why a command was not done.
-ghost use Rattle.std.specs.Prelude.{◌≡◌, ◌++◌, IfOk, Result, codes};
-ghost use Rattle.std.specs.Fmt.{decimal};
+ghost use Rattle.std.specs.Prelude.{◌≡◌, IfOk, Result, codes};
 ghost use Rattle.camp_script.specs.Gives.{Gives};
 ghost use Rattle.camp_script.specs.Lines.{lines_of, words_of};
 ghost use Rattle.camp_script.specs.declared.faults.LineFault.{LineFault as SaidFault};
 ghost use Rattle.camp_talk.specs.Asking.{first_of};
-ghost use Rattle.camp_talk.specs.Whys.{against_text, cause_for, cause_found, cause_text, cause_told, cause_with, change_text, cure_at, ends_text, facts_text, found_cure, found_text, hindrance_text, is_failure, lacks_text, limit_cure, met_text, misfit_text, reason_in, refusal_lines, refusal_told, stop_text, trimmed, two_numbers, why_told};
+ghost use Rattle.camp_talk.specs.Whys.{against_text, cause_found, cause_text, cause_told, cause_with, change_text, cure_at, ends_text, facts_text, found_text, hindrance_text, is_failure, lacks_text, limit_cure, met_text, misfit_text, reason_in, refusal_lines, refusal_told, trimmed, two_numbers, why_told};
 ghost use Rattle.camp_talk.specs.declared.questions.Asked.{Asked as SaidAsked};
 ghost use Rattle.camp_why.specs.declared.misfits.Misfit.TheVariants.{EndsBefore};
 
@@ -13,7 +12,7 @@ use crate::Account;
 use crate::asking::first_line;
 use crate::awaited::Awaited;
 use crate::questions::{Asked, Reason};
-use crate::told::{both, counted, joined};
+use crate::told::{both, counted, joined, made};
 use crate::told_against::{
     depends_cure, record_cure, tell_absent, tell_branches, tell_lacked, tell_new, tell_nothing,
     tell_recorded, tell_sides,
@@ -22,9 +21,9 @@ use crate::told_faults::{fault_cause, with_line};
 use crate::told_refusals::{cure, saying};
 use crate::topics::reason_at;
 use camp_base::{Line, Path};
-use camp_repo::{Call, Refusal, State};
+use camp_repo::{Refusal, State};
 use camp_script::{ScriptFault, Words};
-use camp_why::{Cause, Hindrance, Misfit, Stop, explain};
+use camp_why::{Cause, Hindrance, Misfit, explain};
 use itoa::Buffer;
 use std::alloc::{AllocError, Global};
 
@@ -166,20 +165,11 @@ fn facts_text(
 fn cure_at(state: &State, asked: &Asked, found: &Option<Cause>, reason: Reason) -> &'static str
     ensures { result.now ≡ cure_at state.now asked.now found.now reason }
 {
-    match reason {
-        Reason::PatchExists => record_cure(state, asked),
-        Reason::TooLarge => found_cure(found),
-        Reason::Depends => depends_cure(asked),
-        other => cure(other),
-    }
-}
-
-fn found_cure(found: &Option<Cause>) -> &'static str
-    ensures { result.now ≡ found_cure found.now }
-{
-    match found {
-        None => cure(Reason::TooLarge),
-        Some(cause) => limit_cure(cause),
+    match (reason, found) {
+        (Reason::PatchExists, _) => record_cure(state, asked),
+        (Reason::TooLarge, Some(cause)) => limit_cure(cause),
+        (Reason::Depends, _) => depends_cure(asked),
+        _ => cure(reason),
     }
 }
 
@@ -209,19 +199,13 @@ fn found_text(alloc: Global, found: &Option<Cause>) -> Result<Vec<u8>, AllocErro
     }
 }
 
-// Why a command is refused for a reason.
+// Why a command is refused for a reason. A question has no more than its refusal says.
 fn cause_found(state: &State, asked: &Asked, reason: Reason) -> Result<Option<Cause>, AllocError>
     ensures { IfOk result (λ found. found ≡ cause_found state.now asked.now reason) }
 {
-    match asked {
-        Asked::Call(call) => cause_for(state, call, reason),
-        Asked::Nothing | Asked::Question(_) | Asked::Why => Ok(None),
-    }
-}
-
-fn cause_for(state: &State, call: &Call, reason: Reason) -> Result<Option<Cause>, AllocError>
-    ensures { IfOk result (λ found. found ≡ cause_for state.now call.now reason) }
-{
+    let Asked::Call(call) = asked else {
+        return Ok(None);
+    };
     match reason {
         Reason::TooLarge => explain(state, call, &Refusal::TooLarge),
         Reason::DoesNotApply => explain(state, call, &Refusal::DoesNotApply),
@@ -234,12 +218,9 @@ fn cause_text(alloc: Global, cause: &Cause) -> Result<Vec<u8>, AllocError>
     ensures { IfOk result (λ text. text.items ≡ cause_text cause.now) }
 {
     match cause {
-        Cause::FullRepository(count) => one_number(
-            alloc,
-            "There are ",
-            *count,
-            " branches, and 256 is the most.\n",
-        ),
+        Cause::FullRepository(count) => made(format!(in alloc;
+            "There are {count} branches, and 256 is the most.\n"
+        )),
         Cause::FullBranch { has, more } => two_numbers(
             alloc,
             "The branch has ",
@@ -265,17 +246,11 @@ fn cause_text(alloc: Global, cause: &Cause) -> Result<Vec<u8>, AllocError>
             change_text(alloc, *change, path),
             long_text(alloc, *old, *new),
         ),
-        Cause::Stops(stop) => stop_text(alloc, stop),
+        Cause::Stops(stop) => both(
+            change_text(alloc, stop.change, &stop.path),
+            hindrance_text(alloc, &stop.why),
+        ),
     }
-}
-
-// A text with a number.
-fn one_number(alloc: Global, front: &str, number: usize, back: &str) -> Result<Vec<u8>, AllocError>
-    ensures { IfOk result (λ text. text.items ≡ front.now ++ decimal number ++ back.now) }
-{
-    let mut digits = Buffer::new();
-    let number = digits.format(number).as_bytes();
-    joined(alloc, &[front.as_bytes(), number, back.as_bytes()])
 }
 
 // A text with two numbers.
@@ -321,24 +296,14 @@ fn long_text(alloc: Global, old: usize, new: usize) -> Result<Vec<u8>, AllocErro
     )
 }
 
-fn stop_text(alloc: Global, stop: &Stop) -> Result<Vec<u8>, AllocError>
-    ensures { IfOk result (λ text. text.items ≡ stop_text stop.now) }
-{
-    let change = change_text(alloc, stop.change, &stop.path);
-    both(change, hindrance_text(alloc, &stop.why))
-}
-
 fn hindrance_text(alloc: Global, why: &Hindrance) -> Result<Vec<u8>, AllocError>
     ensures { IfOk result (λ text. text.items ≡ hindrance_text why.now) }
 {
     match why {
         Hindrance::Misfit(misfit) => misfit_text(alloc, misfit),
-        Hindrance::TooLong(count) => one_number(
-            alloc,
-            ": it would have ",
-            *count,
-            " lines, and 1000000 is the most.\n",
-        ),
+        Hindrance::TooLong(count) => made(format!(in alloc;
+            ": it would have {count} lines, and 1000000 is the most.\n"
+        )),
     }
 }
 
@@ -348,12 +313,9 @@ fn misfit_text(alloc: Global, misfit: &Misfit) -> Result<Vec<u8>, AllocError>
     match misfit {
         Misfit::FileIsThere => Vec::from_slice(alloc, b": it is there already.\n"),
         Misfit::NoFile => Vec::from_slice(alloc, b": there is none.\n"),
-        Misfit::HasLines(count) => one_number(
-            alloc,
-            ": its number of lines is ",
-            *count,
-            ", and remove wants a file without lines.\n",
-        ),
+        Misfit::HasLines(count) => made(format!(in alloc;
+            ": its number of lines is {count}, and remove wants a file without lines.\n"
+        )),
         Misfit::EndsBefore {
             has,
             wants,
@@ -392,28 +354,16 @@ fn ends_before_text(
     both(text, lacks_text(alloc, at, lacks))
 }
 
-// That LINE of an edit without old lines is too great.
-fn too_far_text(alloc: Global, at: usize) -> Result<Vec<u8>, AllocError>
-    ensures { IfOk result (λ text. text.items ≡ lacks_text at None) }
-{
-    one_number(
-        alloc,
-        "LINE is ",
-        at,
-        ": it is at most one more than the file has lines.\n",
-    )
-}
-
-// The old line that finds none, and the line at which it would stand.
+// The old line that finds none, and the line at which it would stand. Without old lines, that LINE is too great.
 fn lacks_text(alloc: Global, at: usize, lacks: &Option<Line>) -> Result<Vec<u8>, AllocError>
     ensures { IfOk result (λ text. text.items ≡ lacks_text at lacks.now) }
 {
     let Some(line) = lacks else {
-        return too_far_text(alloc, at);
+        return made(format!(in alloc;
+            "LINE is {at}: it is at most one more than the file has lines.\n"
+        ));
     };
-    let mut text = format!(in alloc;
-        "There is no line {at}, where the edit takes away\n-"
-    )?.into_bytes();
+    let mut text = made(format!(in alloc; "There is no line {at}, where the edit takes away\n-"))?;
     text.extend_from_slice(line.bytes())?;
     text.push(b'\n')?;
     Ok(text)

@@ -4,7 +4,7 @@ ghost use Rattle.std.specs.Prelude.{◌≡◌, bytes_eq, map};
 ghost use Rattle.camp_script.specs.Gives.{Gives};
 ghost use Rattle.camp_script.specs.Lines.{lines_of, words_of};
 ghost use Rattle.camp_script.specs.Pieces.{begins_with};
-ghost use Rattle.camp_talk.specs.Asking.{first_begun, first_numbered, first_of, help_line, reason_at, reason_topic, refusal_topic, topic_at, word_topic};
+ghost use Rattle.camp_talk.specs.Asking.{first_begun, first_numbered, first_of, help_line, reason_at, refusal_topic, topic_at, word_topic};
 ghost use Rattle.camp_talk.specs.Help.{example};
 ghost use Rattle.camp_talk.specs.Refusals.{number_of};
 
@@ -40,16 +40,10 @@ fn word_topic(word: &[u8]) -> Result<Topic, ScriptFault>
 fn refusal_topic(word: &[u8], number: &[u8]) -> Result<Topic, ScriptFault>
     ensures { Gives result (refusal_topic word.now number.now) }
 {
-    if word == b"refused".as_slice() {
-        return reason_topic(reason_at(number));
+    if word != b"refused".as_slice() {
+        return Err(at_line(1, FaultKind::WrongNumberOfWords));
     }
-    Err(at_line(1, FaultKind::WrongNumberOfWords))
-}
-
-fn reason_topic(found: Option<Reason>) -> Result<Topic, ScriptFault>
-    ensures { Gives result (reason_topic found) }
-{
-    match found {
+    match reason_at(number) {
         Some(reason) => Ok(Topic::Refusal(reason)),
         None => Err(at_line(1, FaultKind::BadNumber)),
     }

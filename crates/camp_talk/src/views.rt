@@ -24,6 +24,7 @@ use std::io::BufRead;
 
 /// Appends the answer to a request that is asked of a state: what a conversation answers there, but that a command
 /// which would write, or asks about the history, has a fault of its own. After a fault the answer is as it was.
+#[tactic(auto, using(crate::proofs::ViewLemmas::begins_view, crate::proofs::ViewLemmas::sees_on))]
 pub fn answer_view(
     alloc: Global,
     state: &State,

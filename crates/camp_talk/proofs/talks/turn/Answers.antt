@@ -5,47 +5,42 @@ use Rattle.camp_talk.proofs.talks.turn.Goals as goal
 
 pub returns-in_err-heard-clause-turns : goal.returns-in_err-heard-clause-turns
 returns-in_err-heard-clause-turns g c =
-    let before : Standing = record { history = c.args.book.now; lines = c.args.lines.now; cause = c.args.cause.now } in
-    let after : Standing = record { history = c.hear.new.book; lines = c.args.lines.now; cause = c.hear.new.cause } in
     let same = same_standing c.args.lines.now c.hear.new.book c.args.book.now c.hear.new.cause c.args.cause.now
     c.in_err-heard.ensures.same.0 c.in_err-heard.ensures.same.1 in
-    let turns = broken _ _ _ _ before after _ c.in_err-heard.ensures.none (Keeps-refl (g.W.Write.contents c.args.writer.now)) same in
+    let turns = broken _ _ _ _ _ _ _ c.in_err-heard.ensures.none (Keeps-refl (g.W.Write.contents c.args.writer.now)) same in
     search (rules, turns)
 
-pub returns-in-Ok-clause-turns : goal.returns-in-Ok-clause-turns
-returns-in-Ok-clause-turns g c =
+pub returns-clause-turns : goal.returns-clause-turns
+returns-clause-turns g c =
     let heard = c.in_ok-heard.heard in
-    let before : Standing = record { history = c.args.book.now; lines = c.args.lines.now; cause = c.args.cause.now } in
-    let after : Standing = record { history = c.hear.new.book; lines = heard.lines; cause = c.hear.new.cause } in
     let hears = c.in_ok-heard.ensures.hears in
     record {
       said = record { command = hears.command; answer = said_text heard.said };
       reads = hears.reads;
-      answers = answered before after hears.command heard.said hears.says hears.counts;
-      writes = c.in-Ok.ensures;
+      answers = answered _ _ hears.command heard.said hears.says hears.counts;
+      writes = c.in_ok-write_said.ensures;
     }
 
-pub returns-in-Ok-clause-counts : goal.returns-in-Ok-clause-counts
-returns-in-Ok-clause-counts g c =
+pub returns-clause-counts : goal.returns-clause-counts
+returns-clause-counts g c =
     let heard = c.in_ok-heard.heard in
     let hears = c.in_ok-heard.ensures.hears in
     λ (more : heard.is_whole ≡ true).
     let reads = subst (λ (w : Bool). ReadsCommand (g.R.Read.remaining c.args.reader.now) (g.R.Read.remaining c.hear.new.reader) w hears.command) more hears.reads in
     record { rises = omega (arith, hears.counts, command_long hears.command reads.1); counted = search rules }
 
-pub returns-clause-turns : goal.returns-clause-turns
-returns-clause-turns g c =
+pub returns-in_err-write_said-clause-turns : goal.returns-in_err-write_said-clause-turns
+returns-in_err-write_said-clause-turns g c =
     let heard = c.in_ok-heard.heard in
-    let before : Standing = record { history = c.args.book.now; lines = c.args.lines.now; cause = c.args.cause.now } in
-    let after : Standing = record { history = c.hear.new.book; lines = c.args.lines.now; cause = c.hear.new.cause } in
     let behind : Standing = record { history = c.hear.new.book; lines = heard.lines; cause = c.hear.new.cause } in
     let hears = c.in_ok-heard.ensures.hears in
-    stopped _ _ _ _ before after c.in-Err.why c.in-Err.ensures.0 (record {
+    let turns = stopped _ _ _ _ _ (record { history = c.hear.new.book; lines = c.args.lines.now; cause = c.hear.new.cause }) c.in_err-write_said.field-0.0 c.in_err-write_said.ensures.0 (record {
       whole = heard.is_whole;
       said = record { command = hears.command; answer = said_text heard.said };
       reads = hears.reads;
       behind = behind;
-      answers = answered before behind hears.command heard.said hears.says hears.counts;
+      answers = answered (record { history = c.args.book.now; lines = c.args.lines.now; cause = c.args.cause.now }) behind hears.command heard.said hears.says hears.counts;
       same = refl;
-      writes = c.in-Err.ensures.1;
-    })
+      writes = c.in_err-write_said.ensures.1;
+    }) in
+    search (rules, turns)

@@ -1,37 +1,8 @@
 -- `empty` makes a keeper at null, which owns nothing.
-use Rattle.std.specs.Prelude.{None}
-use mathlib.Core.Path.{refl, sym, subst}
-use mathlib.Core.List.{List, [], ◌∷◌, ◌++◌}
-use lib.Dec.{lit<, T}
-use mathlib.Core.Bool.{◌&&◌, true}
-use mir.Syntax.{w64}
-use seplogic.Ra.Ura.{Ura}
-use mir.Val.{Val, vint, vstruct, vcons, vnil, has_ty, WT}
-use base.Logic.{SProp, ent, emp}
-use base.Fml.{ftrue, fsep}
-use prog.Memory.{Memory}
-use prog.Routine.{Routine}
-use prog.Wp.{WpFn, Tables}
-use types.Logic.{Logic}
-use contract.Monad.{Fun}
-use contract.Running.{tables, tables_of}
-use sound.WpLaws.{WpFn-mono}
-use types.Kit.{Item, ‵, raw, ◌⊛◌, ◌$◌, ◌∵◌, !, qed, by, move, drop, join, split, fsplit, fjoin, fpack, feq_i, suffices, done}
-use types.Part.{agg}
-use types.Run.{no_more, and_then, lit, returns, enter}
-use types.ByLocal.{alloc_all, pass_all, free_all, look_at, get, sets}
-use denote.Exit.{yes}
-use denote.RattleType.{Valss}
+use Rattle.camp_c.proofs.Words.{None, refl, sym, subst, List, [], ◌∷◌, ◌++◌, lit<, T, ◌&&◌, true, w64, Ura, Val, vint, vstruct, vcons, vnil, has_ty, WT, SProp, ent, emp, ftrue, fsep, Memory, Routine, WpFn, Tables, Logic, Fun, tables, tables_of, WpFn-mono, Item, ‵, raw, ◌⊛◌, ◌$◌, ◌∵◌, !, qed, by, move, drop, join, split, fsplit, fjoin, fpack, feq_i, suffices, done, agg, no_more, and_then, lit, returns, enter, alloc_all, pass_all, free_all, look_at, get, sets, yes, Valss, null_ptr, ptr_val, plain, nothing, triple_of, entered, says, Stays, stay_dropped, walk_of, ends_at, Goes-dropped, walk_Meets, α, handle_tells}
 use denote.Builtin.{RawPtr}
-use denote.RawPtr.{null_ptr, ptr_val}
-use denote.Signature.{plain}
-use denote.Steps.{nothing}
 use denote.Struct.Struct.{within}
 use denote.Struct.Owning.{shape, to}
-use denote.Triple.Spec.{triple_of}
-use denote.Triple.Table.{entered}
-use denote.Triple.Walked.{says, Stays, stay_dropped, walk_of, ends_at, Goes-dropped, walk_Meets}
-use Rattle.std.proofs.alloc.Calls.{α, handle_tells}
 use Rattle.std_alloc.proofs.ResultValues.{and_tt}
 use Rattle.std_heap.specs.contracts.Global as Heap
 use Rattle.camp_c.proofs.AsBox.{E}
