@@ -51,9 +51,9 @@ A name has 1 to 40 of a-z, 0-9 and -, and does not begin with -. A path has 1 to
 characters without spaces; its parts between / are not empty, not . and not .. .
 
 Limits of a script: 63 clients; 65536 commands that write for each of them, and for what stands
-before the first; 4096 bytes in a line of an edit. A line ends with LF alone. A file with CR LF is
-refused at its first command, with bad name, bad path, bad number, bad edit, wrong number of words or
-unknown command: take the CR out.
+before the first; 4096 bytes in a line of an edit. A line ends with LF alone. A CR before it is a byte
+of the line: a command with one is refused, with bad name, bad path, bad number, bad edit, wrong number
+of words or unknown command. Take the CR out.
 
 Answers:
   ok NUMBER                     the call was accepted, as the one of this number

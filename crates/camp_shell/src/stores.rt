@@ -149,6 +149,7 @@ fn take_log_away<'a>(rt: &HostRuntime, store: &'a str) -> Result<(), Stop<'a>> {
 
 /// Tells what a file keeps. It changes nothing.
 pub(crate) fn check_store<'a>(rt: &HostRuntime, store: &'a str) -> Result<(), Stop<'a>> {
+    check_plain(rt, store)?;
     let bytes = match read_whole(rt, store) {
         Ok(bytes) => bytes,
         Err(error) => return Err(Stop::Open(store, error)),
@@ -171,6 +172,15 @@ pub(crate) fn check_store<'a>(rt: &HostRuntime, store: &'a str) -> Result<(), St
     match told {
         Ok(()) => Ok(()),
         Err(error) => Err(Stop::Talk(TalkFault::Write(error))),
+    }
+}
+
+// A folder, a device or a pipe keeps nothing, and may have no end.
+fn check_plain<'a>(rt: &HostRuntime, file: &'a str) -> Result<(), Stop<'a>> {
+    match fs::metadata(rt, file) {
+        Ok(found) if found.is_file() => Ok(()),
+        Ok(_) => Err(Stop::NotPlain(file)),
+        Err(error) => Err(Stop::Open(file, error)),
     }
 }
 
