@@ -15,6 +15,8 @@ TOP = os.path.abspath(os.path.join(os.path.dirname(__file__), ".."))
 WORKED = f"{TOP}/crates/worked"
 # The allocation of a run that the program of `refusing` is refused.
 REFUSED = 4_000
+# Seconds between two looks at what `rt try` does, and so many of them between two looks after its processes.
+PAUSE, LOOKS = 0.05, 20
 
 
 def refusing(folder):
@@ -34,11 +36,12 @@ def build(crate, program, words=(), given="stdin", told=None):
     with tempfile.TemporaryDirectory(prefix="trying-") as folder, tempfile.TemporaryFile() as log:
         with open(f"{crate}/{given}", "rb") as given:
             ran = subprocess.Popen(["rt", "try", *words], cwd=crate, env={**os.environ, "TMPDIR": folder}, stdin=given, stdout=log, stderr=log, start_new_session=True)
-        found = False
+        found, looks = False, 0
         try:
             while not found and ran.poll() is None:
-                time.sleep(0.05)
-                look_after(ran.pid)
+                time.sleep(PAUSE)
+                look_after(ran.pid, looks)
+                looks += 1
                 found = any(taken(it, program) for it in glob.glob(f"{folder}/*/*/program"))
                 if told:
                     told(time.time() - started)
@@ -56,9 +59,11 @@ def tried(crate):
     """Runs the program of a crate once without proofs. Its status, what it writes, and what is said of it."""
     with tempfile.TemporaryFile() as wrote, tempfile.TemporaryFile() as said:
         ran = subprocess.Popen(["rt", "try"], cwd=crate, stdin=subprocess.DEVNULL, stdout=wrote, stderr=said)
+        looks = 0
         while ran.poll() is None:
-            time.sleep(0.05)
-            look_after(ran.pid)
+            time.sleep(PAUSE)
+            look_after(ran.pid, looks)
+            looks += 1
         texts = []
         for it in (wrote, said):
             it.seek(0)
@@ -66,9 +71,11 @@ def tried(crate):
     return ran.returncode, *texts
 
 
-def look_after(process):
+def look_after(process, looks):
     """Ends the check that `rt try` runs beside its build for hints on names, since it takes as long as the build does, and
-    lets the build give way as this process does."""
+    lets the build give way as this process does. It does so at one look of LOOKS."""
+    if looks % LOOKS:
+        return
     give_way(process)
     for child in children_of(process):
         give_way(child)
