@@ -105,7 +105,7 @@ Change = Union[Add, Remove, Edit]
 
 @dataclass(frozen=True)
 class Side:
-    """What a patch that is in conflict would do to the tree as it is. A record of its changes takes this side."""
+    """What a patch that is in conflict would do to the tree as it is. A record of its changes, 1 to 64, takes this side."""
     name: str
     changes: List[Change]
 

@@ -11,7 +11,7 @@
  *     camp_close(&repository);
  *
  * Threads: a handle serves one call at a time; where threads share one, put your own lock round it. A view shares
- * nothing but counts with its repository and with other views. So each may be used on a thread of its own, with no
+ * only what no call writes, and counts, with its repository and with other views. So each may be used on a thread of its own, with no
  * lock, while the repository goes on. Handles may be moved to other threads.
  *
  * Memory: comes from malloc, realloc and free. A call that finds none answers CAMP_MEMORY, or
@@ -81,13 +81,16 @@ int32_t camp_look(camp *repository, camp_view *view);
  * CAMP_MEMORY: the answer is empty. */
 int32_t camp_view_ask(camp_view *view, const uint8_t *text, size_t length);
 
+/* How many bytes the answer to the last text of a view has; 0 where the view is closed. */
 size_t camp_view_answer_length(camp_view *view);
 
+/* Writes as much of that answer as the buffer takes, from its beginning, and tells how many bytes that is. */
 size_t camp_view_answer(camp_view *view, uint8_t *buffer, size_t length);
 
 /* Opens a closed handle on one more view of what a view shows. */
 int32_t camp_view_again(camp_view *view, camp_view *other);
 
+/* Closes a view. One that is closed stays so. */
 void camp_view_close(camp_view *view);
 
 #ifdef __cplusplus

@@ -16,7 +16,7 @@ pub struct Conflict {
 pub struct Side {
     /// The patch.
     pub name: Name,
-    /// Its changes. A record of these takes this side.
+    /// Its changes. A record of these, 1 to 64, takes this side.
     pub changes: Vec<Change>,
 }
 
