@@ -4,7 +4,7 @@ use camp_run::RunFault;
 /// Why the program ends without having written the answers to a script.
 #[derive(Debug, Drop)]
 pub(crate) enum Stop {
-    /// The command line asks for no run.
+    /// The command line asks for no run, or there was no memory for it.
     Words(WordsFault),
     /// The run failed.
     Run(RunFault),

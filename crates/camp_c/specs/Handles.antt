@@ -1,5 +1,5 @@
 -- What each export makes of a handle, by what the handle stands for: nothing, a repository or a view. The codes are 0,
--- done; 1, not open; 2, out of memory.
+-- done; 1, a handle is closed or of the other kind, or the one to be opened is open; 2, out of memory.
 use Rattle.std.specs.Prelude.{◌≡◌, ◌⊎◌, ℕ, ℤ, pos, List, [], Option, Some, None, Result, Ok, Err}
 use Rattle.camp_session.specs.Sessions.{Asks, Repository, Sees, Snapshot, Views}
 use Rattle.camp_talk.specs.declared.faults.TalkFault.{TalkFault}

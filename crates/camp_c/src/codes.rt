@@ -3,7 +3,7 @@
 /// It was done.
 pub(crate) const DONE: i32 = 0;
 
-/// The handle is not open, or the one to be opened is.
+/// The handle is closed or of the other kind, or the one to be opened is open.
 pub(crate) const CLOSED: i32 = 1;
 
 /// There was not enough memory.

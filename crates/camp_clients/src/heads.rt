@@ -191,9 +191,9 @@ where
     }
 }
 
-/// Bytes that a client holds and never writes to, so many more for each seat. Threads take memory from heaps that begin
-/// at multiples of 64 megabytes. What clients put there in one order would lie at equal distances from these, and so
-/// share a few places of the processor's caches.
+/// Bytes that a client holds and never writes to, so many more for each seat of eight. Threads take memory from heaps
+/// that begin at multiples of 64 megabytes. What clients put there in one order would lie at equal distances from
+/// these, and so share a few places of the processor's caches.
 fn shift(alloc: Global, seat: u32) -> Option<Vec<u8>> {
     Vec::with_capacity(alloc, (seat % 8 * 4_160) as usize).ok()
 }

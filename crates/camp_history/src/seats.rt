@@ -61,7 +61,8 @@ impl<State: Object> Seat<State> {
         self.pass.turns()
     }
 
-    /// How many versions it adopted; that is only tested. It stays at 4,294,967,295.
+    /// How many versions it adopted from slots, and not from seats that it met; that is only tested. It stays at
+    /// 4,294,967,295.
     pub fn adopted(&self) -> u32 {
         self.adopted
     }

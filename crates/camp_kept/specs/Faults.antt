@@ -64,8 +64,8 @@ IsUntitled (kept.Store store.Memory) = ⊥
 IsUntitled (kept.Store store.TooLong) = ⊥
 IsUntitled (kept.Store (store.Damaged count at)) = ⊥
 
--- why calls are not kept: memory has run out, the disk has failed, now or before, or a text is too long; the file is no
--- other than it was when it was opened
+-- why calls are not kept: memory has run out, the disk has failed, now or before, a text or the file would be too long, or
+-- the book has fewer calls than were kept; that the file is no store, or damaged, is not told here
 abbrev pub IsUnkept : KeptFault → Type 0
 IsUnkept kept.Memory = Unit {0}
 IsUnkept kept.NoStore = ⊥

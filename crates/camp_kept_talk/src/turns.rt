@@ -17,7 +17,7 @@ use std::io::{BufRead, Write};
 /// The most calls that are accepted before they are kept.
 const MAX_CALLS: usize = 256;
 
-/// The most bytes of answers that are held back.
+/// Where so many bytes of answers are held back, they are settled before the next command.
 const MAX_ANSWERS: usize = 1 << 20;
 
 /// What a conversation holds back.
@@ -62,7 +62,8 @@ pub fn stored_turn<D: Disk, R: BufRead, W: Write>(
         → Comes D.Disk.seen D.Disk.may_leave remaining (R.remaining reader.new) old (W.contents writer.new) held.new.answers.items first
         (record { history = kept.new.book; lines = held.new.lines; cause = held.new.cause }) result kept.new }
     ensures counts { IfOk result (λ more. more ≡ true → HasRisen held.old.lines held.new.lines) }
-    // It reads no more than a command has; and where the calls can't be kept, it writes all that was held back, or nothing.
+    // It reads no more than a command has; and where the calls can't be kept, it writes all that was held back, or
+    // nothing.
     ensures within { ReadsWithin (R.remaining reader.old) (R.remaining reader.new) }
     ensures whole { IfErr result (WritesAllOrNone held.old.answers.items (W.contents writer.old) (W.contents writer.new)) }
     // Where no command stands ready, the answers that were held back are written.

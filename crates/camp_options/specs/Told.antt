@@ -10,7 +10,7 @@ use Rattle.camp_options.specs.declared.faults.WordsFault.TheVariants.{NotText, R
 abbrev pub AsksForText : ErrorKind → Type 0
 AsksForText kind = (kind ≡ DisplayHelp) ⊎ (kind ≡ DisplayVersion)
 
--- 2 where the words are refused; 0 where a text was asked for, or 3 where it could not be printed; 3 where memory ran out
+-- 2 where the words are refused; 0 or 3 where a text was asked for; 3 where memory ran out
 abbrev pub TellsBy : WordsFault → ℕ → Type 0
 TellsBy NotText status = status ≡ 2
 TellsBy (Refused error) status =

@@ -8,7 +8,7 @@ use Rattle.camp_repo.specs.States.{Contents, catches_of}
 use Rattle.camp_questions.specs.declared.faults.Unanswered.{Unanswered}
 use Rattle.camp_questions.specs.declared.faults.Unanswered.TheVariants.{Refused, Memory}
 
--- what a question comes to: its answer, or the refusal that a call with the same names gets
+-- what a question comes to: its answer, or a refusal, which is one that calls get, too
 abbrev pub AnswerOf : Type 0 → Type 0
 AnswerOf A = Result A Refusal
 

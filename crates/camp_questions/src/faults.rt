@@ -8,7 +8,7 @@ use thiserror::Error;
 /// Why a question has no answer.
 #[derive(Clone, Copy, PartialEq, Eq, Debug, Error)]
 pub enum Unanswered {
-    /// The refusal that a call with the same names gets.
+    /// A refusal, which is one that calls get, too. A call with the same names may get another.
     #[error("refused")]
     Refused(Refusal),
     #[error("out of memory")]

@@ -20,8 +20,8 @@ use camp_repo::{Branch, Conflicts, Names, State};
 use std::alloc::{AllocError, Global};
 use std::marker::Model;
 
-/// What is drawn of a branch: patches, what each needs directly, which are in conflict, and which of these
-/// conflicts are open.
+/// What is drawn of a branch: patches, what each needs directly, which are in conflict, and which
+/// conflicts of the branch are open.
 #[derive(Drop)]
 pub struct Picture {
     patches: Vec<Node>,

@@ -81,7 +81,7 @@ impl KnownBeginnings {
         Ok(KnownBeginnings { beginnings })
     }
 
-    /// All pairs, and those of a new branch that is a copy of another, as long as there is room: the
+    /// The pairs, but for the oldest where there are too many, and those of a new branch that is a copy of another: the
     /// copy agrees with that one for this length, and with others as far as that one does.
     pub(crate) fn copied(
         &self,

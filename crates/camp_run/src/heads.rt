@@ -22,7 +22,7 @@ const EVERY: u32 = 64;
 /// Reads a whole script and asks its sections over a head, section k at seat k: the opening first, and
 /// then each client in a thread of its own, whose calls give up after `tries` lost exchanges, 1 to
 /// 1,000. The gate is told of each call, by its number in its section, of each exchange, and of each
-/// client whose section is answered. Writes the answers, and the history where it is wanted, after the
+/// section that is answered. Writes the answers, and the history where it is wanted, after the
 /// last thread was joined.
 pub fn run_head<T: Threads + Wait + Sync, R: Read, W: Write, G: Gate + Sync>(
     rt: &T,

@@ -12,7 +12,7 @@ use std::time::Duration;
 const PAUSE: u64 = 100;
 /// From this place on all sleep so long.
 const MOST_TIMES: u64 = 8;
-/// Who has looked so often in the turn of one client sleeps four times as long from then on.
+/// Who has found the turn with one client more often than so sleeps four times as long until another has it.
 const FEW_LOOKS: u32 = 4;
 /// So often a client looks at most.
 const MOST_LOOKS: u32 = 1_000;
@@ -21,7 +21,7 @@ const MOST_UNCHANGED: u32 = 8;
 /// So often it finds the same before it takes the one that is between two calls for gone.
 const UNCHANGED_BETWEEN: u32 = 2;
 
-/// As many as a head has seats.
+/// As many as a head has seats at most.
 const SEATS: u64 = 64;
 /// It has asked a question, or nothing, or all of its calls.
 const RESTS: u64 = 0;
@@ -254,8 +254,8 @@ impl<'a, R: Wait> Turns<'a, R> {
 }
 
 impl<'a, R: Wait> Gate for Turns<'a, R> {
-    /// Who was never woken waits before a call that writes. While another one goes ahead it would decide that in vain,
-    /// and beside that one, as long as threads are still begun.
+    /// Who has not the turn and was never woken waits before a call that writes. While another one goes ahead it
+    /// would decide that in vain, and beside that one, as long as threads are still begun.
     fn before(&self, seat: u32, _call: u32, writes: bool) {
         let step = self.last_step();
         if is_of(step, seat) {

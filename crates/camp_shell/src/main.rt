@@ -1,9 +1,11 @@
 //! `camp_shell`: loads the files that `--load` names, then reads commands from standard input, and answers
 //! each on standard output as soon as its last line is read; with `--frames` it does so request by request, and
-//! with `--export` it writes a branch for git instead. With `--store` the repository is kept in a file.
+//! with `--export` it writes a branch for git instead. With `--store` the repository is kept in a file, and answers
+//! to lines may wait for commands that stand ready behind theirs. With `--check-store` it tells what a file keeps.
 //! The exit status is 0 at the end of the input, 1 where a command of a file was answered by a fault or a
 //! refusal, the input is no requests in frames, or the branch can't be written for git, 2 where the command line
-//! is refused, and 3 where memory ran out, or input, output or a store failed; standard error says why.
+//! is refused, 3 where memory ran out, but for a command that is answered `memory`, or input, output or a store
+//! failed, and 4 where a line has no number, to which no conversation comes; standard error says why.
 #![tactic(auto)]
 
 mod prompts;

@@ -8,13 +8,13 @@ use std::io;
 /// Why the program ends before its input does.
 #[derive(Debug, Drop)]
 pub(crate) enum Stop<'a> {
-    /// The command line asks for no conversation.
+    /// The command line asks for no conversation, or there was no memory for it.
     Words(WordsFault),
-    /// A file could not be opened.
+    /// A file could not be opened, or not be read to be checked.
     Open(&'a str, io::Error),
     /// The commands of a file could not be loaded.
     Load(&'a str, LoadFault),
-    /// The conversation could not go on.
+    /// The conversation could not go on, what is told of a file could not be written, or memory ran out.
     Talk(TalkFault),
     /// No more requests could be served.
     Frame(FrameFault),
@@ -26,7 +26,7 @@ pub(crate) enum Stop<'a> {
     Store(&'a str, KeptFault),
     /// Another process has the store.
     InUse(&'a str),
-    /// What should be a store is a folder, a device, or a file with several names.
+    /// What should be a store is a folder, a device or a pipe; or a file with several names, which only a check takes.
     NotPlain(&'a str),
 }
 

@@ -44,7 +44,7 @@ abbrev pub is_record : List ℕ → Bool
 is_record line =
     is_form (codes "record") (codes "Record") (codes "RECORD") (first_word (words_of (call_part line)))
 
--- whether the first word of a line is that of a command which may be unknown by what stands behind it
+-- whether the first word of a line is client, or that of a command which may be unknown by what stands behind it
 abbrev pub begins_command : List ℕ → Bool
 begins_command line =
     is_record line

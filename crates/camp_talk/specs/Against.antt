@@ -128,7 +128,7 @@ abbrev pub target_text : Option (List ℕ) → List ℕ
 target_text None = []
 target_text (Some to) = codes ", and TO is " ++ to
 
--- which branches a command names
+-- which branches a command names as FROM, as BRANCH and as TO
 abbrev pub sides_text : Option (Place × List ℕ) → Option (List ℕ) → List ℕ
 sides_text None to = []
 sides_text (Some place) to = place_word place.0 ++ codes " is " ++ place.1 ++ target_text to ++ codes ".\n"

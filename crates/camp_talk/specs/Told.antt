@@ -139,7 +139,7 @@ foreseen_told seen = counted (codes "whatif") (reply_text seen.reply ++ standing
 abbrev pub kept_told : Entries → List ℕ
 kept_told history = counted (codes "keep") (kept_text history)
 
--- how commands are written
+-- how commands are written, or what refusals say
 abbrev pub help_told : Topic → List ℕ
 help_told topic = counted (codes "help") (help_text topic)
 

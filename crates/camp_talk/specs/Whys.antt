@@ -143,7 +143,7 @@ abbrev pub word_text : FaultKind → List ℕ → List ℕ
 word_text kind.BadName line = misnamed_text (misnamed (words_of line))
 word_text other line = []
 
--- that the lines behind it are taken for its own, where they may be
+-- that the lines behind it are taken for its own, where it is known to have some
 abbrev pub awaited_text : Awaited → List ℕ
 awaited_text Nothing = []
 awaited_text Signed = []

@@ -55,7 +55,7 @@ pub(crate) fn left_by(line: &[u8]) -> Awaited
     left_behind(behind_word(behind_word(call_part(line))))
 }
 
-/// Whether the first word of a line is that of a command which may be unknown by what stands behind it.
+/// Whether the first word of a line is `client`, or that of a command which may be unknown by what stands behind it.
 pub(crate) fn begins_command(line: &[u8]) -> bool
     ensures { result ≡ begins_command line.now }
 {

@@ -36,7 +36,7 @@ pub enum Question {
     History,
     /// A script that gives the repository back.
     Keep,
-    /// How commands are written.
+    /// How commands are written, or what refusals say.
     Help(Topic),
 }
 

@@ -23,8 +23,8 @@ pub(crate) struct Heard {
     pub(crate) is_whole: bool,
 }
 
-/// Reads a command, and asks it of a book at seat 0. So many lines were read before it. Where it is not done,
-/// `cause` becomes what is kept of that.
+/// Reads a command, and asks it of a book at seat 0. So many lines were read before it. Where it has a fault or is
+/// refused, `cause` becomes what is kept of that.
 pub(crate) fn hear<R: BufRead>(
     alloc: Global,
     book: &mut Book<State>,

@@ -21,7 +21,7 @@ pub(crate) enum Place {
     Branch,
 }
 
-/// Which branches a command names.
+/// Which branches a command names as FROM, as BRANCH and as TO.
 pub(crate) fn tell_sides(alloc: Global, asked: &Asked) -> Result<Vec<u8>, AllocError>
     ensures { IfOk result (λ text. text.items ≡ sides_text (about asked.now) (target asked.now)) }
 {

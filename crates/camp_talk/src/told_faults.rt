@@ -114,7 +114,7 @@ fn fault_lines(
     both(front, rules)
 }
 
-// That the lines behind it are taken for its own, where they may be.
+// That the lines behind it are taken for its own, where it is known to have some.
 fn awaited_text(awaited: Awaited) -> &'static str
     ensures { result.now ≡ awaited_text awaited }
 {

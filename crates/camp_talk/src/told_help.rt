@@ -9,7 +9,7 @@ use crate::told::{counted_text, joined};
 use crate::told_refusals::{all_sayings, refusal_text};
 use std::alloc::{AllocError, Global};
 
-/// How commands are written.
+/// How commands are written, or what refusals say.
 pub(crate) fn tell_help(alloc: Global, topic: Topic) -> Result<Vec<u8>, AllocError>
     ensures { IfOk result (λ text. text.items ≡ help_told topic) }
 {

@@ -23,7 +23,8 @@ use std::alloc::{AllocError, Global};
 use std::io::BufRead;
 
 /// Appends the answer to a request that is asked of a state: what a conversation answers there, but that a command
-/// which would write, or asks about the history, has a fault of its own. After a fault the answer is as it was.
+/// which would write, or asks about the history or, as `why`, about another command, has a fault of its own. After a
+/// fault the answer is as it was.
 #[tactic(auto, using(crate::proofs::ViewLemmas::begins_view, crate::proofs::ViewLemmas::sees_on))]
 pub fn answer_view(
     alloc: Global,

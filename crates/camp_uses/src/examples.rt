@@ -1,4 +1,4 @@
-//! The callers that stand in the READMEs of the crates, in their words.
+//! Callers that stand in the READMEs of their crates, in their words. Those of other modules may stand there, too.
 ghost use Rattle.std.specs.Prelude.{◌≡◌, IfOk, IfSome};
 ghost use Rattle.std.specs.Cmp.Lexicographic.{slice_cmp};
 ghost use Rattle.std.specs.FinMap.{remove};

@@ -54,7 +54,7 @@ fn tree_in(reply: Reply) -> Option<Tree>
 }
 
 /// Asks a call at each of two seats, and brings the first to what the second has seen. Each has its own
-/// calls as it was told, and then the first has seen what the second has.
+/// calls as it was told; and where `met` is Ok, the first has seen what the second has.
 pub fn ask_and_meet(head: &Head, first: Seat, second: Seat, one: Kept, two: Kept) -> Met
     requires seats { IsSeatOf head.now first × IsSeatOf head.now second }
     requires kept { IsKeptBy head.now one × IsKeptBy head.now two }

@@ -1,4 +1,5 @@
-//! Callers of the crates up to camp_run, proved from their public clauses alone: what the contracts are good for.
+//! Callers of the libraries that the line of camp_uses in `crates.txt` names, proved from their public clauses
+//! alone: what the contracts are good for.
 #![tactic(auto)]
 
 pub mod branches;

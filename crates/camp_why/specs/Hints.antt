@@ -243,7 +243,7 @@ abbrev pub has_quote : FaultKind → List ℕ → Bool
 has_quote WrongNumberOfWords line = list_any begins_quoted (words_of line)
 has_quote kind line = list_any is_quote (faulty kind line)
 
--- a fault of the first word of a line: it is no command, or none that a group may have
+-- a fault of the word that should be one of a command, or of a change of a group
 abbrev pub IsOfCommand : FaultKind → Type 0
 IsOfCommand kind = (kind ≡ UnknownCommand) ⊎ (kind ≡ BadGroup)
 

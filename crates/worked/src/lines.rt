@@ -16,7 +16,7 @@ use std::io::Write;
 use std::sync::Wait;
 use std::thread::Threads;
 
-/// Prints tables entry by entry, each call with its result below it. Tells which entries wanted memory.
+/// Prints tables entry by entry, each call with its result below it. Tells how many entries wanted memory.
 pub(crate) fn print_tables<R: Threads + Wait + Sync, W: Write>(
     rt: &R,
     alloc: Global,

@@ -5,7 +5,7 @@
 //! |---|---|
 //! | `# ..`, or nothing | a comment |
 //! | `table NAME` | a new table: nothing is known from here on |
-//! | `quiet` | of the values that calls make it is told only that they are made, and not what they are |
+//! | `quiet` | what most calls come to is told as `made`, also `none`, `yes` and `no` |
 //! | `p f 1 [one] -> [uno]` | a primitive, which is known as `p` from here on, and its inverse as `p^` |
 //! | `s = [a add f, p]` | a list or a tree, which is called `s` from here on |
 //! | `commute(p, q)` | a call |
@@ -14,7 +14,7 @@
 //! | `SEAT COMMAND`, `repeat COUNT SEAT COMMAND` | a command of scripts, with its body below it |
 //! | `history`, `history SEAT` | the accepted calls of the book, or what a seat has seen |
 //! | `seen SEAT`, `meet SEAT SEAT` | how much a seat has seen; the first seat meets the second |
-//! | `adopted SEAT` | how many versions the seat has adopted |
+//! | `adopted SEAT` | how many versions the seat has adopted, but at meetings |
 //! | `hand-on SEAT` | the seat hands on what it has seen |
 //! | `no-merge LEFT RIGHT` | the text of a refusal |
 //! | `run book`, `run locked`, `run head`, `run head TRIES` | the script below, up to an empty line, behind its gates |
@@ -22,8 +22,8 @@
 //! | `ends WAY: READS BYTES WRITES BYTES TIMES` | the script or conversation below, with a reader and a writer that fail |
 //!
 //! The notation is that of `camp_notation`. What wants memory is done again. The exit status tells what was
-//! wanted: 0 where nothing was, 3 where one line wanted memory, 4 where the input was not read or a line not
-//! printed, and 5 where more lines than one wanted memory.
+//! wanted: 0 where nothing was, 3 where one line wanted memory, or the allocation behind the last line was
+//! refused, 4 where the input was not read or a line not printed, and 5 where more lines than one wanted memory.
 //!
 //! `worked N M` makes M - N extra allocations before the table, so the run's M-th allocation is the
 //! table's N-th: built so that its M-th allocation is refused, N chooses which one of the table is.

@@ -53,7 +53,7 @@ impl Table {
         &self.known
     }
 
-    /// Whether a value that a call makes is not shown.
+    /// Whether `made` stands in place of what most calls come to.
     pub(crate) fn is_quiet(&self) -> bool {
         self.is_quiet
     }

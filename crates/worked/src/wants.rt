@@ -1,4 +1,4 @@
-//! Refused memory: which lines wanted it, and which allocation is refused.
+//! Refused memory: how many entries wanted it, and which allocation is refused.
 use crate::words::number_of;
 use std::alloc::{AllocError, Global};
 use std::env::{Env, FillError};

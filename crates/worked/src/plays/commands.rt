@@ -62,7 +62,8 @@ pub(crate) fn read_numbers(words: &[u8], numbers: &mut [u32]) -> Result<(), Play
 }
 
 impl<'a> Command<'a> {
-    /// The call of the command. Each `%` of its first line stands for how often it was asked.
+    /// The call of the command. Each `%` of its first line stands for which time this is, from 1; not in
+    /// `pull-listed` and `obliterate-listed`.
     pub(crate) fn call(self, alloc: Global, time: u32) -> Result<Call, PlayFault> {
         if let Some(branches) = self.first.strip_prefix(b"pull-listed ") {
             return listless_pull(alloc, branches);

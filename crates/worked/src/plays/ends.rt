@@ -15,7 +15,7 @@ pub(crate) struct Sizes {
 }
 
 /// So many calls of a reader or a writer move up to `size` bytes each, and each only after so many that are
-/// interrupted. Behind them it fails.
+/// interrupted. Behind them it fails. A flush is one of these calls; it moves nothing, and is not interrupted.
 #[derive(Clone, Copy)]
 struct Calls {
     served: u32,

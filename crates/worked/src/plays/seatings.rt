@@ -59,7 +59,7 @@ impl Seating {
         )
     }
 
-    /// How many versions a seat has adopted.
+    /// How many versions a seat has adopted, but at meetings.
     fn append_adopted(&self, number: u32, text: &mut Vec<u8>) -> Result<(), PlayFault> {
         let adopted = self.seat(number)?.adopted();
         append_words(format!(in *text.allocator(); "adopted {adopted}\n"), text)

@@ -56,7 +56,8 @@ pub(crate) enum Kind {
     Numbers,
 }
 
-/// The arguments of a call, of these kinds. One that is missing has an empty text; further ones are passed over.
+/// The arguments of a call, of these kinds. One that is missing has an empty text, and further ones are passed over;
+/// but labels are all that stand there, or none.
 pub(crate) fn read_values(
     table: &Table,
     kinds: &[Kind],

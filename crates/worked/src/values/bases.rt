@@ -45,8 +45,8 @@ fn refused(table: &Table, fault: BaseFault) -> Outcome {
     }
 }
 
-/// The words of every fault: of bytes, of a change, of a run, of one over a lock, of a head, of a call, of an
-/// answer's writer and of a script.
+/// The words of faults: of bytes, of a change, of a run, of one over a lock, of a head, of a call and of an
+/// answer's writer, and of want of memory for a script. A fault in a line of a script is not among them.
 pub(crate) fn faults(table: &Table) -> Outcome {
     let mut text = String::new(table.alloc());
     match append_faults(&mut text) {

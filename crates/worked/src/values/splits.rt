@@ -41,7 +41,8 @@ impl Nesting {
     }
 }
 
-/// The arguments of a text: what stands between the commas that are in no brackets and no quotes.
+/// The arguments of a text: what stands between commas that are in no brackets and no quotes, each with a blank
+/// behind it. Behind a comma without one all is passed over.
 pub(crate) fn split(alloc: Global, text: &[u8]) -> Result<Vec<&[u8]>, AllocError> {
     let mut parts = Vec::new(alloc);
     let mut rest = text;
