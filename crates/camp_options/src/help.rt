@@ -52,8 +52,8 @@ characters without spaces; its parts between / are not empty, not . and not .. .
 
 Limits of a script: 63 clients; 65536 commands that write for each of them, and for what stands
 before the first; 4096 bytes in a line of an edit. A line ends with LF alone. A CR before it is a byte
-of the line: a command with one is refused, with bad name, bad path, bad number, bad edit, wrong number
-of words or unknown command. Take the CR out.
+of the line: a command with one is refused, with bad name, bad path, bad number, bad edit, bad group,
+wrong number of words or unknown command. Take the CR out.
 
 Answers:
   ok NUMBER                     the call was accepted, as the one of this number
