@@ -1,4 +1,4 @@
-"""What .ci/store shares with .ci/crashes.py: the program, stores byte by byte, and what was found wrong."""
+"""What .ci/store, .ci/store_rates and .ci/crashes.py share: the program, stores byte by byte, and what was found wrong."""
 
 import hashlib
 import os

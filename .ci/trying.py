@@ -1,4 +1,4 @@
-"""What .ci/refusals, .ci/sharing, .ci/turns, .ci/locked, .ci/library and play share: a program that is built without proofs, the
+"""What .ci/refusals, .ci/talk_refusals, .ci/sharing, .ci/turns, .ci/locked, .ci/library and play share: a program that is built without proofs, the
 tables of crates/worked, and the scripts of .ci/cases."""
 
 import glob

@@ -21,7 +21,7 @@ fi
 expect 'clients: two branches'
 
 # Eight clients record 50 files each on branches of their own: every number from 1 to 408 is given once, no call
-# is busy where it may lose more often than there are calls, and the history has each call at its number.
+# is busy where it may lose more often than there are calls, and the history has each number and each call once.
 awk 'BEGIN {
     for (k = 1; k <= 8; k++) print "branch c" k " main"
     for (k = 1; k <= 8; k++) {

@@ -1,4 +1,4 @@
-# Both sides of each limit, by scripts that awk makes.
+# Both sides of limits, by scripts that awk makes.
 
 # made PROGRAM: the script that an awk program prints.
 made() { awk "function times(n, text) { while (n-- > 0) print text } BEGIN { $1 }" >"$folder/script"; }

@@ -1,4 +1,4 @@
-# A line has 4,096 bytes, also behind the sign of an edit.
+# A line of an edit has 4,096 bytes at most behind its sign.
 long='while (length(text) < 4096) text = text "y"'
 for sign in + -; do
     made "$long; print \"record main e edit f 1\n$sign\" text \"\nend\""

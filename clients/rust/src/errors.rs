@@ -79,7 +79,7 @@ pub enum Refusal {
     TooLarge,
     /// The change does not apply to the tree.
     DoesNotApply,
-    /// One patch stands on another, which is not among those asked for.
+    /// One patch stands on another, and only one of the two was asked for.
     StandsOn {
         /// The patch.
         patch: Name,
