@@ -121,7 +121,7 @@ fn options<'a>(alloc: Global) -> Result<Vec<Arg<'a>>, AllocError> {
     let mut options = Vec::new(alloc);
     options.push(load(alloc))?;
     options.push(export(alloc))?;
-    options.push(frames(alloc))?;
+    options.push(frames(alloc)?)?;
     options.push(prompt(alloc)?)?;
     options.push(store(alloc))?;
     options.push(check(alloc)?)?;
@@ -144,13 +144,14 @@ fn export<'a>(alloc: Global) -> Arg<'a> {
         .help("Write this branch as a stream for git fast-import, and end")
 }
 
-fn frames<'a>(alloc: Global) -> Arg<'a> {
+fn frames<'a>(alloc: Global) -> Result<Arg<'a>, AllocError> {
     Arg::new(alloc, "frames")
         .long("frames")
         .action(ArgAction::SetTrue)
         .help(
             "Read requests and write answers in frames: a number of bytes on a line, and then so many",
         )
+        .conflicts_with("export")
 }
 
 fn prompt<'a>(alloc: Global) -> Result<Arg<'a>, AllocError> {
