@@ -1,6 +1,6 @@
 -- An element before a list that is its own normal order.
 use Rattle.std.proofs.Common.{◌==◌, eqb-true, Bool, true, false, IsTrue}
-use Rattle.camp_seq.proofs.Words.{◌≡◌, ◌≢◌, ℕ, zero, suc, ◌+◌, ◌<◌, List, [], ◌∷◌, ◌++◌, length, take, drop, get_or, set, set-get_or, refl, sym, ap, ◌∙◌, subst, inl, inr, arith, append_assoc, length-set, drop_all, drop_at, drop_more, length-take-le, take_at, take_more_set, Less, label_of, label_cmp, Commute, Label, Named, not_below, not_above, not_below_both, IsLeast, Norm, HasRoom, backwards}
+use Rattle.camp_seq.proofs.Words.{◌≡◌, ◌≢◌, ℕ, zero, suc, ◌+◌, ◌<◌, ◌≤◌, List, [], ◌∷◌, ◌++◌, length, take, drop, get_or, set, set-get_or, refl, sym, ap, ◌∙◌, subst, inl, inr, arith, append_assoc, length-set, drop_all, drop_at, drop_more, length-take-le, take_at, take_more_set, Less, label_of, label_cmp, Commute, Label, Named, not_below, not_above, not_below_both, IsLeast, Norm, HasRoom, Passes, backwards, swap_unique}
 use Rattle.camp_seq.specs.Chains.{CanCommute}
 use Rattle.camp_seq.specs.Inside.FirstInOrder.{GoesIn, OrderedFrom, StaysBehind, NoneBefore}
 use Rattle.camp_seq.proofs.ListEquivalence.{ordered}
@@ -46,7 +46,36 @@ goes_in_more s0 s x0 x i d q' x' own within less swap w =
       ordered = λ t n.
           let all = w.ordered (q' ∷ t) (subst (λ l. Norm (x ∷ l) (q' ∷ t)) (sym next) (lesser_first x q q' x' (drop (i + 1) s0) t less swap least n)) in
           subst (Norm (x0 ∷ s0)) (sym (ap (λ l. l ++ t) (take_more_set s i q' within) ∙ append_assoc (take i s) (q' ∷ []) t)) all;
+      passing = λ t p m.
+          let v = w.passing t p m in
+          let here = subst (λ l. Passes x l v.0 v.1) next v.2 in
+          let pair = swap_unique x q here.0 here.1 q' x' here.3 swap in
+          (here.2, v.1, subst (λ y. Passes y (drop (i + 1) s0) here.2 v.1) pair.1 here.4);
     }
+
+-- where it passes what is behind it, it passes the first of them
+pub never_stuck : (s0 s : List Named) (x0 x : Named) (i : ℕ) (d : Named) (t : List Named) (p : Named) → i < length s → GoesIn s0 x0 i s x → Passes x0 s0 t p → ¬ ((a b : Named) → ¬ (Commute x (get_or s i d) a b))
+never_stuck s0 s x0 x i d t p within w m never =
+    let v = w.passing t p m in
+    let here = subst (λ l. Passes x l v.0 v.1) (at_next s0 s i d within w.long w.waiting) v.2 in
+    never here.0 here.1 here.3
+
+-- it stays before an element whose label is not less
+pub waits : (s0 s : List Named) (x0 x : Named) (i : ℕ) (d : Named) → Norm s0 s0 → i < length s → label_cmp (label_of (get_or s i d)) (label_of x) ≢ Less → GoesIn s0 x0 i s x → Norm (x ∷ drop i s0) (x ∷ drop i s0)
+waits s0 s x0 x i d own within not w =
+    let q : Named = get_or s i d in
+    let rest : List Named = drop (i + 1) s0 in
+    let next : drop i s0 ≡ q ∷ rest = at_next s0 s i d within w.long w.waiting in
+    let own_rest : Norm (q ∷ rest) (q ∷ rest) = subst (λ l. Norm l l) next (own_behind s0 i own) in
+    let least : IsLeast (label_of x) (x ∷ q ∷ rest) = λ other y t front. elim front [
+      | inl f ↦ not_below other (label_of x) (sym f.0)
+      | inr f ↦ not_below_both other (label_of q) (label_of x) ((rest_ordered q rest own_rest).0 other f.1.0 f.1.2 f.1.3) not
+    ] in
+    subst (λ l. Norm (x ∷ l) (x ∷ l)) (sym next) (q ∷ rest, inl (refl, refl, refl), least, own_rest)
+
+-- and behind all of them
+pub waits_last : (s0 : List Named) (x : Named) (i : ℕ) → length s0 ≤ i → Norm (x ∷ drop i s0) (x ∷ drop i s0)
+waits_last s0 x i all = rw (drop_all i s0 all) (chain_is_ordered (x ∷ []) (tt, tt))
 
 pub goes_in_no_more : (s0 s : List Named) (x0 x : Named) (i : ℕ) (d q' x' : Named) → ◌≡◌ {A = Named × Named} (x', q') (x, get_or s i d) → GoesIn s0 x0 i s x → GoesIn s0 x0 i (set s i q') x'
 goes_in_no_more s0 s x0 x i d q' x' e w =

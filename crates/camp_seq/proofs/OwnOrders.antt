@@ -152,11 +152,9 @@ chain_with_last s last x long is c stuck =
     subst (λ l. Norm (l ++ x ∷ []) (l ++ x ∷ [])) (sym front) (ordered_with (take i s ++ last ∷ []) x own (inr (stuck_behind (take i s) last x stuck)))
 
 -- a list of nothing
-pub none_in_order : (s : List Named) (test : Bool) → test ≡ (length s == 0) → test ≡ true → Norm s s
-none_in_order [] test counts is = chain_is_ordered [] tt
-none_in_order (p ∷ s) test counts is =
-    let none : length (p ∷ s) ≡ 0 = eqb-true _ _ (sym counts ∙ is) in
-    absurd (omega arith)
+pub none_in_order : (s : List Named) → length s ≡ 0 → Norm s s
+none_in_order [] none = refl
+none_in_order (p ∷ s) none = absurd (omega arith)
 
 -- behind nothing an element is alone
 pub one_alone : (s : List Named) (x : Named) (test : Bool) → test ≡ (length s == 0) → test ≡ true → Norm (s ++ x ∷ []) (s ++ x ∷ [])

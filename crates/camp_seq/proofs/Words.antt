@@ -13,7 +13,6 @@ pub use Rattle.std.proofs.lemmas.List.Elements.{All-cons, All-drop, All-head, Al
 pub use Rattle.std.specs.Bool.{then_some}
 pub use Rattle.camp_prim.proofs.CommuteLaws.{effect, own_inverse, square}
 pub use Rattle.camp_seq.specs.Inside.InPlace.{ComesUpTo, FirstPasses, FirstWith, IsHeld, Lacks, PartsFrom, Precedes}
-pub use Rattle.camp_seq.specs.Inside.Insertions.{Follows, InOrder, Placed, StandsAt, StartsAfter, StaysAt}
 pub use Rattle.camp_prim.proofs.CommuteUnique.{swap_unique}
 pub use Rattle.std.specs.List.{All}
 pub use Rattle.std.specs.Prelude.{◌↔◌}

@@ -1,8 +1,9 @@
 //! The normal order of a list with room, by insertion.
-ghost use Rattle.std.specs.Prelude.{◌+◌, ◌<◌, ◌≤◌, length};
-ghost use Rattle.camp_seq.specs.Inside.FirstInOrder.{GoesIn};
-ghost use Rattle.camp_seq.specs.Inside.Insertions.{GoesBack, Placed, StandsAt, StaysAt};
+ghost use Rattle.std.specs.Prelude.{List, [], ◌∷◌, ◌++◌, ◌-◌, length, take, drop};
+ghost use Rattle.camp_prim.specs.declared.named.Named.{Named};
+ghost use Rattle.camp_seq.specs.Inside.FirstInOrder.{ComesIn, GoesIn};
 ghost use Rattle.camp_seq.specs.NormalOrder.{Norm};
+ghost use Rattle.camp_seq.specs.Passing.{Passes};
 ghost use Rattle.camp_seq.specs.Room.{HasRoom};
 
 use crate::passes::come_forward;
@@ -22,46 +23,37 @@ pub(crate) fn order_by_insertion(items: &mut [Named])
 /// Commutes the last element to its place among the others, which are in normal order: behind those
 /// that it can't pass, and there behind those whose labels are less than its own.
 fn place_last(items: &mut [Named])
-    requires { 0 < length items.old }
-    ensures { Placed items.old items.new }
+    requires room { HasRoom items.old }
+    requires own { Norm (take (length items.old - 1) items.old) (take (length items.old - 1) items.old) }
+    ensures { Norm items.old items.new }
 {
-    let last = items.len() - 1;
-    let (others, rest) = items.split_at_mut(last);
-    let at = find_place(others, &mut rest[0]);
+    let Some((last, others)) = items.split_last_mut() else {
+        return;
+    };
+    let at = find_place(others, last);
     items[at..].rotate_right(1);
 }
 
 /// Commutes `x`, which stands behind `s`, to its place among the elements of `s`. Each stays in its
 /// place in memory, and the answer is the number of elements of `s` before it.
-#[tactic(auto, using(crate::proofs::PlacingSteps::stands))]
 fn find_place(s: &mut [Named], x: &mut Named) -> usize
-    ensures { StaysAt s.old x.old result s.new x.new }
+    requires room { HasRoom (s.old ++ x.old ∷ []) }
+    requires own { Norm s.old s.old }
+    ensures { ComesIn s.old x.old result s.new x.new }
 {
-    let at = come_forward(s, x);
-    go_back(s, x, at)
-}
-
-/// Commutes `x`, which has come to a place, to the right, past elements with lesser labels.
-fn go_back(s: &mut [Named], x: &mut Named, from: usize) -> usize
-    requires { from ≤ length s.old }
-    ensures { GoesBack s.old x.old from result s.new x.new }
-{
-    for at in from..s.len() {
-        if !has_less_label(&s[at], x) {
-            return at;
-        }
-        if !commute_in_place(x, &mut s[at]) {
-            return at;
-        }
-    }
-    s.len()
+    let from = come_forward(s, x);
+    let at = go_in(x, &mut s[from..]);
+    from + at
 }
 
 /// Commutes `a`, which stands before `s`, to the right, past elements with lesser labels, as far as it
-/// can. Each stays in its place in memory, and the answer is the number of elements of `s` before it.
+/// can. Each stays in its place in memory, and the answer is the number of elements of `s` before it. An element
+/// that can pass all of `s` stays there before the others as they are.
 pub(crate) fn go_in(a: &mut Named, s: &mut [Named]) -> usize
     requires { Norm s.old s.old }
-    ensures { GoesIn s.old a.old result s.new a.new }
+    ensures place { GoesIn s.old a.old result s.new a.new }
+    ensures stays { (t : List Named) (p : Named) → Passes a.old s.old t p
+        → Norm (a.new ∷ drop result s.old) (a.new ∷ drop result s.old) }
 {
     for at in 0..s.len() {
         if !has_less_label(&s[at], a) {

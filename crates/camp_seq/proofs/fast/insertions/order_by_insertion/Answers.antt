@@ -1,19 +1,30 @@
-use Rattle.camp_seq.proofs.Words.{◌≡◌, ◌+◌, List, length, subst, ◌∙◌, arith, length-take-le, take_all, Named, same, InOrder}
-use Rattle.camp_seq.proofs.PlacingSteps.{norm_of_equivalent, placed_more}
+use Rattle.camp_seq.proofs.Words.{◌≡◌, ◌+◌, ◌-◌, List, length, take, refl, sym, subst, ◌∙◌, arith, length-take-le, take_all, take-take, Named, same, Norm}
+use Rattle.camp_seq.proofs.PlacingSteps.{norm_of_equivalent, placed_more, room_of_part}
 use Rattle.camp_seq.proofs.fast.insertions.order_by_insertion.Goals as goal
 
 pub loop-last-init : goal.loop-last-init
-loop-last-init c = record { same = same; ordered = tt }
+loop-last-init c = record { same = same; ordered = refl }
+
+pub place_last-requires : goal.place_last-requires
+place_last-requires c =
+    let s : List Named = c.loop-last.items in
+    let n = c.loop-last.last in
+    let part : List Named = take (n + 1) s in
+    let shorter : length part - 1 ≡ n = omega (arith, length-take-le (n + 1) s (omega arith)) in
+    record {
+      room = room_of_part c.args.items.now s n c.requires c.loop-last.invariant.same;
+      own = rw shorter (subst (λ l. Norm l l) (sym (take-take n (n + 1) s (omega arith))) c.loop-last.invariant.ordered);
+    }
 
 pub loop-last-preserved : goal.loop-last-preserved
 loop-last-preserved c =
     let s : List Named = c.loop-last.items in
     let n = c.loop-last.last in
     let long : length c.place_last.new.items ≡ n + 1 = c.place_last.auto.items ∙ length-take-le (n + 1) s (omega arith) in
-    let next = placed_more c.args.items.now s c.place_last.new.items n c.requires c.loop-last.invariant.same c.loop-last.invariant.ordered (omega arith) long c.place_last.ensures in
+    let next = placed_more c.args.items.now s n c.requires c.loop-last.invariant.same c.place_last.new.items long c.place_last.ensures in
     record { same = next.0; ordered = next.1 }
 
 pub returns : goal.returns
 returns c =
     let s : List Named = c.loop-last.items in
-    norm_of_equivalent c.args.items.now s c.requires c.loop-last.invariant.same (subst InOrder (take_all c.loop-last.last s (omega arith)) c.loop-last.invariant.ordered)
+    norm_of_equivalent c.args.items.now s c.requires c.loop-last.invariant.same (subst (λ l. Norm l l) (take_all c.loop-last.last s (omega arith)) c.loop-last.invariant.ordered)

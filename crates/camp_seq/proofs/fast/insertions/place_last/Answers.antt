@@ -1,18 +1,23 @@
-use Rattle.camp_seq.proofs.Words.{◌≡◌, length, ◌++◌, set, get_or, sym, ap, ◌∙◌, subst, arith, take_rest, Placed}
+use Rattle.camp_seq.proofs.Words.{◌∷◌, [], ◌++◌, ◌-◌, length, take, ap, refl, sym, ◌∙◌, subst, arith, take_at, take_rest, HasRoom, Norm}
 use Rattle.camp_seq.proofs.OrderSteps.{rest_written}
-use Rattle.camp_seq.proofs.PlacingSteps.{only, placed_there}
+use Rattle.camp_seq.proofs.OwnOrders.{none_in_order}
+use Rattle.camp_seq.proofs.PlacingSteps.{placed_there}
 use Rattle.camp_seq.proofs.fast.insertions.place_last.Goals as goal
+
+pub returns-in_default : goal.returns-in_default
+returns-in_default c = none_in_order c.args.items.now c.in_default.ensures.cases
+
+pub find_place-at-requires : goal.find_place-at-requires
+find_place-at-requires c =
+    let n = length c.args.items.now - 1 in
+    let (is, long) = c.in-Some.ensures.cases in
+    record {
+      room = subst HasRoom is c.requires.room;
+      own = subst (λ l. Norm l l) (ap (take n) is ∙ take_at c.in-Some.others.now (c.in-Some.last.now ∷ []) n (omega arith)) c.requires.own;
+    }
 
 pub returns : goal.returns
 returns c =
-    let parts = c.split_at_mut-others.ensures in
-    let others = c.split_at_mut-others.result.0.now in
-    let rest = c.split_at_mut-others.result.1.now in
-    let d = c.index-rest-0.result in
-    let left = c.find_place-at.new.s in
-    let moved = c.find_place-at.new.x in
+    let items = c.find_place-at.new.s ++ c.find_place-at.new.x ∷ [] in
     let at = c.find_place-at.result in
-    let one : length rest ≡ 1 = omega (arith, parts.back_len) in
-    let last = only rest d moved one in
-    let items = left ++ set rest 0 moved in
-    subst (Placed c.args.items.now) (sym (rest_written items c.rotate_right.new.self at)) (placed_there c.args.items.now others left items _ c.rotate_right.new.self (get_or rest 0 d) moved at (parts.value ∙ ap (λ y. others ++ y) last.0) c.find_place-at.ensures (ap (λ y. left ++ y) last.1) (take_rest items at) c.rotate_right.ensures.after)
+    subst (Norm c.args.items.now) (sym (rest_written items c.rotate_right.new.self at)) (placed_there c.args.items.now c.in-Some.others.now c.find_place-at.new.s items _ c.rotate_right.new.self c.in-Some.last.now c.find_place-at.new.x at c.in-Some.ensures.cases.0 c.find_place-at.auto.s c.find_place-at.ensures refl (take_rest items at) c.rotate_right.ensures.after)
