@@ -1,6 +1,5 @@
 -- An element before a list that is its own normal order.
-use Rattle.std.proofs.Common.{◌==◌, eqb-true, Bool, true, false, IsTrue}
-use Rattle.camp_seq.proofs.Words.{◌≡◌, ◌≢◌, ℕ, zero, suc, ◌+◌, ◌<◌, ◌≤◌, List, [], ◌∷◌, ◌++◌, length, take, drop, get_or, set, set-get_or, refl, sym, ap, ◌∙◌, subst, inl, inr, arith, append_assoc, length-set, drop_all, drop_at, drop_more, length-take-le, take_at, take_more_set, Less, label_of, label_cmp, Commute, Label, Named, not_below, not_above, not_below_both, IsLeast, Norm, HasRoom, Passes, backwards, swap_unique}
+use Rattle.camp_seq.proofs.Words.{◌≡◌, ◌≢◌, Bool, true, false, IsTrue, ℕ, zero, suc, ◌+◌, ◌<◌, ◌≤◌, List, [], ◌∷◌, ◌++◌, length, take, drop, get_or, set, set-get_or, refl, sym, ap, ◌∙◌, subst, inl, inr, arith, append_assoc, length-set, drop_all, drop_at, drop_more, length-take-le, take_at, take_more_set, Less, label_of, label_cmp, Commute, Label, Named, not_below, not_above, not_below_both, IsLeast, Norm, Fronts, HasRoom, Passes, backwards, swap_unique}
 use Rattle.camp_seq.specs.Chains.{CanCommute}
 use Rattle.camp_seq.specs.Inside.FirstInOrder.{GoesIn, OrderedFrom, StaysBehind, NoneBefore}
 use Rattle.camp_seq.proofs.ListEquivalence.{ordered}
@@ -32,6 +31,15 @@ lesser_first x q q' x' s t less swap least n =
       | inr w ↦ least other w.1.0 w.1.2 w.1.3
     ] in
     (x' ∷ s, inr (apart, (q, x', s, inl (sym same, refl, refl), swap, refl)), subst (λ l. IsLeast l (x ∷ q ∷ s)) (sym same) first, n)
+
+-- an element stays first where none with a lesser label comes to before it
+none_first : (x : Named) (s : List Named) → Norm s s → ((other : Label) (y : Named) (t : List Named) → Fronts other s y t → CanCommute x y → label_cmp other (label_of x) ≢ Less) → Norm (x ∷ s) (x ∷ s)
+none_first x s own none =
+    let least : IsLeast (label_of x) (x ∷ s) = λ other y t front. elim front [
+      | inl f ↦ not_below other (label_of x) (sym f.0)
+      | inr f ↦ none other f.1.0 f.1.2 f.1.3 (y, (f.1.1, f.1.4))
+    ] in
+    (s, inl (refl, refl, refl), least, own)
 
 -- one place further to the right
 pub goes_in_more : (s0 s : List Named) (x0 x : Named) (i : ℕ) (d q' x' : Named) → Norm s0 s0 → i < length s → label_cmp (label_of (get_or s i d)) (label_of x) ≡ Less → Commute x (get_or s i d) q' x' → GoesIn s0 x0 i s x → GoesIn s0 x0 (i + 1) (set s i q') x'
@@ -67,11 +75,8 @@ waits s0 s x0 x i d own within not w =
     let rest : List Named = drop (i + 1) s0 in
     let next : drop i s0 ≡ q ∷ rest = at_next s0 s i d within w.long w.waiting in
     let own_rest : Norm (q ∷ rest) (q ∷ rest) = subst (λ l. Norm l l) next (own_behind s0 i own) in
-    let least : IsLeast (label_of x) (x ∷ q ∷ rest) = λ other y t front. elim front [
-      | inl f ↦ not_below other (label_of x) (sym f.0)
-      | inr f ↦ not_below_both other (label_of q) (label_of x) ((rest_ordered q rest own_rest).0 other f.1.0 f.1.2 f.1.3) not
-    ] in
-    subst (λ l. Norm (x ∷ l) (x ∷ l)) (sym next) (q ∷ rest, inl (refl, refl, refl), least, own_rest)
+    let first = (rest_ordered q rest own_rest).0 in
+    subst (λ l. Norm (x ∷ l) (x ∷ l)) (sym next) (none_first x (q ∷ rest) own_rest (λ other y t front moves. not_below_both other (label_of q) (label_of x) (first other y t front) not))
 
 -- and behind all of them
 pub waits_last : (s0 : List Named) (x : Named) (i : ℕ) → length s0 ≤ i → Norm (x ∷ drop i s0) (x ∷ drop i s0)
@@ -92,25 +97,11 @@ behind_those label greatest more last p s least (inr w) none other found u (inl 
 behind_those label greatest more last p s least (inr w) none other found u (inr f) moves above =
     none other f.1.0 f.1.2 f.1.3 (found, (f.1.1, f.1.4)) (subst (λ l. label_cmp other l ≢ Less) (sym w.1) (least other found u (inr f)))
 
--- before nothing an element is alone
-pub first_alone : (x : Named) (s : List Named) (test : Bool) → test ≡ (length s == 0) → test ≡ true → Norm (x ∷ s) (x ∷ s)
-first_alone x [] test counts is = chain_is_ordered (x ∷ []) (tt, tt)
-first_alone x (p ∷ s) test counts is =
-    let none : length (p ∷ s) ≡ 0 = eqb-true _ _ (sym counts ∙ is) in
-    absurd (omega arith)
-
 -- where none comes to before it the element stays first
-pub first_stays : (x p : Named) (s : List Named) (test : Bool) → test ≡ (length s == 0) → test ≡ false → p ≡ get_or s 0 p → Norm s s → NoneBefore (label_of x) (label_of p) x (drop 0 s) → Norm (x ∷ s) (x ∷ s)
-first_stays x p [] test counts some is own none =
-    let never : true ≡ false = sym counts ∙ some in
-    cc
-first_stays x p (q ∷ s) test counts some is own none =
-    let least : IsLeast (label_of x) (x ∷ q ∷ s) = λ other y t front. elim front [
-      | inl w ↦ not_below other (label_of x) (sym w.0)
-      | inr w ↦
-          none other w.1.0 w.1.2 w.1.3 (y, (w.1.1, w.1.4)) (subst (λ z. label_cmp other (label_of z) ≢ Less) (sym is) ((rest_ordered q s own).0 other w.1.0 w.1.2 w.1.3))
-    ] in
-    (q ∷ s, inl (refl, refl, refl), least, own)
+pub first_stays : (x p : Named) (s rest : List Named) → s ≡ p ∷ rest → Norm s s → NoneBefore (label_of x) (label_of p) x s → Norm (x ∷ s) (x ∷ s)
+first_stays x p s rest is own none =
+    let least = (rest_ordered p rest (subst (λ l. Norm l l) is own)).0 in
+    none_first x s own (λ other y t front moves. none other y t front moves (least other y t (subst (λ l. Fronts other l y t) is front)))
 
 -- a look that goes on over a list that is its own normal order
 module _ (s : List Named) (own : Norm s s) (at : ℕ) (label greatest : Label) (last : Named) (Fact : Type 0) (so_far : NoneBefore label greatest last (drop at s) → Fact) where

@@ -1,11 +1,10 @@
 -- Lists that are their own normal order: those in which no two neighbours commute, and those in which each element
 -- stays behind the others.
-use Rattle.camp_seq.proofs.Words.{◌≡◌, ◌≢◌, Bool, true, ℕ, zero, suc, ◌+◌, ◌-◌, ◌<◌, ◌≤◌, List, [], ◌∷◌, ◌++◌, length, take, drop, get_or, take_all, take_more, arith, ap, ◌∙◌, refl, sym, subst, inl, inr, ◌⊎◌, Less, label_of, label_cmp, Commute, Label, Named, not_below, not_below_both, Chain, StaysBefore, IsLeast, Norm, Fronts}
-use Rattle.std.proofs.Common.{◌==◌, eqb-true, false, IsTrue, Option, None, Some}
+use Rattle.camp_seq.proofs.Words.{◌≡◌, ◌≢◌, IsTrue, Option, None, Some, ℕ, zero, suc, ◌+◌, ◌-◌, ◌<◌, ◌≤◌, List, [], ◌∷◌, ◌++◌, length, take, drop, get_or, append-nil, take_more, arith, ap, ◌∙◌, refl, sym, subst, inl, inr, ◌⊎◌, Less, label_of, label_cmp, Commute, Label, Named, not_above, not_below, not_below_both, Chain, StaysBefore, IsHeld, Precedes, IsLeast, Norm, Fronts}
 use Rattle.std.specs.List.{AllByRecursion}
 use Rattle.std.specs.Prelude.{IfSome, is_some}
-use Rattle.camp_prim.proofs.LabelOrder.{not_above}
 use Rattle.camp_seq.specs.Chains.{CanCommute}
+use Rattle.camp_seq.proofs.PassingSteps.{all_hold}
 use Rattle.camp_seq.specs.Inside.NextInOrder.{IsInOrder, NoneAbove, StaysLast}
 
 -- what comes to the front where no two neighbours commute stands there
@@ -36,29 +35,16 @@ chain_is_ordered (p ∷ s) c =
     let least : IsLeast (label_of p) (p ∷ s) = λ other y t w. not_below other (label_of p) (sym (front_of_chain other p s y t c w).0) in
     (s, inl (refl, refl, refl), least, chain_is_ordered s c.1)
 
--- x does not commute with the last of the list
-abbrev StuckBehind : List Named → Named → Type 0
-StuckBehind [] x = ⊥
-StuckBehind (p ∷ []) x = ¬ (CanCommute p x)
-StuckBehind (p ∷ q ∷ s) x = StuckBehind (q ∷ s) x
-
-stuck_behind : (s : List Named) (last x : Named) → ¬ (CanCommute last x) → StuckBehind (s ++ last ∷ []) x
-stuck_behind [] last x stuck = stuck
-stuck_behind (p ∷ []) last x stuck = stuck
-stuck_behind (p ∷ q ∷ s) last x stuck = stuck_behind (q ∷ s) last x stuck
-
--- what comes to the front of a list with one more element comes there without it, or is that element
-came_from : (other : Label) (s : List Named) (x y : Named) (t : List Named) → Fronts other (s ++ x ∷ []) y t → ((u : List Named) × Fronts other s y u) ⊎ ((label_of x ≡ other) × ¬ (StuckBehind s x))
-came_from other [] x y t (inl w) = inr (w.0, λ stuck. stuck)
-came_from other [] x y t (inr w) = absurd w.1.3
-came_from other (p ∷ s) x y t (inl w) = inl (s, inl (w.0, w.1, refl))
-came_from other (p ∷ []) x y t (inr (apart, (found, p', u, inl w, swap, is))) =
-    inr (w.0, λ stuck. stuck (y, (p', subst (λ z. Commute p z y p') w.1 swap)))
-came_from other (p ∷ []) x y t (inr (apart, (found, p', u, inr w, swap, is))) = absurd w.1.3
-came_from other (p ∷ q ∷ s) x y t (inr (apart, (found, p', u, front, swap, is))) =
-    elim (came_from other (q ∷ s) x found u front) [
-      | inl w ↦ inl (p' ∷ w.0, inr (apart, (found, p', w.0, w.1, swap, refl)))
-      | inr w ↦ inr (w.0, w.1)
+-- what comes to the front of a list with one more element is what came there without it, or that element
+pub fronts_of_longer : (label : Label) (s : List Named) (x y : Named) (t : List Named) → Fronts label (s ++ x ∷ []) y t → ((u : List Named) × Fronts label s y u) ⊎ ((label_of x ≡ label) × ((u : List Named) × Precedes s x y u))
+fronts_of_longer label [] x y t (inl f) = inr (f.0, ([], (f.1, refl)))
+fronts_of_longer label [] x y t (inr f) = absurd f.1.3
+fronts_of_longer label (q ∷ s) x y t (inl f) = inl (s, inl (f.0, f.1, refl))
+fronts_of_longer label (q ∷ s) x y t (inr f) =
+    let a = f.1 in
+    elim (fronts_of_longer label s x a.0 a.2 a.3) [
+      | inl g ↦ inl (a.1 ∷ g.0, inr (f.0, (a.0, a.1, g.0, g.1, a.4, refl)))
+      | inr g ↦ inr (g.0, (a.1 ∷ g.1.0, (a.0, a.1, g.1.0, g.1.1, a.4, refl)))
     ]
 
 -- the first of a list that is its own order is taken first, and the rest is its own order
@@ -66,30 +52,29 @@ pub rest_ordered : (p : Named) (s : List Named) → Norm (p ∷ s) (p ∷ s) →
 rest_ordered p s (rest, inl w, least, n) = (least, subst (λ r. Norm r s) w.2 n)
 rest_ordered p s (rest, inr w, least, n) = absurd (w.0 refl)
 
--- x has no lesser label than any of the list, or does not commute with its last
+-- x has no lesser label than any of the list, or comes to before none of it
 abbrev Behind : List Named → Named → Type 0
-Behind s x = NoneAbove (label_of x) s ⊎ StuckBehind s x
+Behind s x = NoneAbove (label_of x) s ⊎ IsHeld s [] x
 
-behind_rest : (p : Named) (s : List Named) (x : Named) → Behind (p ∷ s) x → Behind s x
-behind_rest p [] x b = inl tt
-behind_rest p (q ∷ s) x (inl above) = inl above.1
-behind_rest p (q ∷ s) x (inr stuck) = inr stuck
-
-least_of_more : (p : Named) (s : List Named) (x : Named) → IsLeast (label_of p) (p ∷ s) → Behind (p ∷ s) x → IsLeast (label_of p) (p ∷ (s ++ x ∷ []))
-least_of_more p s x least b other y t front = elim (came_from other (p ∷ s) x y t front) [
-  | inl w ↦ least other y w.0 w.1
-  | inr w ↦ elim b [
-    | inl above ↦ subst (λ l. label_cmp l (label_of p) ≢ Less) w.0 above.0
-    | inr stuck ↦ absurd (w.1 stuck)
-  ]
-]
-
--- an element behind a list that is its own order, whose label is not less than any there, or that is stuck
+-- an element behind a list that is its own order, whose label is not less than any there, or that is held there
 ordered_with : (s : List Named) (x : Named) → Norm s s → Behind s x → Norm (s ++ x ∷ []) (s ++ x ∷ [])
 ordered_with [] x n b = chain_is_ordered (x ∷ []) (tt, tt)
 ordered_with (p ∷ s) x n b =
-    let rest = rest_ordered p s n in
-    (s ++ x ∷ [], inl (refl, refl, refl), least_of_more p s x rest.0 b, ordered_with s x rest.1 (behind_rest p s x b))
+    let first = rest_ordered p s n in
+    let least : IsLeast (label_of p) (p ∷ (s ++ x ∷ [])) = λ other y t front. elim (fronts_of_longer other (p ∷ s) x y t front) [
+      | inl w ↦ first.0 other y w.0 w.1
+      | inr w ↦ elim b [
+        | inl above ↦ subst (λ l. label_cmp l (label_of p) ≢ Less) w.0 above.0
+        | inr held ↦ absurd (held.0 y w.1.0 (subst (λ l. Precedes (p ∷ l) x y w.1.0) (sym (append-nil s)) w.1.1))
+      ]
+    ] in
+    let rest : Behind s x = elim b [ inl above ↦ inl above.1 | inr held ↦ inr held.1 ] in
+    (s ++ x ∷ [], inl (refl, refl, refl), least, ordered_with s x first.1 rest)
+
+-- the last of some elements holds what does not commute with it
+held_by_last : (s rest : List Named) (last x : Named) → s ≡ rest ++ last ∷ [] → ¬ (CanCommute last x) → IsHeld s [] x
+held_by_last s rest last x is stuck =
+    subst (λ l. IsHeld l [] x) (sym is) (all_hold rest last [] x x [] (refl, refl) (λ q p w. stuck (q, (p, w))))
 
 -- a label that is not less than the greatest
 above_all : (g label : Label) (s : List Named) → label_cmp label g ≢ Less → NoneAbove g s → NoneAbove label s
@@ -101,29 +86,25 @@ pub and_last : (P : Named → Type 0) (s : List Named) (p : Named) → AllByRecu
 and_last P [] p all one = (one, tt)
 and_last P (q ∷ s) p all one = (all.0, and_last P s p all.1 one)
 
--- one element is in order
-one_in_order : (x : Named) → IsInOrder (x ∷ []) (label_of x)
-one_in_order x = record { ordered = chain_is_ordered (x ∷ []) (tt, tt); above = (not_below (label_of x) (label_of x) refl, tt) }
-
--- and so is a list in order with an element that stays behind it
-more_in_order : (s : List Named) (last x : Named) (greatest more : Label) → IsInOrder (s ++ last ∷ []) greatest → StaysLast greatest last x more → IsInOrder ((s ++ last ∷ []) ++ x ∷ []) more
-more_in_order s last x greatest more in_order (inl w) =
-    let above = above_all greatest (label_of x) (s ++ last ∷ []) w.0 in_order.above in
-    subst (IsInOrder ((s ++ last ∷ []) ++ x ∷ [])) (sym w.1) (record {
-      ordered = ordered_with (s ++ last ∷ []) x in_order.ordered (inl above);
-      above = and_last (λ p. label_cmp (label_of x) (label_of p) ≢ Less) (s ++ last ∷ []) x above (not_below (label_of x) (label_of x) refl);
+-- with an element that stays behind it a list in order is in order
+more_in_order : (s rest : List Named) (last x : Named) (greatest more : Label) → s ≡ rest ++ last ∷ [] → IsInOrder s greatest → StaysLast greatest last x more → IsInOrder (s ++ x ∷ []) more
+more_in_order s rest last x greatest more is in_order (inl w) =
+    let above = above_all greatest (label_of x) s w.0 in_order.above in
+    subst (IsInOrder (s ++ x ∷ [])) (sym w.1) (record {
+      ordered = ordered_with s x in_order.ordered (inl above);
+      above = and_last (λ p. label_cmp (label_of x) (label_of p) ≢ Less) s x above (not_below (label_of x) (label_of x) refl);
     })
-more_in_order s last x greatest more in_order (inr w) =
-    subst (IsInOrder ((s ++ last ∷ []) ++ x ∷ [])) (sym w.2) (record {
-      ordered = ordered_with (s ++ last ∷ []) x in_order.ordered (inr (stuck_behind s last x w.1));
-      above = and_last (λ p. label_cmp greatest (label_of p) ≢ Less) (s ++ last ∷ []) x in_order.above (not_above (label_of x) greatest w.0);
+more_in_order s rest last x greatest more is in_order (inr w) =
+    subst (IsInOrder (s ++ x ∷ [])) (sym w.2) (record {
+      ordered = ordered_with s x in_order.ordered (inr (held_by_last s rest last x is w.1));
+      above = and_last (λ p. label_cmp greatest (label_of p) ≢ Less) s x in_order.above (not_above (label_of x) greatest w.0);
     })
 
 -- the first element, with which a look begins
-pub first_in_order : (s : List Named) (x : Named) (label : Label) → 0 < length s → x ≡ get_or s 0 x → label ≡ label_of x → IsInOrder (take 1 s) label
-first_in_order [] x label long is named = absurd (omega arith)
-first_in_order (p ∷ s) x label long is named =
-    subst (IsInOrder (p ∷ [])) (sym (named ∙ ap label_of is)) (one_in_order p)
+pub first_in_order : (s : List Named) (x : Named) → 0 < length s → x ≡ get_or s 0 x → IsInOrder (take 1 s) (label_of x)
+first_in_order [] x long is = absurd (omega arith)
+first_in_order (p ∷ s) x long is =
+    subst (λ y. IsInOrder (p ∷ []) (label_of y)) (sym is) (record { ordered = chain_is_ordered (p ∷ []) (tt, tt); above = (not_below (label_of p) (label_of p) refl, tt) })
 
 -- and those behind it, one by one
 pub next_in_order : (s : List Named) (at : ℕ) (last x : Named) (greatest more : Label) → 1 ≤ at → at < length s → last ≡ get_or s (at - 1) last → x ≡ get_or s at x → IsInOrder (take at s) greatest → StaysLast greatest last x more → IsInOrder (take (at + 1) s) more
@@ -132,44 +113,23 @@ next_in_order s at last x greatest more from within is next in_order stays =
     let e : at ≡ i + 1 = omega arith in
     let front : take at s ≡ take i s ++ last ∷ [] = ap (λ n. take n s) e ∙ take_more s i last (omega arith) ∙ ap (λ y. take i s ++ y ∷ []) (sym is) in
     let whole : take (at + 1) s ≡ take at s ++ x ∷ [] = take_more s at x within ∙ ap (λ y. take at s ++ y ∷ []) (sym next) in
-    subst (λ l. IsInOrder l more) (sym (whole ∙ ap (λ l. l ++ x ∷ []) front)) (more_in_order (take i s) last x greatest more (subst (λ l. IsInOrder l greatest) front in_order) stays)
+    subst (λ l. IsInOrder l more) (sym whole) (more_in_order (take at s) (take i s) last x greatest more front in_order stays)
 
--- all of them, and one more
-with_one_more : (s : List Named) (last x : Named) (greatest more : Label) → 0 < length s → last ≡ get_or s (length s - 1) last → IsInOrder s greatest → StaysLast greatest last x more → Norm (s ++ x ∷ []) (s ++ x ∷ [])
-with_one_more s last x greatest more long is in_order stays =
-    let i = length s - 1 in
-    let e : i + 1 ≡ length s = omega arith in
-    let front : s ≡ take i s ++ last ∷ [] = sym (take_all (i + 1) s (omega arith)) ∙ take_more s i last (omega arith) ∙ ap (λ y. take i s ++ y ∷ []) (sym is) in
-    subst (λ l. Norm (l ++ x ∷ []) (l ++ x ∷ [])) (sym front) (more_in_order (take i s) last x greatest more (subst (λ l. IsInOrder l greatest) front in_order) stays).ordered
+-- all of them, and one more, of which a look has told that it stays behind
+pub one_more_told : {A : Type 0} (label : A → Label) (s rest : List Named) (last x : Named) (greatest : Label) (more : Option A) → s ≡ rest ++ last ∷ [] → IsInOrder s greatest → IfSome more (λ y. StaysLast greatest last x (label y)) → IsTrue (is_some more) → Norm (s ++ x ∷ []) (s ++ x ∷ [])
+one_more_told label s rest last x greatest None is in_order stays never = cc
+one_more_told label s rest last x greatest (Some more) is in_order stays holds =
+    (more_in_order s rest last x greatest (label more) is in_order stays).ordered
 
 -- a chain, and an element that does not commute with its last
-pub chain_with_last : (s : List Named) (last x : Named) → 0 < length s → last ≡ get_or s (length s - 1) last → Chain s → ¬ (CanCommute last x) → Norm (s ++ x ∷ []) (s ++ x ∷ [])
-chain_with_last s last x long is c stuck =
-    let i = length s - 1 in
-    let e : i + 1 ≡ length s = omega arith in
-    let front : s ≡ take i s ++ last ∷ [] = sym (take_all (i + 1) s (omega arith)) ∙ take_more s i last (omega arith) ∙ ap (λ y. take i s ++ y ∷ []) (sym is) in
-    let own : Norm (take i s ++ last ∷ []) (take i s ++ last ∷ []) = subst (λ l. Norm l l) front (chain_is_ordered s c) in
-    subst (λ l. Norm (l ++ x ∷ []) (l ++ x ∷ [])) (sym front) (ordered_with (take i s ++ last ∷ []) x own (inr (stuck_behind (take i s) last x stuck)))
+pub chain_with_last : (s rest : List Named) (last x : Named) → s ≡ rest ++ last ∷ [] → Chain s → ¬ (CanCommute last x) → Norm (s ++ x ∷ []) (s ++ x ∷ [])
+chain_with_last s rest last x is c stuck = ordered_with s x (chain_is_ordered s c) (inr (held_by_last s rest last x is stuck))
 
--- a list of nothing
+-- nothing, and one element behind it
 pub none_in_order : (s : List Named) → length s ≡ 0 → Norm s s
 none_in_order [] none = refl
 none_in_order (p ∷ s) none = absurd (omega arith)
 
--- behind nothing an element is alone
-pub one_alone : (s : List Named) (x : Named) (test : Bool) → test ≡ (length s == 0) → test ≡ true → Norm (s ++ x ∷ []) (s ++ x ∷ [])
-one_alone [] x test counts is = chain_is_ordered (x ∷ []) (tt, tt)
-one_alone (p ∷ s) x test counts is =
-    let none : length (p ∷ s) ≡ 0 = eqb-true _ _ (sym counts ∙ is) in
-    absurd (omega arith)
-
--- and where a body has found that one more stays behind
-pub one_more_told : {A : Type 0} (label : A → Label) (s : List Named) (last x : Named) (greatest : Label) (more : Option A) (told test : Bool) → test ≡ (length s == 0) → test ≡ false → last ≡ get_or s (length s - 1) last → IsInOrder s greatest → IfSome more (λ y. StaysLast greatest last x (label y)) → told ≡ is_some more → IsTrue told → Norm (s ++ x ∷ []) (s ++ x ∷ [])
-one_more_told label [] last x greatest more told test counts differs is in_order stays tells holds =
-    let never : true ≡ false = sym counts ∙ differs in
-    cc
-one_more_told label (p ∷ s) last x greatest None told test counts differs is in_order stays tells holds =
-    let never : false ≡ true = sym tells ∙ holds in
-    cc
-one_more_told label (p ∷ s) last x greatest (Some more) told test counts differs is in_order stays tells holds =
-    with_one_more (p ∷ s) last x greatest (label more) (omega arith) is in_order stays
+pub one_alone : (s : List Named) (x : Named) → length s ≡ 0 → Norm (s ++ x ∷ []) (s ++ x ∷ [])
+one_alone [] x none = chain_is_ordered (x ∷ []) (tt, tt)
+one_alone (p ∷ s) x none = absurd (omega arith)

@@ -54,7 +54,7 @@ passed_back s p p' s' true t r m w = one_pass p' s' t s r p w (precedes_back s p
 passed_back s p p' s' false t r m w = absurd (w (s, p) (precedes_back s p p' s' m))
 
 -- the neighbour that it can't pass holds it, and those before that one do
-all_hold : (a : List Named) (q : Named) (s : List Named) (x r : Named) (t : List Named) → Precedes s x r t → ((b c : Named) → ¬ (Commute q r b c)) → IsHeld (a ++ q ∷ []) s x
+pub all_hold : (a : List Named) (q : Named) (s : List Named) (x r : Named) (t : List Named) → Precedes s x r t → ((b c : Named) → ¬ (Commute q r b c)) → IsHeld (a ++ q ∷ []) s x
 all_hold [] q s x r t m never = ((λ p u. precedes_stop [] q s x r p t u m never), tt)
 all_hold (y ∷ a) q s x r t m never =
     ((λ p u. subst (λ z. ¬ (Precedes (y ∷ z) x p u)) (sym (append_assoc a (q ∷ []) s)) (precedes_stop (y ∷ a) q s x r p t u m never)), all_hold a q s x r t m never)

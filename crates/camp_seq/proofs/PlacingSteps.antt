@@ -7,7 +7,7 @@ use Rattle.camp_seq.proofs.ListEquivalence.{before, behind, equal_are, fronted, 
 use Rattle.camp_seq.proofs.ListResults.{label-front}
 use Rattle.camp_seq.proofs.ListSteps.{turned}
 use Rattle.camp_seq.proofs.NormalForms.{normal_form}
-use Rattle.camp_seq.proofs.OwnOrders.{rest_ordered}
+use Rattle.camp_seq.proofs.OwnOrders.{fronts_of_longer, rest_ordered}
 use Rattle.camp_seq.proofs.PassingSteps.{precedes_back}
 use Rattle.camp_seq.proofs.RoomSteps.{at_front, room_before, room_behind, room_exchanged, room_of_equivalent}
 
@@ -41,18 +41,6 @@ own_before x (q ∷ s) s' x' room m own =
     subst (λ l. label_cmp other l ≢ Less) m.3.anywhere.second (first.0 other g.0 g.1.0 (subst (λ l. Fronts other l g.0 g.1.0) m.5 g.1.1))
     in
     (s, inl (refl, refl, refl), least, own_before m.1 s m.2 x' room_behind_q m.4 first.1)
-
--- what comes to the front of a list with one more element is what came there without it, or that element
-pub fronts_of_longer : (label : Label) (t : List Named) (x y : Named) (u : List Named) → Fronts label (t ++ x ∷ []) y u → ComesFirst label y t ⊎ ((label_of x ≡ label) × ((v : List Named) × Precedes t x y v))
-fronts_of_longer label [] x y u (inl f) = inr (f.0, ([], (f.1, refl)))
-fronts_of_longer label [] x y u (inr f) = absurd f.1.3
-fronts_of_longer label (q ∷ t) x y u (inl f) = inl (t, inl (f.0, f.1, refl))
-fronts_of_longer label (q ∷ t) x y u (inr f) =
-    let a = f.1 in
-    elim (fronts_of_longer label t x a.0 a.2 a.3) [
-      | inl g ↦ inl (a.1 ∷ g.0, inr (f.0, (a.0, a.1, g.0, g.1, a.4, refl)))
-      | inr g ↦ inr (g.0, (a.1 ∷ g.1.0, (a.0, a.1, g.1.0, g.1.1, a.4, refl)))
-    ]
 
 -- a list that is its own normal order stays so behind elements that hold its x, where they were in order before it
 own_held : (a b : List Named) (x : Named) (t : List Named) → HasRoom (a ++ t) → t ~ (b ++ x ∷ []) → Norm (a ++ b) (a ++ b) → IsHeld a b x → Norm t t → Norm (a ++ t) (a ++ t)

@@ -28,15 +28,12 @@ pub fn are_own_orders(items: &[Named], last: &Named) -> (bool, bool)
     ensures list { IsTrue result.0 → Norm items.now items.now }
     ensures with_last { IsTrue result.1 → Norm (items.now ++ last.now ∷ []) (items.now ++ last.now ∷ []) }
 {
-    if items.is_empty() {
+    let Some((previous, _)) = items.split_last() else {
         return (true, true);
-    }
+    };
     match greatest_in_order(items) {
         None => (false, false),
-        Some(greatest) => {
-            let stays = greatest_with(greatest, &items[items.len() - 1], last).is_some();
-            (true, stays)
-        }
+        Some(greatest) => (true, greatest_with(greatest, previous, last).is_some()),
     }
 }
 
@@ -47,11 +44,10 @@ pub fn are_own_orders_of_chain(items: &[Named], last: &Named) -> (bool, bool)
     ensures list { IsTrue result.0 → Norm items.now items.now }
     ensures with_last { IsTrue result.1 → Norm (items.now ++ last.now ∷ []) (items.now ++ last.now ∷ []) }
 {
-    let count = items.len();
-    if count < 2 {
-        return are_own_orders(items, last);
-    }
-    if can_commute(&items[count - 1], last) {
+    let Some((previous, _)) = items.split_last() else {
+        return (true, true);
+    };
+    if can_commute(previous, last) {
         return are_own_orders(items, last);
     }
     (true, true)
@@ -64,10 +60,7 @@ fn greatest_in_order(items: &[Named]) -> Option<&Named>
 {
     let mut greatest = &items[0];
     for at in 1..items.len() {
-        match greatest_with(greatest, &items[at - 1], &items[at]) {
-            None => return None,
-            Some(more) => greatest = more,
-        }
+        greatest = greatest_with(greatest, &items[at - 1], &items[at])?;
     }
     Some(greatest)
 }
@@ -92,10 +85,9 @@ pub(crate) fn stays_first(x: &Named, s: &[Named]) -> bool
     requires { Norm s.now s.now }
     ensures { IsTrue result → Norm (x.now ∷ s.now) (x.now ∷ s.now) }
 {
-    if s.is_empty() {
+    let Some((mut greatest, _)) = s.split_first() else {
         return true;
-    }
-    let mut greatest = &s[0];
+    };
     let mut last = x;
     for at in 0..s.len() {
         let p = &s[at];

@@ -1,12 +1,12 @@
 use Rattle.camp_seq.proofs.Words.{◌∷◌, sym, ◌∙◌, arith, label_of, label_cmp, not_less_where, Norm}
-use Rattle.camp_seq.proofs.FirstOrders.{first_alone, first_stays, look_on, look_no_further, looked_at_all}
+use Rattle.camp_seq.proofs.FirstOrders.{waits_last, first_stays, look_on, look_no_further, looked_at_all}
 use Rattle.camp_seq.proofs.fast.looks.stays_first.Goals as goal
 
-pub returns-then-is_empty : goal.returns-then-is_empty
-returns-then-is_empty c = λ yes. first_alone c.args.x.now c.args.s.now _ c.is_empty.ensures c.if-is_empty.true
+pub returns-in_default : goal.returns-in_default
+returns-in_default c = λ yes. waits_last c.args.s.now c.args.x.now 0 (omega (arith, c.in_default.ensures.cases))
 
 pub loop-at-init : goal.loop-at-init
-loop-at-init c = first_stays c.args.x.now c.index-s-0.result c.args.s.now _ c.is_empty.ensures c.if-is_empty.false c.index-s-0.is c.requires
+loop-at-init c = first_stays c.args.x.now c.in-Some.greatest.now c.args.s.now _ c.in-Some.ensures.cases.0 c.requires
 
 pub returns-then-not-has_less_label : goal.returns-then-not-has_less_label
 returns-then-not-has_less_label c = λ yes.
@@ -15,7 +15,7 @@ returns-then-not-has_less_label c = λ yes.
 
 pub loop-at-preserved : goal.loop-at-preserved
 loop-at-preserved c =
-    look_on c.args.s.now c.requires c.loop-at.at (label_of c.args.x.now) (label_of c.loop-at.greatest.now) c.loop-at.last.now (Norm (c.args.x.now ∷ c.args.s.now) (c.args.x.now ∷ c.args.s.now)) c.loop-at.invariant c.index-s-at.result (omega arith) c.index-s-at.is (label_of c.in-Some.next.now) (rw c.in-Some.is at c.greatest_behind.ensures)
+    look_on c.args.s.now c.requires c.loop-at.at (label_of c.args.x.now) (label_of c.loop-at.greatest.now) c.loop-at.last.now (Norm (c.args.x.now ∷ c.args.s.now) (c.args.x.now ∷ c.args.s.now)) c.loop-at.invariant c.index-s-at.result (omega arith) c.index-s-at.is (label_of c.in-Some-greatest_behind.next.now) (rw c.in-Some-greatest_behind.is at c.greatest_behind.ensures)
 
 pub returns : goal.returns
 returns c = λ yes.
