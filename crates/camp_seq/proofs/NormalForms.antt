@@ -1,7 +1,8 @@
 -- What comes to the front of a list with room comes to the front of each list that is one exchange from it.
-use Rattle.camp_seq.proofs.Words.{◌≡◌, ◌≢◌, ◌⊎◌, List, [], ◌∷◌, ◌++◌, refl, sym, ap, ◌∙◌, subst, inl, inr, label_of, key_of, Label, Commute, Named, own_inverse, swap_unique, CommutesOnce, Fronts, Reaches, HasRoom, IsLeast, Norm, NormalForm, length, length-append, arith}
+use Rattle.camp_seq.proofs.Words.{◌≡◌, ◌≢◌, ◌⊎◌, List, [], ◌∷◌, ◌++◌, refl, sym, ap, ◌∙◌, subst, inl, inr, label_of, key_of, Label, Commute, Named, own_inverse, swap_unique, ◌~◌, CommutesOnce, Fronts, HasRoom, IsLeast, Norm, NormalForm, length, length-append, arith}
 use Rattle.camp_seq.proofs.LawOfThree.{law_of_three}
-use Rattle.camp_seq.proofs.RoomSteps.{reaches_behind, front_reached, room_after, room_before, room_behind, room_exchanged, kept_by_swaps, at_front, exchanges_behind, exchanges_back}
+use Rattle.camp_seq.proofs.ListEquivalence.{behind, fronted}
+use Rattle.camp_seq.proofs.RoomSteps.{room_before, room_behind, room_exchanged, room_of_equivalent, kept_by_swaps, at_front, exchanges_behind, exchanges_back}
 
 -- equal, or one exchange apart
 abbrev pub Near : List Named → List Named → Type 0
@@ -32,10 +33,8 @@ second_comes label p q q' p' s y p1 u w named v rest =
 -- a third behind the two comes to the front
 third_comes : (label : Label) (p q q' p' : Named) (s : List Named) (y : Named) (u : List Named) (r q1 r1 p1 : Named) (v : List Named) → HasRoom (p ∷ q ∷ s) → Commute p q q' p' → label_of p ≢ label → label_of q ≢ label → Fronts label s r v → Commute q r r1 q1 → Commute p r1 y p1 → u ≡ p1 ∷ q1 ∷ v → FrontsNear label (q' ∷ p' ∷ s) y u
 third_comes label p q q' p' s y u r q1 r1 p1 v room w not_p not_q front b c rest =
-    let came : Reaches (p ∷ q ∷ s) (p ∷ q ∷ r ∷ v) =
-    reaches_behind p (q ∷ s) (q ∷ r ∷ v) (reaches_behind q s (r ∷ v) (front_reached label s r v front)) in
-    let room_of_three : HasRoom (p ∷ q ∷ r ∷ []) =
-    room_before (p ∷ q ∷ r ∷ []) v (room_after (p ∷ q ∷ s) (p ∷ q ∷ r ∷ v) room came) in
+    let came : (p ∷ q ∷ s) ~ (p ∷ q ∷ r ∷ v) = behind (p ∷ q ∷ []) s (r ∷ v) (fronted label s r v front) in
+    let room_of_three : HasRoom (p ∷ q ∷ r ∷ []) = room_before (p ∷ q ∷ r ∷ []) v (room_of_equivalent _ _ came room) in
     let n = law_of_three.from_behind p q r q' p' r1 q1 y p1 room_of_three w b c in
     let passes_p : Fronts label (p' ∷ s) n.0 (n.1 ∷ v) =
     inr ((λ e. not_p (sym w.anywhere.first ∙ e)), (r, n.1, v, front, n.3.pr, refl)) in (
@@ -89,7 +88,7 @@ norm_exchanged s t (y ∷ u) room e n =
     let rest : Norm f.0 u = elim f.2 [
       | inl is ↦ subst (λ x. Norm x u) is n.3
       | inr w ↦
-          norm_exchanged n.0 f.0 u (room_behind y n.0 (room_after s (y ∷ n.0) room (front_reached (label_of y) s y n.0 n.1))) w n.3
+          norm_exchanged n.0 f.0 u (room_behind y n.0 (room_of_equivalent s (y ∷ n.0) (fronted (label_of y) s y n.0 n.1) room)) w n.3
     ] in
     (f.0, f.1, least_exchanged s t y room e n.2, rest)
 

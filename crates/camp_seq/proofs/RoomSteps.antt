@@ -14,12 +14,6 @@ pub reaches_before : (s t u : List Named) → Reaches s t → Reaches (s ++ u) (
 reaches_before s t u here = here
 reaches_before s t u (further {t = v} e w) = further (exchanges_before s v u e) (reaches_before v t u w)
 
-pub reaches_same : (s t : List Named) → s ≡ t → Reaches s t
-reaches_same s t e = subst (λ x. Reaches s x) e here
-
-pub room_after : (s t : List Named) → HasRoom s → Reaches s t → HasRoom t
-room_after s t room r u w = room u (reaches_through s t u r w)
-
 pub room_behind : (x : Named) (s : List Named) → HasRoom (x ∷ s) → HasRoom s
 room_behind x s room t r = All-tail (λ p. InRange p.prim) x t (room (x ∷ t) (reaches_behind x s t r))
 
@@ -29,16 +23,7 @@ room_before s u room t r =
     subst (All (λ p. InRange p.prim)) (take_at t u (length t) refl) (All-take (λ p. InRange p.prim) (length t) (t ++ u) (room (t ++ u) (reaches_before s t u r)))
 
 pub room_exchanged : (s t : List Named) → CommutesOnce Commute s t → HasRoom s → HasRoom t
-room_exchanged s t e room = room_after s t room (further (exchanged_anywhere s t e) here)
-
--- a list reaches itself with an element commuted to its front
-pub front_reached : (label : Label) (s : List Named) (y : Named) (t : List Named) → Fronts label s y t → Reaches s (y ∷ t)
-front_reached label [] y t w = absurd w
-front_reached label (p ∷ s) y t (inl w) =
-    reaches_same (p ∷ s) (y ∷ t) (ap (λ x. x ∷ s) (sym w.1) ∙ ap (λ x. y ∷ x) (sym w.2))
-front_reached label (p ∷ s) y t (inr w) =
-    let f = w.1 in
-    reaches_through (p ∷ s) (p ∷ f.0 ∷ f.2) (y ∷ t) (reaches_behind p s (f.0 ∷ f.2) (front_reached label s f.0 f.2 f.3)) (further (at_front p f.0 y f.1 f.2 f.4.anywhere) (reaches_same (y ∷ f.1 ∷ f.2) (y ∷ t) (ap (λ x. y ∷ x) (sym f.5))))
+room_exchanged s t e room u w = room u (further (exchanged_anywhere s t e) w)
 
 -- equivalent lists have room together
 pub room_of_equivalent : (s t : List Named) → s ~ t → HasRoom s → HasRoom t
