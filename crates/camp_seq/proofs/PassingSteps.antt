@@ -1,5 +1,7 @@
 -- Steps of passing, from one neighbour to the next, and passing that stops.
-use Rattle.camp_seq.proofs.Words.{◌≡◌, ℕ, zero, suc, ◌+◌, ◌<◌, ◌≤◌, Bool, true, false, List, [], ◌∷◌, ◌++◌, length, take, drop, get_or, set, set-get_or, take_more_set, refl, sym, ap, ◌∙◌, subst, arith, append_assoc, take_more, take-append-drop, then_some, FindsPair, Commute, Named, swap_unique, own_inverse, Precedes, IsHeld, ComesUpTo, Passes, PassesAll}
+use Rattle.camp_seq.proofs.Words.{◌≡◌, ℕ, zero, suc, ◌+◌, ◌<◌, ◌≤◌, Bool, true, false, List, [], ◌∷◌, ◌++◌, length, take, drop, get_or, set, set-get_or, take_more_set, refl, sym, ap, ◌∙◌, subst, inl, inr, arith, append_assoc, take_all, take_more, take-append-drop, then_some, FindsPair, Commute, Named, swap_unique, own_inverse, Precedes, IsHeld, ComesUpTo, Passes, PassesAll}
+use Rattle.std.specs.Prelude.{eqb}
+use Rattle.std.proofs.lemmas.Bool.Decides.{eqb_tells}
 use Rattle.camp_base.specs.Answers.{Changes}
 use Rattle.camp_seq.specs.Inside.InPlace.{GoesPast, PrecedesInPlace}
 use Rattle.camp_seq.proofs.ListResults.{one_pass, one_pass_of_all}
@@ -89,6 +91,18 @@ gone_back p s s' p' true t r m w =
     let same = one_precedes s' p' r p t s w (passes_back p s s' p' m) in
     (same.1, same.0)
 gone_back p s s' p' false t r m w = absurd (w.0 (s, p) (passes_back p s s' p' m))
+
+-- what has passed all before the end has passed the list
+pub passed_all : (s0 s : List Named) (p0 p : Named) (at : ℕ) → GoesPast s0 p0 at s p → length s ≤ at → Passes p0 s0 s p
+passed_all s0 s p0 p at w all =
+    subst (λ t. Passes p0 t s p) (take_all at s0 (omega (arith, w.long))) (subst (λ t. Passes p0 (take at s0) t p) (take_all at s all) w.passed)
+
+-- and what has not does not pass it
+pub passes_where : (s0 s : List Named) (p0 p : Named) (at : ℕ) → GoesPast s0 p0 at s p → FindsPair (Passes p0 s0) (then_some (eqb at (length s)) (s, p))
+passes_where s0 s p0 p at w = elim (eqb_tells at (length s)) [
+  | inl e ↦ rw e.0 (passed_all s0 s p0 p at w (omega (arith, e.1)))
+  | inr e ↦ rw e.0 (λ any m. w.stops (omega (arith, w.bound, w.long, e.1)) any.0 any.1 m)
+]
 
 -- a place that an element has come to in a list that it passes
 module _ (s0 s : List Named) (p0 p : Named) (at : ℕ) (d : Named) (within : at < length s) (long : length s ≡ length s0) (waiting : drop at s ≡ drop at s0) (passed : Passes p0 (take at s0) (take at s) p) where

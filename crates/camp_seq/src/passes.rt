@@ -63,12 +63,8 @@ fn pass_all(r: &mut [Named], s: &mut [Named]) -> bool
 pub(crate) fn pass(p: &mut Named, s: &mut [Named]) -> bool
     ensures exact { FindsPair (Passes p.old s.old) (then_some result (s.new, p.new)) }
 {
-    for q in s.iter_mut() {
-        if !commute_in_place(p, q) {
-            return false;
-        }
-    }
-    true
+    let at = go_past(p, s);
+    at == s.len()
 }
 
 /// Commutes `p` past all of `s` and then past the one behind it, each in its place in memory. Where it can't pass

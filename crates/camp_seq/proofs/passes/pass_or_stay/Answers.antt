@@ -1,5 +1,5 @@
-use Rattle.camp_seq.proofs.Words.{◌≡◌, ◌++◌, drop, take, ap, ◌∙◌, subst, arith, take_all, take-append-drop, Passes}
-use Rattle.camp_seq.proofs.PassingSteps.{gone_back}
+use Rattle.camp_seq.proofs.Words.{◌≡◌, ◌++◌, drop, take, ap, ◌∙◌, arith, take-append-drop}
+use Rattle.camp_seq.proofs.PassingSteps.{gone_back, passed_all}
 use Rattle.camp_seq.proofs.passes.pass_or_stay.Goals as goal
 
 pub returns-then-at-s : goal.returns-then-at-s
@@ -13,9 +13,4 @@ returns-then-at-s c =
     record { exact = (λ any m. w.stops (omega arith) any.1 any.0 m, λ j. (back.1 j, list j)) }
 
 pub returns : goal.returns
-returns c =
-    let s0 = c.args.s.now in
-    let s = c.go_past-at.new.s in
-    let at = c.go_past-at.result in
-    let w = c.go_past-at.ensures in
-    record { exact = subst (λ t. Passes c.args.p.now t s c.go_past-at.new.p) (take_all at s0 (omega arith)) (subst (λ t. Passes c.args.p.now (take at s0) t c.go_past-at.new.p) (take_all at s (omega arith)) w.passed) }
+returns c = record { exact = passed_all c.args.s.now c.go_past-at.new.s c.args.p.now c.go_past-at.new.p c.go_past-at.result c.go_past-at.ensures (omega arith) }
