@@ -71,11 +71,9 @@ parts_stop labels s0 s part i count k d within same k_is w other part_is never f
     stop labels (take i s0) q (drop (i + 1) s0) w.named w.others f t w.parts other stuck (subst (λ x. Parts labels x f t) (whole s0 i (q ∷ drop (i + 1) s0) next) m)
 
 -- where the first element can't pass the others
-pub never_passes : (items first rest any : List Named) (d : Named) → items ≡ first ++ rest → length first ≡ 1 → ((found : List Named × Named) → ¬ (Passes (get_or first 0 d) rest found.0 found.1)) → ¬ (FirstPasses items any)
-never_passes items [] rest any d is long never m = absurd (omega arith)
-never_passes items (x ∷ y ∷ first) rest any d is long never m = absurd (omega arith)
-never_passes items (x ∷ []) rest any d is long never (p, others, others', p', was, w, turned) =
-    let both : p ∷ others ≡ x ∷ rest = sym was ∙ is in
-    let p_is : p ≡ x = cc in
+pub never_passes : (items rest any : List Named) (first : Named) → items ≡ first ∷ rest → ((found : List Named × Named) → ¬ (Passes first rest found.0 found.1)) → ¬ (FirstPasses items any)
+never_passes items rest any first is never (p, others, others', p', was, w, turned) =
+    let both : p ∷ others ≡ first ∷ rest = sym was ∙ is in
+    let p_is : p ≡ first = cc in
     let others_are : others ≡ rest = cc in
     never (others', p') (subst (λ y. Passes y rest others' p') p_is (subst (λ y. Passes p y others' p') others_are w))

@@ -49,11 +49,12 @@ fn gather(items: &mut [Named], labels: &[Label]) -> Option<usize>
 
 /// Commutes the first element past the others. Where it can't pass, they are left as they are then.
 fn pass_first(items: &mut [Named]) -> bool
-    requires { 0 < length items.old }
     ensures exact { Finds (FirstPasses items.old) (then_some result items.new) }
 {
-    let (first, rest) = items.split_at_mut(1);
-    if !pass(&mut first[0], rest) {
+    let Some((first, rest)) = items.split_first_mut() else {
+        return false;
+    };
+    if !pass(first, rest) {
         return false;
     }
     items.rotate_left(1);
