@@ -29,6 +29,14 @@ at_other false p q x y e apart = refl
 pub get-with_file_other : (m : Files) (p q : List ℕ) (x : Option Lines) → p ≢ q → get (with_file m p x) q ≡ get m q
 get-with_file_other m p q x apart = get-with_file m p x q ∙ at_other _ p q x (get m q) refl apart
 
+own_at : (m : Files) (p q : List ℕ) (b : Bool) → eq_by_cmp (slice_cmp nat_cmp) q p ≡ b → cond b (get m p) (get m q) ≡ get m q
+own_at m p q true e = ap (get m) (sym (same_path q p e))
+own_at m p q false e = refl
+
+-- the tree that has at a path what it has there
+pub with_own_file : (m : Files) (p : List ℕ) → with_file m p (get m p) ≡ m
+with_own_file m p = same_files _ _ (λ q. get-with_file m p (get m p) q ∙ own_at m p q _ refl)
+
 cond_twice : (b : Bool) (x y z : Option Lines) → cond b y (cond b x z) ≡ cond b y z
 cond_twice true x y z = refl
 cond_twice false x y z = refl

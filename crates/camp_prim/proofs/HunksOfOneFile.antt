@@ -31,7 +31,7 @@ pub record SplicesTwice (line : ℕ) (gone come : Lines) (line' : ℕ) (gone' co
   pub second : SplicesLines line' gone' come' between new
 
 -- the same changes, taken back
-taken_back : {line : ℕ} {gone come old new : Lines} → SplicesLines line gone come old new → SplicesLines line come gone new old
+pub taken_back : {line : ℕ} {gone come old new : Lines} → SplicesLines line gone come old new → SplicesLines line come gone new old
 taken_back s = record { before = s.before; after = s.after; at = s.at; was = s.becomes; becomes = s.was }
 
 both_taken_back : {line line' : ℕ} {gone come gone' come' old new : Lines} → SplicesTwice line gone come line' gone' come' old new → SplicesTwice line' come' gone' line come gone new old

@@ -1,39 +1,32 @@
 -- The inverse of a primitive leads back.
-use Rattle.camp_prim.proofs.Words.{◌≡◌, ℕ, Bool, true, false, not, List, [], refl, sym, ap, ◌∙◌, get, insert, remove, Lines, Files, Adds, Removes, Splices, SplicesLines, Applies, inverted, inverse_of, InverseLeadsBack, Named, Primitive, Add, Remove, Hunk}
-use Rattle.camp_prim.proofs.Maps.{get_inserted, get_removed, remove-insert, insert-remove, insert-insert}
+use Rattle.camp_prim.proofs.Words.{◌≡◌, ℕ, Bool, true, false, not, List, Option, refl, sym, ap, ◌∙◌, get, Lines, Files, Applies, inverted, inverse_of, InverseLeadsBack, path_of, Named, Primitive, Add, Remove, Hunk}
+use Rattle.camp_prim.proofs.CommuteEffect.{ChangesFile, applies, changes_path}
+use Rattle.camp_prim.proofs.FilesAtPaths.{get-with_file_same, with_file, with_file_twice, with_own_file}
+use Rattle.camp_prim.proofs.HunksOfOneFile.{taken_back}
 
-removes_added : (path : List ℕ) (old new : Files) → Adds path old new → Removes path new old
-removes_added path old new a =
-    record {
-      empty = ap (λ m. get m path) a.becomes ∙ get_inserted old path [];
-      becomes = sym (ap (λ m. remove m path) a.becomes ∙ remove-insert old path [] a.absent);
-    }
+pub path_of-inverted : (p : Primitive) → path_of (inverted p) ≡ path_of p
+path_of-inverted (Add path) = refl
+path_of-inverted (Remove path) = refl
+path_of-inverted (Hunk hunk) = refl
 
-adds_removed : (path : List ℕ) (old new : Files) → Removes path old new → Adds path new old
-adds_removed path old new a =
-    record {
-      absent = ap (λ m. get m path) a.becomes ∙ get_removed old path;
-      becomes = sym (ap (λ m. insert m path []) a.becomes ∙ insert-remove old path [] a.empty);
-    }
-
-splices_back_lines : (line : ℕ) (gone come old new : Lines) → SplicesLines line gone come old new → SplicesLines line come gone new old
-splices_back_lines line gone come old new s =
-    record { before = s.before; after = s.after; at = s.at; was = s.becomes; becomes = s.was }
-
-splices_back : (path : List ℕ) (line : ℕ) (gone come : Lines) (old new : Files) → Splices path line gone come old new → Splices path line come gone new old
-splices_back path line gone come old new s =
-    record {
-      lines = s.changed;
-      changed = s.lines;
-      found = ap (λ m. get m path) s.becomes ∙ get_inserted old path s.changed;
-      splices = splices_back_lines line gone come s.lines s.changed s.splices;
-      becomes = sym (ap (λ m. insert m path s.lines) s.becomes ∙ insert-insert old path s.lines s.changed s.found);
-    }
+-- a file that a primitive has changed its inverse changes back
+changed_back : (p : Primitive) (x y : Option Lines) → ChangesFile p x y → ChangesFile (inverted p) y x
+changed_back (Add path) x y c = (c.1, c.0)
+changed_back (Remove path) x y c = (c.1, c.0)
+changed_back (Hunk hunk) x y c =
+    record { lines = c.changed; changed = c.lines; was = c.becomes; splices = taken_back c.splices; becomes = c.was }
 
 pub leads_back : (p : Primitive) (old new : Files) → Applies p old new → Applies (inverted p) new old
-leads_back (Add path) old new a = removes_added path old new a
-leads_back (Remove path) old new a = adds_removed path old new a
-leads_back (Hunk hunk) old new a = splices_back hunk.path hunk.line hunk.old hunk.new old new a
+leads_back p old new a =
+    let path : List ℕ = path_of p in
+    let c = changes_path p old new a in
+    let there : get new path ≡ c.file = ap (λ m. get m path) c.becomes ∙ get-with_file_same old path c.file in
+    let back : old ≡ with_file new path (get old path) = sym (ap (λ m. with_file m path (get old path)) c.becomes ∙ with_file_twice old path c.file (get old path) ∙ with_own_file old path) in
+    applies (inverted p) new old (record {
+      file = get old path;
+      changes = rw (path_of-inverted p, there) (changed_back p (get old path) c.file c.changes);
+      becomes = rw (path_of-inverted p) back;
+    })
 
 -- a primitive is the inverse of its inverse
 pub inverted-inverted : (p : Primitive) → inverted (inverted p) ≡ p
