@@ -34,6 +34,7 @@ pub fn commute(p: &Named, q: &Named) -> Result<Option<(Named, Named)>, AllocErro
 }
 
 /// Two primitives commute to one pair at most.
+#[tactic(auto, using(crate::proofs::CommuteUnique::swap_unique))]
 pub fn commute_is_unique()
     ensures law { CommuteIsUnique }
 {}
@@ -44,6 +45,7 @@ pub fn commute_has_laws()
 {}
 
 /// `commute` answers None exactly where `commute_in_place` answers false, and else both give the same two.
+#[tactic(auto, using(crate::proofs::CommuteUnique::both_commute_alike))]
 pub fn both_commute_alike()
     ensures law { BothCommuteAlike }
 {}

@@ -52,6 +52,7 @@ impl Label {
 }
 
 /// Labels are in a total order, and only equal labels tie.
+#[tactic(auto, using(crate::proofs::LabelOrder::label_total, crate::proofs::LabelOrder::label_ties))]
 pub fn labels_are_ordered()
     ensures is { (a b : Label) → ⟦<Label as Ord>⟧.cmp a b ≡ label_cmp a b }
     ensures total { IsTotalOrder label_cmp }
@@ -59,6 +60,7 @@ pub fn labels_are_ordered()
 {}
 
 /// Keys are in a total order, and only equal keys tie.
+#[tactic(auto, using(crate::proofs::LabelOrder::key_total, crate::proofs::LabelOrder::key_ties))]
 pub fn keys_are_ordered()
     ensures is { (a b : Key) → ⟦<Key as Ord>⟧.cmp a b ≡ key_cmp a b }
     ensures total { IsTotalOrder key_cmp }
