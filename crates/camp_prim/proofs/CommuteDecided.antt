@@ -1,7 +1,7 @@
 -- Two primitives commute or do not.
-use Rattle.camp_prim.proofs.Words.{◌≡◌, ℕ, ◌+◌, ◌-◌, ◌≤◌, ◌^◌, ◌⊎◌, length, Ordering, refl, sym, ap, ◌∙◌, subst, inl, inr, arith, cases_lt, nat_list_cmp_total, IsTotalOrder, tied_itself, IsAntisymmetric, slice_cmp-IsAntisymmetric, nat_cmp-IsAntisymmetric, Less, Equal, Greater, InRange, Edit, IsInRange, label_of, key_of, SameKey, path_of, at_line, MayPass, CommutesBelow, CommutesAbove, PrimitivesCommute, Commute, Primitive, Add, Remove, Hunk, Named}
+use Rattle.camp_prim.proofs.Words.{◌≡◌, ℕ, ◌+◌, ◌-◌, ◌≤◌, ◌^◌, ◌<◌, ◌⊎◌, length, Ordering, refl, sym, ap, ◌∙◌, subst, inl, inr, arith, cases_lt, nat_list_cmp_total, IsTotalOrder, tied_itself, IsAntisymmetric, slice_cmp-IsAntisymmetric, nat_cmp-IsAntisymmetric, Less, Equal, Greater, InRange, Edit, IsInRange, label_of, key_of, SameKey, path_of, at_line, ChangeInRange, ComesTo, Commute, Primitive, Add, Remove, Hunk, Named}
 use Rattle.camp_prim.proofs.LabelOrder.{key_total, key_ties}
-use Rattle.camp_prim.proofs.CommuteUnique.{same_hunk}
+use Rattle.camp_prim.proofs.Moving.{comes_above, comes_below, no_place}
 
 -- a fact holds or does not
 abbrev pub Decided : Type 0 → Type 0
@@ -38,10 +38,6 @@ pub same_or_not : {K : Type 0} (R : K → K → Ordering) → IsTotalOrder R →
 same_or_not R total ties a b =
     decided_by (ties a b) (λ e. ap (R a) (sym e) ∙ tied_itself total a) (tie_or_not (R a b))
 
-may_pass_or_not : (gap : ℕ) (h k : Edit) → Decided (MayPass gap h k)
-may_pass_or_not gap h k =
-    either_or_not (le_or_not 1 gap) (four_or_not (le_or_not 1 (length h.old)) (le_or_not 1 (length h.new)) (le_or_not 1 (length k.old)) (le_or_not 1 (length k.new)))
-
 in_range_or_not : (hunk : Edit) → Decided (IsInRange hunk)
 in_range_or_not hunk =
     decided_by (λ x. record { counted = x.0; changes = x.1.0; within = x.1.1 }) (λ r. (r.counted, (r.changes, r.within))) (both_or_not (le_or_not 1 hunk.line) (both_or_not (le_or_not 1 (length hunk.old + length hunk.new)) (le_or_not (hunk.line + length hunk.old + length hunk.new) (2 ^ 30))))
@@ -51,62 +47,36 @@ primitive_in_range_or_not (Add path) = inl tt
 primitive_in_range_or_not (Remove path) = inl tt
 primitive_in_range_or_not (Hunk hunk) = in_range_or_not hunk
 
--- a gap from one line to another that lets two hunks pass, and a place in range for the moved one
-abbrev Gap : ℕ → ℕ → ℕ → Edit → Edit → Edit → Type 0
-Gap from to line h k moved = (gap : ℕ) × (to ≡ from + gap) × MayPass gap h k × IsInRange (at_line (line + gap) moved)
-
-gap_or_not : (from to line : ℕ) (h k moved : Edit) → Decided (Gap from to line h k moved)
-gap_or_not from to line h k moved = elim (cases_lt to from) [
-  | inl lt ↦ inr (λ g. let e : to ≡ from + g.0 = g.1 in absurd (omega arith))
+-- a line to which a hunk below another comes, or there is none
+comes_or_not : (upper takes leaves : ℕ) (lower : Edit) → Decided ((line : ℕ) × ComesTo upper takes leaves lower line)
+comes_or_not upper takes leaves lower = elim (cases_lt lower.line (upper + leaves)) [
+  | inl lt ↦ inr (λ c. let stands : lower.line ≡ upper + leaves + c.1.gap = c.1.stands in absurd (omega arith))
   | inr le ↦
-      decided_by (λ x. (to - from, (omega arith), x.0, x.1)) (λ g.
-      let e : to ≡ from + g.0 = g.1 in
-      let same : g.0 ≡ to - from = omega arith in
-      (subst (λ n. MayPass n h k) same g.2, subst (λ n. IsInRange (at_line (line + n) moved)) same g.3)) (both_or_not (may_pass_or_not (to - from) h k) (in_range_or_not (at_line (line + (to - from)) moved)))
+      let Passes = λ (gap : ℕ). (0 < gap) ⊎ ((0 < takes) × (0 < leaves) × (0 < length lower.old) × (0 < length lower.new)) in
+      let gap = lower.line - (upper + leaves) in
+      let passes : Decided (Passes gap) = either_or_not (le_or_not 1 gap) (four_or_not (le_or_not 1 takes) (le_or_not 1 leaves) (le_or_not 1 (length lower.old)) (le_or_not 1 (length lower.new))) in
+      decided_by (λ x. (upper + takes + gap, record { gap = gap; stands = omega arith; passes = x.0; comes = refl; fits = x.1 })) (λ c.
+      let stands : lower.line ≡ upper + leaves + c.1.gap = c.1.stands in
+      let same : c.1.gap ≡ gap = omega arith in
+      (subst Passes same c.1.passes, subst (λ n. IsInRange (at_line n lower)) (c.1.comes ∙ ap (λ n. upper + takes + n) same) c.1.fits)) (both_or_not passes (in_range_or_not (at_line (upper + takes + gap) lower)))
 ]
-
-abbrev GapBelow : Edit → Edit → Type 0
-GapBelow h k = Gap (h.line + length h.new) k.line (h.line + length h.old) h k k
-
-abbrev GapAbove : Edit → Edit → Type 0
-GapAbove h k = Gap (k.line + length k.old) h.line (k.line + length k.new) h k h
-
-gap_below : (h k : Edit) (q' p' : Primitive) → CommutesBelow (Hunk h) (Hunk k) q' p' → InRange q' → GapBelow h k
-gap_below h k q' p' s r =
-    let hs : s.h ≡ h = same_hunk s.h h (sym s.is_p) in
-    let ks : s.k ≡ k = same_hunk s.k k (sym s.is_q) in
-    let there : GapBelow s.h s.k = (s.gap, s.stands, s.passes, subst InRange s.second r) in
-    subst (λ x. GapBelow x k) hs (subst (λ x. GapBelow s.h x) ks there)
-
-gap_above : (h k : Edit) (q' p' : Primitive) → CommutesAbove (Hunk h) (Hunk k) q' p' → InRange p' → GapAbove h k
-gap_above h k q' p' s r =
-    let hs : s.h ≡ h = same_hunk s.h h (sym s.is_p) in
-    let ks : s.k ≡ k = same_hunk s.k k (sym s.is_q) in
-    let there : GapAbove s.h s.k = (s.gap, s.stands, s.passes, subst InRange s.first r) in
-    subst (λ x. GapAbove x k) hs (subst (λ x. GapAbove s.h x) ks there)
 
 -- what two primitives become, in range
 abbrev Change : Primitive → Primitive → Type 0
-Change p q = (q' : Primitive) × (p' : Primitive) × PrimitivesCommute p q q' p' × InRange q' × InRange p'
-
-change_below : (h k : Edit) → h.path ≡ k.path → IsInRange h → GapBelow h k → Change (Hunk h) (Hunk k)
-change_below h k same r g =
-    (Hunk (at_line (h.line + length h.old + g.0) k), Hunk h, inr (inl (record { h = h; k = k; gap = g.0; is_p = refl; is_q = refl; path = same; stands = g.1; passes = g.2; second = refl; first = refl })), g.3, r)
-
-change_above : (h k : Edit) → h.path ≡ k.path → IsInRange k → GapAbove h k → Change (Hunk h) (Hunk k)
-change_above h k same r g =
-    (Hunk k, Hunk (at_line (k.line + length k.new + g.0) h), inr (inr (record { h = h; k = k; gap = g.0; is_p = refl; is_q = refl; path = same; stands = g.1; passes = g.2; second = refl; first = refl })), r, g.3)
+Change p q = (q' : Primitive) × (p' : Primitive) × ChangeInRange p q q' p'
 
 hunks_change_or_not : (h k : Edit) → h.path ≡ k.path → IsInRange h → IsInRange k → Decided (Change (Hunk h) (Hunk k))
-hunks_change_or_not h k same r s =
-    decided_by (λ g. elim g [ inl below ↦ change_below h k same r below | inr above ↦ change_above h k same s above ]) (λ c. elim c.2 [
-      | inl apart ↦ absurd (apart.paths same)
-      | inr near ↦ elim near [ inl below ↦ inl (gap_below h k c.0 c.1 below c.3) | inr above ↦ inr (gap_above h k c.0 c.1 above c.4) ]
-    ]) (either_or_not (gap_or_not (h.line + length h.new) k.line (h.line + length h.old) h k k) (gap_or_not (k.line + length k.old) h.line (k.line + length k.new) h k h))
+hunks_change_or_not h k same r s = elim (comes_or_not h.line (length h.old) (length h.new) k) [
+  | inl below ↦ inl (_, _, comes_below h k below.0 same r s below.1)
+  | inr never ↦ elim (comes_or_not k.line (length k.new) (length k.old) h) [
+    | inl above ↦ inl (_, _, comes_above h k above.0 same r s above.1)
+    | inr neither ↦ inr (λ c. no_place h k same (λ line there. never (line, there)) (λ line there. neither (line, there)) (c.0, c.1) c.2)
+  ]
+]
 
 -- primitives of one path that are not both hunks do not commute
 no_change : (p q : Primitive) → path_of p ≡ path_of q → ((h k : Edit) → p ≡ Hunk h → ¬ (q ≡ Hunk k)) → ¬ (Change p q)
-no_change p q same never c = elim c.2 [
+no_change p q same never c = elim c.2.change [
   | inl apart ↦ apart.paths same
   | inr near ↦ elim near [ inl below ↦ never below.h below.k below.is_p below.is_q | inr above ↦ never above.h above.k above.is_p above.is_q ]
 ]
@@ -122,18 +92,18 @@ change_or_not : (p q : Primitive) → InRange p → InRange q → Decided (Chang
 change_or_not p q r s =
     elim (same_or_not _ nat_list_cmp_total (slice_cmp-IsAntisymmetric nat_cmp-IsAntisymmetric) (path_of p) (path_of q)) [
       | inl same ↦ change_on_one_path p q same r s
-      | inr paths ↦ inl (q, p, inl (record { paths = paths; second = refl; first = refl }), s, r)
+      | inr paths ↦ inl (q, p, record { change = inl (record { paths = paths; second = refl; first = refl }); ranges = (r, s, s, r) })
     ]
 
-swap_if : (p q : Named) → ¬ (SameKey p q) → InRange p.prim → InRange q.prim → Decided (Change p.prim q.prim) → Decided ((q' : Named) × (p' : Named) × Commute p q q' p')
-swap_if p q apart r s d =
-    decided_by (λ c. (record q { prim = c.0 }, record p { prim = c.1 }, record { anywhere = record { apart = apart; change = c.2; second = refl; first = refl }; ranges = (r, s, c.3, c.4) })) (λ w. (w.0.prim, w.1.prim, w.2.anywhere.change, w.2.ranges.2, w.2.ranges.3)) d
+swap_if : (p q : Named) → ¬ (SameKey p q) → Decided (Change p.prim q.prim) → Decided ((q' : Named) × (p' : Named) × Commute p q q' p')
+swap_if p q apart d =
+    decided_by (λ c. (record q { prim = c.0 }, record p { prim = c.1 }, record { anywhere = record { apart = apart; change = c.2.change; second = refl; first = refl }; ranges = c.2.ranges })) (λ w. (w.0.prim, w.1.prim, record { change = w.2.anywhere.change; ranges = w.2.ranges })) d
 
 pub swap_or_not : (p q : Named) → Decided ((q' : Named) × (p' : Named) × Commute p q q' p')
 swap_or_not p q = elim (same_or_not _ key_total key_ties (key_of (label_of p)) (key_of (label_of q))) [
   | inl same ↦ inr (λ w. w.2.anywhere.apart same)
   | inr apart ↦ elim (both_or_not (primitive_in_range_or_not p.prim) (primitive_in_range_or_not q.prim)) [
-    | inl r ↦ swap_if p q apart r.0 r.1 (change_or_not p.prim q.prim r.0 r.1)
+    | inl r ↦ swap_if p q apart (change_or_not p.prim q.prim r.0 r.1)
     | inr never ↦ inr (λ w. never (w.2.ranges.0, w.2.ranges.1))
   ]
 ]

@@ -1,6 +1,6 @@
 -- Where hunks that commute come to stand.
-use Rattle.camp_prim.proofs.Words.{◌≡◌, ℕ, ◌+◌, ◌<◌, ◌⊎◌, ◌↔◌, Bool, true, false, IsTrue, Option, option_map, Result, Ok, Err, IfErr, length, refl, sym, ap, subst, inl, inr, Lines, InRange, Edit, IsInRange, SameKey, FindsPair, moved, turned, ComesTo, ChangeInRange, at_line, MayPass, Commute, Primitive, Hunk, Named, Targets}
-use Rattle.camp_prim.proofs.CommuteUnique.{same_hunk, hunk_below}
+use Rattle.camp_prim.proofs.Words.{◌≡◌, ℕ, ◌+◌, ◌<◌, ◌⊎◌, ◌↔◌, Bool, true, false, IsTrue, Option, option_map, Result, Ok, Err, IfErr, length, refl, sym, ap, subst, inl, inr, Lines, InRange, Edit, IsInRange, SameKey, FindsPair, moved, turned, ComesTo, ChangeInRange, at_line, Commute, Primitive, Hunk, Named, Targets}
+use Rattle.camp_prim.proofs.CommuteUnique.{same_hunk, hunk_above, hunk_below}
 
 -- the sides of the upper hunk as other names for them have it
 pub comes_along : (upper upper' : ℕ) (takes takes' leaves leaves' : Lines) (lower : Edit) (line : ℕ) → upper ≡ upper' → takes ≡ takes' → leaves ≡ leaves' → ComesTo upper (length takes) (length leaves) lower line → ComesTo upper' (length takes') (length leaves') lower line
@@ -13,9 +13,19 @@ comes_below h k line path r s c = record {
   ranges = (r, s, c.fits, r);
 }
 
-passes_turned : (gap : ℕ) (h k : Edit) → MayPass gap h k → (0 < gap) ⊎ ((0 < length k.new) × (0 < length k.old) × (0 < length h.old) × (0 < length h.new))
-passes_turned gap h k (inl apart) = inl apart
-passes_turned gap h k (inr full) = inr (full.3, full.2, full.0, full.1)
+passes_turned : (gap a b c d : ℕ) → (0 < gap) ⊎ ((0 < a) × (0 < b) × (0 < c) × (0 < d)) → (0 < gap) ⊎ ((0 < d) × (0 < c) × (0 < a) × (0 < b))
+passes_turned gap a b c d (inl apart) = inl apart
+passes_turned gap a b c d (inr full) = inr (full.3, full.2, full.0, full.1)
+
+passes_over : (gap a b c d : ℕ) → (0 < gap) ⊎ ((0 < a) × (0 < b) × (0 < c) × (0 < d)) → (0 < gap) ⊎ ((0 < c) × (0 < d) × (0 < b) × (0 < a))
+passes_over gap a b c d (inl apart) = inl apart
+passes_over gap a b c d (inr full) = inr (full.2, full.3, full.1, full.0)
+
+pub comes_above : (h k : Edit) (line : ℕ) → h.path ≡ k.path → IsInRange h → IsInRange k → ComesTo k.line (length k.new) (length k.old) h line → ChangeInRange (Hunk h) (Hunk k) (Hunk k) (Hunk (at_line line h))
+comes_above h k line path r s c = record {
+  change = hunk_above h k c.gap refl refl path c.stands (passes_over c.gap (length k.new) (length k.old) (length h.old) (length h.new) c.passes) refl (ap (λ l. Hunk (at_line l h)) c.comes);
+  ranges = (r, s, s, c.fits);
+}
 
 pub no_place : (h k : Edit) → h.path ≡ k.path → ((line : ℕ) → ¬ (ComesTo h.line (length h.old) (length h.new) k line)) → ((line : ℕ) → ¬ (ComesTo k.line (length k.new) (length k.old) h line)) → (any : Primitive × Primitive) → ¬ (ChangeInRange (Hunk h) (Hunk k) any.0 any.1)
 no_place h k path below above any c =
@@ -33,7 +43,7 @@ no_place h k path below above any c =
             let hs : s.h ≡ h = same_hunk s.h h (sym s.is_p) in
             let ks : s.k ≡ k = same_hunk s.k k (sym s.is_q) in
             let there : ComesTo s.k.line (length s.k.new) (length s.k.old) s.h (s.k.line + length s.k.new + s.gap) =
-            record { gap = s.gap; stands = s.stands; passes = passes_turned s.gap s.h s.k s.passes; comes = refl; fits = subst InRange s.first c.ranges.3 } in
+            record { gap = s.gap; stands = s.stands; passes = passes_turned s.gap (length s.h.old) (length s.h.new) (length s.k.old) (length s.k.new) s.passes; comes = refl; fits = subst InRange s.first c.ranges.3 } in
             let at_h = subst (λ x. ComesTo s.k.line (length s.k.new) (length s.k.old) x (s.k.line + length s.k.new + s.gap)) hs there in
             above (k.line + length k.new + s.gap) (subst (λ x. ComesTo x.line (length x.new) (length x.old) h (x.line + length x.new + s.gap)) ks at_h)
       ]
