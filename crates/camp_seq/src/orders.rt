@@ -25,7 +25,7 @@ pub fn norm(s: &Seq) -> Result<Seq, AllocError>
     ensures normal_form { IfOk result (λ ordered.
         HasRoom s.now → (t : List Named) → s.now ~ t → Norm t ordered) }
 {
-    ordered_copy(s)
+    Ok(ordered(s.try_clone()?))
 }
 
 /// The list in normal order, in its place in memory. It takes no memory.
@@ -94,14 +94,6 @@ fn settle_from(items: &mut [Named], at: usize, known: bool)
         return;
     }
     order_anew(&mut items[at..]);
-}
-
-fn ordered_copy(s: &Seq) -> Result<Seq, AllocError>
-    ensures { IfOk result (λ ordered. Norm s.now ordered) }
-{
-    let mut ordered = s.try_clone()?;
-    order(&mut ordered.items);
-    Ok(ordered)
 }
 
 /// Puts a list in normal order. It takes no memory.
