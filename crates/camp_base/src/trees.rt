@@ -62,13 +62,8 @@ impl Tree {
             (map.get self.now path.now ≡ None)
             (λ lines. map.get self.now path.now ≡ Some lines.now) }
     {
-        match self.files.get(path) {
-            Some(lines) => {
-                let lines: &SharedList<Line> = lines;
-                Some(lines)
-            }
-            None => None,
-        }
+        let lines: &SharedList<Line> = self.files.get(path)?;
+        Some(lines)
     }
 
     /// The file at a place in the order of the paths: its path and its lines. It goes over the parts before it
@@ -78,13 +73,9 @@ impl Tree {
             (slice_get (map.entries self.now) index ≡ None)
             (λ file. slice_get (map.entries self.now) index ≡ Some (file.0.now, file.1.now)) }
     {
-        match self.files.at(index) {
-            Some(file) => {
-                let lines: &SharedList<Line> = &file.1;
-                Some((&file.0, lines))
-            }
-            None => None,
-        }
+        let file = self.files.at(index)?;
+        let lines: &SharedList<Line> = &file.1;
+        Some((&file.0, lines))
     }
 
     /// The files in the order of their paths, each with its lines.
