@@ -17,36 +17,39 @@ use Rattle.camp_base.specs.declared.names.Name.TheInside.{Inside}
 abbrev AreNameBytes : List ℕ → Type 0
 AreNameBytes bytes = list_all is_name_byte bytes ≡ true
 
-first_in : (byte : ℕ) (bytes : List ℕ) → AreNameBytes (byte ∷ bytes) → (0 < byte) × (byte < 256)
-first_in byte bytes are = (grind (arith, nat_tests), grind (arith, nat_tests))
+-- bytes that are digits of base 256 and not zero
+abbrev AreDigits : List ℕ → Type 0
+AreDigits [] = ⊤
+AreDigits (byte ∷ bytes) = ((0 < byte) × (byte < 256)) × AreDigits bytes
 
-rest_in : (byte : ℕ) (bytes : List ℕ) → AreNameBytes (byte ∷ bytes) → AreNameBytes bytes
-rest_in byte bytes are = grind (arith, nat_tests)
+are_digits : (bytes : List ℕ) → AreNameBytes bytes → AreDigits bytes
+are_digits [] are = tt
+are_digits (byte ∷ bytes) are = ((grind (arith, nat_tests), grind (arith, nat_tests)), are_digits bytes (grind (arith, nat_tests)))
 
 -- a greater number with whatever behind it is greater than a smaller one with bytes
-rises : (n less more : ℕ) (bytes others : List ℕ) → AreNameBytes bytes → less < more → spelt n less bytes < spelt n more others
+rises : (n less more : ℕ) (bytes others : List ℕ) → AreDigits bytes → less < more → spelt n less bytes < spelt n more others
 rises zero less more bytes others are below = below
-rises (suc n) less more [] [] are below = rises n (less * 256) (more * 256) [] [] refl (omega arith)
-rises (suc n) less more [] (other ∷ others) are below = rises n (less * 256) (more * 256 + other) [] others refl (omega arith)
+rises (suc n) less more [] [] are below = rises n (less * 256) (more * 256) [] [] tt (omega arith)
+rises (suc n) less more [] (other ∷ others) are below = rises n (less * 256) (more * 256 + other) [] others tt (omega arith)
 rises (suc n) less more (byte ∷ bytes) [] are below =
-    let within = first_in byte bytes are in
-    rises n (less * 256 + byte) (more * 256) bytes [] (rest_in byte bytes are) (omega arith)
+    let within = are.0 in
+    rises n (less * 256 + byte) (more * 256) bytes [] are.1 (omega arith)
 rises (suc n) less more (byte ∷ bytes) (other ∷ others) are below =
-    let within = first_in byte bytes are in
-    rises n (less * 256 + byte) (more * 256 + other) bytes others (rest_in byte bytes are) (omega arith)
+    let within = are.0 in
+    rises n (less * 256 + byte) (more * 256 + other) bytes others are.1 (omega arith)
 
 -- where the numbers differ, they are in the order of the bytes
-spelt_in_order : (n sum : ℕ) (bytes others : List ℕ) → AreNameBytes bytes → AreNameBytes others → spelt n sum bytes ≢ spelt n sum others → nat_cmp (spelt n sum bytes) (spelt n sum others) ≡ slice_cmp nat_cmp bytes others
+spelt_in_order : (n sum : ℕ) (bytes others : List ℕ) → AreDigits bytes → AreDigits others → spelt n sum bytes ≢ spelt n sum others → nat_cmp (spelt n sum bytes) (spelt n sum others) ≡ slice_cmp nat_cmp bytes others
 spelt_in_order zero sum bytes others are too differ = absurd (differ refl)
 spelt_in_order (suc n) sum [] [] are too differ = absurd (differ refl)
 spelt_in_order (suc n) sum [] (other ∷ others) are too differ =
-    let within = first_in other others too in
-    sym (nat_cmp_is _ _ Less (rises n (sum * 256) (sum * 256 + other) [] others refl (omega arith)))
+    let within = too.0 in
+    sym (nat_cmp_is _ _ Less (rises n (sum * 256) (sum * 256 + other) [] others tt (omega arith)))
 spelt_in_order (suc n) sum (byte ∷ bytes) [] are too differ =
-    let within = first_in byte bytes are in
-    sym (nat_cmp_is _ _ Greater (rises n (sum * 256) (sum * 256 + byte) [] bytes refl (omega arith)))
+    let within = are.0 in
+    sym (nat_cmp_is _ _ Greater (rises n (sum * 256) (sum * 256 + byte) [] bytes tt (omega arith)))
 spelt_in_order (suc n) sum (byte ∷ bytes) (other ∷ others) are too differ =
-    by (nat_cmp byte other) refl (ranks byte other) (λ first. spelt_in_order n first bytes others (rest_in byte bytes are) (rest_in other others too))
+    by (nat_cmp byte other) refl (ranks byte other) (λ first. spelt_in_order n first bytes others are.1 too.1)
   where
     Holds : ℕ → ℕ → Type 0
     Holds mine theirs = nat_cmp mine theirs ≡ ordering_then (nat_cmp byte other) (slice_cmp nat_cmp bytes others)
@@ -56,10 +59,10 @@ spelt_in_order (suc n) sum (byte ∷ bytes) (other ∷ others) are too differ =
         → Holds (spelt n (sum * 256 + byte) bytes) (spelt n (sum * 256 + other) others)
     by Less is below rest =
         let smaller : byte < other = below in
-        sym (ap (λ r. ordering_then r (slice_cmp nat_cmp bytes others)) is ∙ nat_cmp_is _ _ Less (rises n (sum * 256 + byte) (sum * 256 + other) bytes others (rest_in byte bytes are) (omega arith)))
+        sym (ap (λ r. ordering_then r (slice_cmp nat_cmp bytes others)) is ∙ nat_cmp_is _ _ Less (rises n (sum * 256 + byte) (sum * 256 + other) bytes others are.1 (omega arith)))
     by Greater is above rest =
         let smaller : other < byte = above in
-        sym (ap (λ r. ordering_then r (slice_cmp nat_cmp bytes others)) is ∙ nat_cmp_is _ _ Greater (rises n (sum * 256 + other) (sum * 256 + byte) others bytes (rest_in other others too) (omega arith)))
+        sym (ap (λ r. ordering_then r (slice_cmp nat_cmp bytes others)) is ∙ nat_cmp_is _ _ Greater (rises n (sum * 256 + other) (sum * 256 + byte) others bytes too.1 (omega arith)))
     by Equal is level rest =
         let same : other ≡ byte = sym level in
         let differ_behind : spelt n (sum * 256 + byte) bytes ≢ spelt n (sum * 256 + byte) others = subst (λ second. spelt n (sum * 256 + byte) bytes ≢ spelt n (sum * 256 + second) others) same differ in
@@ -85,7 +88,7 @@ pub in_order_by_heads : (name other : List ℕ) (head other_head : ℕ) → IsTr
 in_order_by_heads name other head other_head form other_form is other_is differ =
     subst (λ h. h ≢ other_head → nat_cmp h other_head ≡ slice_cmp nat_cmp name other) (sym is)
     (subst (λ h. spelt 8 0 name ≢ h → nat_cmp (spelt 8 0 name) h ≡ slice_cmp nat_cmp name other) (sym other_is)
-    (spelt_in_order 8 0 name other (are_name_bytes name form) (are_name_bytes other other_form))) differ
+    (spelt_in_order 8 0 name other (are_digits name (are_name_bytes name form)) (are_digits other (are_name_bytes other other_form)))) differ
 
 -- the number that eight bytes spell
 abbrev pub eight_of : List ℕ → ℕ
@@ -111,15 +114,6 @@ head_spelt name bytes padded view =
     (λ j. eight_of (sym padded.padding j).buffer)
     ∙ omega (arith, at 0, at 1, at 2, at 3, at 4, at 5, at 6, at 7)
     ∙ eight_spelt front ∙ ap (spelt 8 0) view
-
--- bytes that are digits of base 256 and not zero
-abbrev AreDigits : List ℕ → Type 0
-AreDigits [] = ⊤
-AreDigits (byte ∷ bytes) = ((0 < byte) × (byte < 256)) × AreDigits bytes
-
-are_digits : (bytes : List ℕ) → AreNameBytes bytes → AreDigits bytes
-are_digits [] are = tt
-are_digits (byte ∷ bytes) are = (first_in byte bytes are, are_digits bytes (rest_in byte bytes are))
 
 path_digits : (bytes : List ℕ) → list_all is_graphic bytes ≡ true → AreDigits bytes
 path_digits [] are = tt

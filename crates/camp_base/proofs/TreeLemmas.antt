@@ -1,6 +1,5 @@
 -- Trees by their files, and what the three changes want of them.
-use Rattle.camp_base.proofs.Words.{Decides-and, ◌≡◌, ◌↔◌, ℕ, ◌+◌, ◌-◌, Bool, true, false, ◌&&◌, T, List, [], length, Option, is_some, arith, None, Some, Ok, Err, Result, IsTrue, eqb, sym, ap, subst, ◌∙◌, refl, Decides, nil_from_length, nat_tests, Decides-eqb, slice_eq-Decides, nat_cmp, slice_cmp, pointwise, splice, Steps, StandsAt, Lines}
-use Rattle.camp_base.proofs.Words.{Files, Adds, Removes, Splices, SplicesLines}
+use Rattle.camp_base.proofs.Words.{Decides-and, ◌≡◌, ◌↔◌, ℕ, ◌+◌, ◌-◌, Bool, true, false, ◌&&◌, T, List, [], length, Option, is_some, arith, None, Some, Ok, Err, Result, IsTrue, eqb, sym, ap, subst, ◌∙◌, refl, Decides, nil_from_length, nat_tests, Decides-eqb, slice_eq-Decides, nat_cmp, slice_cmp, pointwise, splice, Steps, StandsAt, Lines, Files, Adds, Removes, Splices, SplicesLines}
 use Rattle.std.proofs.lemmas.Bool.{false≢true}
 use Rattle.std.proofs.lemmas.Option.{same_Some}
 use Rattle.std.specs.FinMap.{entries, entries-from_sorted}
