@@ -1,10 +1,11 @@
 -- Two lists whose greatest line and all whose old and new lines are within the limit of a hunk have room to merge.
 use Rattle.std.specs.Prelude.{◌<◌, MatchOption}
+use Rattle.std.proofs.lemmas.List.Elements.{All-append}
 use Rattle.camp_base.specs.Limits.{greatest_reach}
 use Rattle.camp_seq.proofs.Words.{None, Option, Some, ◌≡◌, ℕ, ◌+◌, ◌≤◌, ◌^◌, max, List, [], ◌∷◌, ◌++◌, drop, length, length-drop, at_drop_all, refl, sym, ap, subst, arith, All, All-nil, All-cons, All-head, All-tail, InRange, inverse_of, Primitive, Named, inverse_all, line_of, sides_of, greatest_line, all_sides, reach_of}
 use Rattle.camp_prim.specs.Effect.{inverted}
 use Rattle.camp_prim.specs.declared.primitives.Primitive.TheVariants.{Add, Remove, Hunk}
-use Rattle.camp_seq.specs.Inside.Reach.{GoesOnTo, IsShape}
+use Rattle.camp_seq.specs.Inside.Reach.{GoesOnTo}
 use Rattle.camp_seq.specs.Room.{HasRoomToMerge}
 use Rattle.camp_seq.proofs.ListRuns.{inverse_all-cons}
 use Rattle.camp_seq.proofs.Reaching.{room_within}
@@ -35,11 +36,6 @@ sides-append : (s t : List Named) → all_sides (s ++ t) ≡ all_sides s + all_s
 sides-append [] t = omega arith
 sides-append (p ∷ s) t = omega (arith, sides-append s t)
 
-in_range-append : (s t : List Named) → AllInRange s → AllInRange t → AllInRange (s ++ t)
-in_range-append [] t a b = b
-in_range-append (p ∷ s) t a b =
-    All-cons (λ x. InRange x.prim) p (s ++ t) (All-head (λ x. InRange x.prim) p s a) (in_range-append s t (All-tail (λ x. InRange x.prim) p s a) b)
-
 line-inverse_all : (s : List Named) → greatest_line (inverse_all s) ≡ greatest_line s
 line-inverse_all [] = refl
 line-inverse_all (p ∷ s) =
@@ -53,35 +49,35 @@ sides-inverse_all (p ∷ s) =
 in_range-inverse_all : (s : List Named) → AllInRange s → AllInRange (inverse_all s)
 in_range-inverse_all [] a = All-nil (λ x. InRange x.prim)
 in_range-inverse_all (p ∷ s) a =
-    subst AllInRange (sym (inverse_all-cons p s)) (in_range-append (inverse_all s) (inverse_of p ∷ []) (in_range-inverse_all s (All-tail (λ x. InRange x.prim) p s a)) (All-cons (λ x. InRange x.prim) (inverse_of p) [] (in_range-inverted p.prim (All-head (λ x. InRange x.prim) p s a)) (All-nil (λ x. InRange x.prim))))
+    subst AllInRange (sym (inverse_all-cons p s)) (All-append (λ x. InRange x.prim) (inverse_all s) (inverse_of p ∷ []) (in_range-inverse_all s (All-tail (λ x. InRange x.prim) p s a)) (All-cons (λ x. InRange x.prim) (inverse_of p) [] (in_range-inverted p.prim (All-head (λ x. InRange x.prim) p s a)) (All-nil (λ x. InRange x.prim))))
 
 one_way : (s t : List Named) → AllInRange s → AllInRange t → max (greatest_line s) (greatest_line t) + (all_sides s + all_sides t) ≤ 2 ^ 30 → reach_of (inverse_all s ++ t) ≤ 2 ^ 30
 one_way s t a b le =
     omega (arith, line-append (inverse_all s) t, sides-append (inverse_all s) t, line-inverse_all s, sides-inverse_all s)
 
 -- what looks at both lists have found tells that they have room to merge
-pub room_to_merge : (s t : List Named) (g h m n : ℕ) → IsShape s g m → IsShape t h n → max g h + m + n ≤ 2 ^ 30 → HasRoomToMerge s t
+pub room_to_merge : (s t : List Named) (g h m n : ℕ) → GoesOnTo s 0 0 g m → GoesOnTo t 0 0 h n → max g h + m + n ≤ 2 ^ 30 → HasRoomToMerge s t
 room_to_merge s t g h m n a b le = record {
-  forth = room_within (inverse_all s ++ t) (in_range-append (inverse_all s) t (in_range-inverse_all s a.ranges) b.ranges) (one_way s t a.ranges b.ranges (omega (arith, a.top, a.all, b.top, b.all)));
-  back = room_within (inverse_all t ++ s) (in_range-append (inverse_all t) s (in_range-inverse_all t b.ranges) a.ranges) (one_way t s b.ranges a.ranges (omega (arith, a.top, a.all, b.top, b.all)));
+  forth = room_within (inverse_all s ++ t) (All-append (λ x. InRange x.prim) (inverse_all s) t (in_range-inverse_all s a.ranges) b.ranges) (one_way s t a.ranges b.ranges (omega (arith, a.top, a.all, b.top, b.all)));
+  back = room_within (inverse_all t ++ s) (All-append (λ x. InRange x.prim) (inverse_all t) s (in_range-inverse_all t b.ranges) a.ranges) (one_way t s b.ranges a.ranges (omega (arith, a.top, a.all, b.top, b.all)));
 }
 
 -- one more element behind a list, from which a look goes on
-pub shape_with : (s : List Named) (p : Named) (line more g m : ℕ) → InRange p.prim → line ≡ line_of p.prim → more ≡ sides_of p.prim → GoesOnTo s line more g m → IsShape (s ++ p ∷ []) g m
+pub shape_with : (s : List Named) (p : Named) (line more g m : ℕ) → InRange p.prim → line ≡ line_of p.prim → more ≡ sides_of p.prim → GoesOnTo s line more g m → GoesOnTo (s ++ p ∷ []) 0 0 g m
 shape_with s p line more g m r first then found = record {
-  ranges = in_range-append s (p ∷ []) found.ranges (All-cons (λ x. InRange x.prim) p [] r (All-nil (λ x. InRange x.prim)));
+  ranges = All-append (λ x. InRange x.prim) s (p ∷ []) found.ranges (All-cons (λ x. InRange x.prim) p [] r (All-nil (λ x. InRange x.prim)));
   top = omega (arith, found.top, first, line-append s (p ∷ []));
   all = omega (arith, found.all, then, sides-append s (p ∷ []));
   line_small = found.line_small;
   small = found.small;
 }
 
-pub shape_told : (s : List Named) (p : Named) (line more : ℕ) → InRange p.prim → line ≡ line_of p.prim → more ≡ sides_of p.prim → (found : Option (ℕ × ℕ)) → MatchOption found (greatest_reach < more + all_sides s) (λ x. GoesOnTo s line more x.0 x.1) → MatchOption found (greatest_reach < all_sides (s ++ p ∷ [])) (λ x. IsShape (s ++ p ∷ []) x.0 x.1)
+pub shape_told : (s : List Named) (p : Named) (line more : ℕ) → InRange p.prim → line ≡ line_of p.prim → more ≡ sides_of p.prim → (found : Option (ℕ × ℕ)) → MatchOption found (greatest_reach < more + all_sides s) (λ x. GoesOnTo s line more x.0 x.1) → MatchOption found (greatest_reach < all_sides (s ++ p ∷ [])) (λ x. GoesOnTo (s ++ p ∷ []) 0 0 x.0 x.1)
 shape_told s p line more r first then None w = omega (arith, w, then, sides-append s (p ∷ []))
 shape_told s p line more r first then (Some x) w = shape_with s p line more x.0 x.1 r first then w
 
 -- what looks at both lists have found, is how far both together reach
-pub both_reach : (s t : List Named) (g h m n : ℕ) → IsShape s g m → IsShape t h n → max g h + m + n ≡ reach_of (s ++ t)
+pub both_reach : (s t : List Named) (g h m n : ℕ) → GoesOnTo s 0 0 g m → GoesOnTo t 0 0 h n → max g h + m + n ≡ reach_of (s ++ t)
 both_reach s t g h m n a b = omega (arith, a.top, a.all, b.top, b.all, line-append s t, sides-append s t)
 
 -- where a look at one list finds too much, both together reach too far

@@ -1,7 +1,7 @@
 ghost use Rattle.std.specs.Prelude.{◌≡◌, ◌<◌, ◌≤◌, ◌+◌, ◌↔◌, [], ◌∷◌, ◌++◌, IsTrue, MatchOption};
 ghost use Rattle.camp_base.specs.Limits.{greatest_reach};
 ghost use Rattle.camp_prim.specs.Effect.{InRange};
-ghost use Rattle.camp_seq.specs.Inside.Reach.{GoesOnTo, IsShape};
+ghost use Rattle.camp_seq.specs.Inside.Reach.{GoesOnTo};
 ghost use Rattle.camp_seq.specs.Room.{HasRoom, HasRoomToMerge, ReachGivesRoom};
 ghost use Rattle.camp_seq.specs.Shapes.{all_sides, line_of, sides_of, reach_of};
 
@@ -56,7 +56,7 @@ pub fn has_room_to_merge(s: &[Named], p: &Named, t: &[Named], q: &Named) -> bool
 /// list. None where the numbers are more than 2^30.
 fn shape_with(items: &[Named], last: &Named) -> Option<(usize, usize)>
     ensures { MatchOption result (greatest_reach < all_sides (items.now ++ last.now ∷ []))
-        (λ shape. IsShape (items.now ++ last.now ∷ []) shape.0 shape.1) }
+        (λ shape. GoesOnTo (items.now ++ last.now ∷ []) 0 0 shape.0 shape.1) }
 {
     shape_from(items, line_of(&last.prim), sides_of(&last.prim))
 }

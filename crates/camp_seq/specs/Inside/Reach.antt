@@ -14,11 +14,3 @@ pub record GoesOnTo (s : List Named) (line more greatest sides : ℕ) : Type 0 w
   pub all : sides ≡ more + all_sides s
   pub line_small : greatest ≤ greatest_reach
   pub small : sides ≤ greatest_reach
-
--- a list of primitives in range, its greatest line, and all its old and new lines, which are not too many for one hunk
-pub record IsShape (s : List Named) (greatest sides : ℕ) : Type 0 where
-  pub ranges : All (λ p. InRange p.prim) s
-  pub top : greatest ≡ greatest_line s
-  pub all : sides ≡ all_sides s
-  pub line_small : greatest ≤ greatest_reach
-  pub small : sides ≤ greatest_reach
