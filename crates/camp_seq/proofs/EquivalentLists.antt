@@ -4,7 +4,7 @@ use Rattle.camp_seq.proofs.LawOfThree.{law_of_three}
 use Rattle.camp_seq.proofs.ListEquivalence.{after_one, before, equal_are, fronted, passed, swapped}
 use Rattle.camp_seq.proofs.ListResults.{one_front}
 use Rattle.camp_seq.proofs.NormalForms.{Near, exchanged_front}
-use Rattle.camp_seq.proofs.RoomSteps.{at_front, exchanges_behind, kept_by_swaps, room_before, room_behind, room_exchanged, room_of_equivalent, shared}
+use Rattle.camp_seq.proofs.RoomSteps.{at_front, exchanges_behind, kept_by_swaps, room_before, room_behind, room_exchanged, room_of_equivalent, room_past, shared}
 
 -- the rest of a list has room where the list has
 pub room_of_rest : (u s : List Named) → HasRoom (u ++ s) → HasRoom s
@@ -94,9 +94,6 @@ both_pass [] a b b' a' t b1 u a3 room w v x =
     ([], a, b', subst (λ y. Passes a y [] a) (sym v.0) (refl, refl), subst (λ y. Commute a y b' a3) (sym v.1) (subst (λ y. Commute a b b' y) (sym x.1) w))
 both_pass (r ∷ c) a b b' a' t b1 u a3 room w v x =
     let n = law_of_three.from_before a b r b' a' x.0 x.1 v.0 v.1 (room_before (a ∷ b ∷ r ∷ []) c room) w x.3 v.3 in
-    let first : CommutesOnce Commute (a ∷ b ∷ r ∷ c) (a ∷ v.0 ∷ v.1 ∷ c) =
-    exchanges_behind (a ∷ []) (b ∷ r ∷ c) (v.0 ∷ v.1 ∷ c) (at_front b r v.0 v.1 c v.3) in
-    let then : CommutesOnce Commute (a ∷ v.0 ∷ v.1 ∷ c) (n.0 ∷ n.1 ∷ v.1 ∷ c) = at_front a v.0 n.0 n.1 (v.1 ∷ c) n.3.pr1 in
-    let there : HasRoom (n.1 ∷ v.1 ∷ c) = room_behind n.0 (n.1 ∷ v.1 ∷ c) (room_exchanged _ _ then (room_exchanged _ _ first room)) in
+    let there : HasRoom (n.1 ∷ v.1 ∷ c) = room_past a b r v.0 v.1 n.0 n.1 c v.3 n.3.pr1 room in
     let rest = both_pass c n.1 v.1 n.2 x.1 v.2 b1 x.2 a3 there n.3.p1q1 v.4 x.4 in
     (n.0 ∷ rest.0, rest.1, rest.2, subst (λ y. Passes a y (n.0 ∷ rest.0) rest.1) (sym v.5) (n.0, n.1, rest.0, n.3.pr1, rest.3, refl), rest.4)

@@ -6,7 +6,7 @@ use Rattle.camp_seq.proofs.LawOfThree.{law_of_three}
 use Rattle.camp_seq.proofs.ListEquivalence.{all_passed, before, behind, equal_are, joined, swapped}
 use Rattle.camp_seq.proofs.ListRuns.{inverse_all-cons, inverse_all-append}
 use Rattle.camp_seq.proofs.MergeGrid.{merge_is_symmetric, merge_passes, passing_merges}
-use Rattle.camp_seq.proofs.RoomSteps.{at_front, exchanges_before, exchanges_behind, room_before, room_behind, room_exchanged, room_of_equivalent, shared}
+use Rattle.camp_seq.proofs.RoomSteps.{exchanges_before, room_before, room_behind, room_exchanged, room_of_equivalent, room_past, shared}
 
 -- two neighbours that pass a list also pass it in their other order, and leave the same list
 pub two_pass : (b : List Named) (p q q' p' : Named) (t b' : List Named) (q1 p1 : Named) → HasRoom (p ∷ q ∷ b) → Commute p q q' p' → Passes q b t q1 → Passes p t b' p1 → (u : List Named) × (p2 : Named) × (q2 : Named) × Passes p' b u p2 × Passes q' u b' q2 × Commute p1 q1 q2 p2
@@ -16,10 +16,7 @@ two_pass [] p q q' p' t b' q1 p1 room w v x =
 two_pass (r ∷ b) p q q' p' t b' q1 p1 room w v x =
     let y = subst (λ s. Passes p s b' p1) v.5 x in
     let n = law_of_three.from_behind p q r q' p' v.0 v.1 y.0 y.1 (room_before (p ∷ q ∷ r ∷ []) b room) w v.3 y.3 in
-    let first : CommutesOnce Commute (p ∷ q ∷ r ∷ b) (p ∷ v.0 ∷ v.1 ∷ b) =
-    exchanges_behind (p ∷ []) (q ∷ r ∷ b) (v.0 ∷ v.1 ∷ b) (at_front q r v.0 v.1 b v.3) in
-    let then : CommutesOnce Commute (p ∷ v.0 ∷ v.1 ∷ b) (y.0 ∷ y.1 ∷ v.1 ∷ b) = at_front p v.0 y.0 y.1 (v.1 ∷ b) y.3 in
-    let there : HasRoom (y.1 ∷ v.1 ∷ b) = room_behind y.0 (y.1 ∷ v.1 ∷ b) (room_exchanged _ _ then (room_exchanged _ _ first room)) in
+    let there : HasRoom (y.1 ∷ v.1 ∷ b) = room_past p q r v.0 v.1 y.0 y.1 b v.3 y.3 room in
     let rest = two_pass b y.1 v.1 n.2 n.1 v.2 y.2 q1 p1 there n.3.p1q1 v.4 y.4 in (
       n.0 ∷ rest.0,
       rest.1,

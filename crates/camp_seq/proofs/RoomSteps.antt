@@ -25,6 +25,12 @@ room_before s u room t r =
 pub room_exchanged : (s t : List Named) → CommutesOnce Commute s t → HasRoom s → HasRoom t
 room_exchanged s t e room u w = room u (further (exchanged_anywhere s t e) w)
 
+-- where r passes q and then p, there is room for what p and q become behind it
+pub room_past : (p q r r1 q1 y p1 : Named) (s : List Named) → Commute q r r1 q1 → Commute p r1 y p1 → HasRoom (p ∷ q ∷ r ∷ s) → HasRoom (p1 ∷ q1 ∷ s)
+room_past p q r r1 q1 y p1 s v w room =
+    let first : HasRoom (p ∷ r1 ∷ q1 ∷ s) = room_exchanged _ _ (exchanges_behind (p ∷ []) (q ∷ r ∷ s) (r1 ∷ q1 ∷ s) (at_front q r r1 q1 s v)) room in
+    room_behind y (p1 ∷ q1 ∷ s) (room_exchanged _ _ (at_front p r1 y p1 (q1 ∷ s) w) first)
+
 -- equivalent lists have room together
 pub room_of_equivalent : (s t : List Named) → s ~ t → HasRoom s → HasRoom t
 room_of_equivalent s t e = (shared HasRoom room_exchanged s t e).0
