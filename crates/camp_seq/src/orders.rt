@@ -42,7 +42,7 @@ pub fn put_in_order(s: &mut Seq) -> bool
     ensures order { Norm s.old s.new }
     ensures own { IsTrue result → Norm s.new s.new }
 {
-    order_told(&mut s.items)
+    order(&mut s.items)
 }
 
 /// Puts a primitive before a list, and then the list in normal order, in its place in memory. The list may be known
@@ -56,7 +56,7 @@ pub fn put_first(a: Named, s: &mut Seq, ordered: bool) -> Result<bool, AllocErro
         return put_before(a, s);
     }
     s.items.insert(0, a)?;
-    Ok(order_told(&mut s.items))
+    Ok(order(&mut s.items))
 }
 
 /// The same where the list is its own normal order: the primitive is put in its place, and what is behind it there
@@ -96,17 +96,20 @@ fn settle_from(items: &mut [Named], at: usize, known: bool)
     order_anew(&mut items[at..]);
 }
 
-/// Puts a list in normal order. It takes no memory.
+/// Puts a list in normal order, and tells whether it is known to be its own normal order then. It takes no memory.
 ///
 /// A list that is its own normal order stays as it is. One whose hunks stay in range in any order is
 /// ordered by insertion: n elements take at most n * (n - 1) commuting steps. Another, with hunks near the
 /// limit of 2^30, is ordered by selection, as the rule has it.
-pub(crate) fn order(items: &mut [Named])
-    ensures { Norm items.old items.new }
+pub(crate) fn order(items: &mut [Named]) -> bool
+    ensures order { Norm items.old items.new }
+    ensures own { IsTrue result → Norm items.new items.new }
 {
-    if !is_own_order(items) {
-        order_anew(items);
+    if is_own_order(items) {
+        return true;
     }
+    order_anew(items);
+    surely_has_room(items)
 }
 
 /// The same where a look does not tell that the list is in order.
@@ -118,18 +121,6 @@ fn order_anew(items: &mut [Named])
     } else {
         order_by_selection(items);
     }
-}
-
-/// Puts a list in normal order, and tells whether it is known to be its own normal order then.
-fn order_told(items: &mut [Named]) -> bool
-    ensures order { Norm items.old items.new }
-    ensures own { IsTrue result → Norm items.new items.new }
-{
-    if is_own_order(items) {
-        return true;
-    }
-    order_anew(items);
-    surely_has_room(items)
 }
 
 /// For each place the labels are tried in ascending order until one comes to the front. Where the

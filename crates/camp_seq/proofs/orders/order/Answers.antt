@@ -1,5 +1,5 @@
 use Rattle.camp_seq.proofs.FirstOrders.{own_with_room}
-use Rattle.camp_seq.proofs.orders.order_told.Goals as goal
+use Rattle.camp_seq.proofs.orders.order.Goals as goal
 
 pub returns : goal.returns
 returns c = record {
