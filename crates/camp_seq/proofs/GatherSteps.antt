@@ -31,14 +31,11 @@ window labels s0 s i count k d within v k_is w =
 
 -- another element is commuted past them
 pub parts_other : (labels : List Label) (s0 s part new : List Named) (i count k : ℕ) (d : Named) → i < length s → length s ≡ length s0 → k ≡ count + 1 → PartsFrom labels s0 (i + 1) count s → ¬ (Contains labels (label_of (get_or s i d))) → part ≡ take k (drop i s) → FirstPasses part new → PartsFrom labels s0 i count (put_mid i k s new)
-parts_other labels s0 s part new i count k d within same k_is w other part_is (p, rest, rest', p', is, passes, new_is) =
+parts_other labels s0 s part new i count k d within same k_is w other part_is first =
     let q : Named = get_or s i d in
     let cut = window labels s0 s i count k d within w k_is w in
-    let both : p ∷ rest ≡ q ∷ w.named = sym is ∙ part_is ∙ cut.0 in
-    let p_is : p ≡ q = cc in
-    let rest_is : rest ≡ w.named = cc in
+    let (rest', p', passed, new_is) = subst (λ x. FirstPasses x new) (part_is ∙ cut.0) first in
     let next : drop i s0 ≡ q ∷ drop (i + 1) s0 = at_last s0 s i d (omega arith) w.waiting in
-    let passed : Passes q w.named rest' p' = subst (λ x. Passes x w.named rest' p') p_is (subst (λ x. Passes p x rest' p') rest_is passes) in
     let long : length (take i s) ≡ i = length-take-le i s (omega arith) in
     let written : put_mid i k s new ≡ take i s ++ (rest' ++ p' ∷ w.others) =
     ap (λ x. take i s ++ (new ++ x)) cut.1 ∙ ap (λ x. take i s ++ (x ++ w.others)) new_is ∙ ap (λ x. take i s ++ x) (append_assoc rest' (p' ∷ []) w.others) in
@@ -67,13 +64,5 @@ parts_stop labels s0 s part i count k d within same k_is w other part_is never f
     let q : Named = get_or s i d in
     let cut = window labels s0 s i count k d within w k_is w in
     let next : drop i s0 ≡ q ∷ drop (i + 1) s0 = at_last s0 s i d (omega arith) w.waiting in
-    let stuck : (x : List Named) (y : Named) → ¬ (Passes q w.named x y) = λ x y v. never (x ++ y ∷ []) (q, w.named, x, y, part_is ∙ cut.0, v, refl) in
+    let stuck : (x : List Named) (y : Named) → ¬ (Passes q w.named x y) = λ x y v. never (x ++ y ∷ []) (subst (λ z. FirstPasses z (x ++ y ∷ [])) (sym (part_is ∙ cut.0)) (x, y, v, refl)) in
     stop labels (take i s0) q (drop (i + 1) s0) w.named w.others f t w.parts other stuck (subst (λ x. Parts labels x f t) (whole s0 i (q ∷ drop (i + 1) s0) next) m)
-
--- where the first element can't pass the others
-pub never_passes : (items rest any : List Named) (first : Named) → items ≡ first ∷ rest → ((found : List Named × Named) → ¬ (Passes first rest found.0 found.1)) → ¬ (FirstPasses items any)
-never_passes items rest any first is never (p, others, others', p', was, w, turned) =
-    let both : p ∷ others ≡ first ∷ rest = sym was ∙ is in
-    let p_is : p ≡ first = cc in
-    let others_are : others ≡ rest = cc in
-    never (others', p') (subst (λ y. Passes y rest others' p') p_is (subst (λ y. Passes p y others' p') others_are w))

@@ -61,9 +61,8 @@ FrontsInPlace label s t = (y : Named) × (rest : List Named) × Fronts label s y
 
 -- the first element is commuted past the others
 abbrev pub FirstPasses : List Named → List Named → Type 0
-FirstPasses s t =
-    (p : Named) × (rest : List Named) × (rest' : List Named) × (p' : Named)
-    × (s ≡ p ∷ rest) × Passes p rest rest' p' × (t ≡ rest' ++ p' ∷ [])
+FirstPasses [] t = ⊥
+FirstPasses (p ∷ s) t = (s' : List Named) × (p' : Named) × Passes p s s' p' × (t ≡ s' ++ p' ∷ [])
 
 -- the elements with these labels and behind them the others, from a place on, and before it the list as it was
 pub record PartsFrom (labels : List Label) (s : List Named) (at count : ℕ) (now : List Named) : Type 0 where
