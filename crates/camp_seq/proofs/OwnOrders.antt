@@ -16,18 +16,12 @@ front_of_chain label p (q ∷ s) y t c (inr w) =
     let rest = front_of_chain label q s a.0 a.2 c.1 a.3 in
     absurd (c.0 (y, (a.1, subst (λ z. Commute p z y a.1) rest.1 a.4)))
 
--- what stands behind an element of a chain is a chain
-pub chain_behind : (s : List Named) (n : ℕ) → Chain s → Chain (drop n s)
-chain_behind [] zero c = tt
-chain_behind [] (suc n) c = tt
-chain_behind (p ∷ s) zero c = c
-chain_behind (p ∷ s) (suc n) c = chain_behind s n c.1
-
 -- an element that commutes with the one behind it
 pub no_chain : (s : List Named) (i : ℕ) (p : Named) (t : List Named) → drop i s ≡ p ∷ t → ¬ (StaysBefore p t) → ¬ (Chain s)
-no_chain s i p t is moves c =
-    let rest : Chain (p ∷ t) = subst Chain is (chain_behind s i c) in
-    moves rest.0
+no_chain [] zero p t is moves c = cc
+no_chain [] (suc i) p t is moves c = cc
+no_chain (q ∷ s) zero p t is moves c = moves (subst Chain is c).0
+no_chain (q ∷ s) (suc i) p t is moves c = no_chain s i p t is moves c.1
 
 pub chain_is_ordered : (s : List Named) → Chain s → Norm s s
 chain_is_ordered [] c = refl
