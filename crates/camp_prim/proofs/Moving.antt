@@ -1,5 +1,5 @@
 -- Where hunks that commute come to stand.
-use Rattle.camp_prim.proofs.Words.{◌≡◌, ℕ, ◌+◌, ◌<◌, ◌⊎◌, ◌↔◌, Bool, true, false, IsTrue, Option, option_map, Result, Ok, Err, IfErr, length, refl, sym, ap, subst, inl, inr, Lines, InRange, Edit, IsInRange, SameKey, FindsPair, moved, turned, ComesTo, ChangeInRange, at_line, Commute, Primitive, Hunk, Named, Targets}
+use Rattle.camp_prim.proofs.Words.{◌≡◌, ℕ, ◌+◌, ◌<◌, ◌⊎◌, ◌↔◌, Bool, true, false, IsTrue, Option, option_map, length, refl, sym, ap, subst, inl, inr, Lines, InRange, Edit, IsInRange, SameKey, FindsPair, moved, turned, ComesTo, ChangeInRange, at_line, Commute, Primitive, Hunk, Named, Targets}
 use Rattle.camp_prim.proofs.CommuteUnique.{same_hunk, hunk_above, hunk_below}
 
 -- the sides of the upper hunk as other names for them have it
@@ -64,10 +64,6 @@ swap_from p q q' p' targets apart c e f =
 pub swap_made : (p q : Named) (targets : Targets) → ¬ (SameKey p q) → ChangeInRange p.prim q.prim (moved targets.second q.prim) (moved targets.first p.prim) → (q' : Named) × ((p' : Named) × Commute p q q' p')
 swap_made p q targets apart c =
     (record q { prim = moved targets.second q.prim }, (record p { prim = moved targets.first p.prim }, swap_from p q _ _ targets apart c refl refl))
-
-pub swap_wanted : {T E : Type 0} (result : Result T E) (p q : Named) (targets : Targets) → ¬ (SameKey p q) → ChangeInRange p.prim q.prim (moved targets.second q.prim) (moved targets.first p.prim) → IfErr result (λ error. (q' : Named) × ((p' : Named) × Commute p q q' p'))
-swap_wanted (Ok done) p q targets apart c = tt
-swap_wanted (Err error) p q targets apart c = swap_made p q targets apart c
 
 -- where primitives do not commute, there is no commute
 pub no_swap : (p q : Named) → ((any : Primitive × Primitive) → ¬ (ChangeInRange p.prim q.prim any.0 any.1)) → (any : Named × Named) → ¬ (Commute p q any.0 any.1)

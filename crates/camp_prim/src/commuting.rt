@@ -1,15 +1,12 @@
 ghost use Rattle.std.specs.Prelude.{◌≡◌, ◌+◌, ◌≤◌, ◌<◌, ◌↔◌, IfOk, IfErr, IfSome, IsTrue, MatchOption, length, option_map};
 ghost use Rattle.camp_base.specs.Answers.{Finds, FindsPair};
 ghost use Rattle.camp_base.specs.Limits.{greatest_reach};
-ghost use Rattle.camp_prim.specs.Effect.{InRange};
 ghost use Rattle.camp_prim.specs.Hunks.{IsInRange};
 ghost use Rattle.camp_prim.specs.Laws.{BothCommuteAlike, CommuteIsUnique, CommuteLaws};
-ghost use Rattle.camp_prim.specs.Inside.Targets.{moved, turned, ChangeInRange, ComesTo};
+ghost use Rattle.camp_prim.specs.Inside.Targets.{turned, ChangeInRange, ComesTo};
 ghost use Rattle.camp_prim.specs.Commuting.{Commute};
 
-use crate::labels::have_same_key;
-use crate::neighbours::move_to;
-use crate::{Hunk, Named, Primitive};
+use crate::{Hunk, Named, Primitive, commute_in_place, commutes};
 use std::alloc::AllocError;
 
 /// What `p` and then `q` become in the other order: `Some((q', p'))`, where `q'` and then `p'` do
@@ -20,17 +17,15 @@ pub fn commute(p: &Named, q: &Named) -> Result<Option<(Named, Named)>, AllocErro
     ensures laws { IfOk result (λ found. IfSome found (λ pair. CommuteLaws p.now q.now pair.0 pair.1)) }
     ensures memory { IfErr result (λ error. (q' : Named) × ((p' : Named) × Commute p.now q.now q' p')) }
 {
-    if have_same_key(p, q) {
+    if !commutes(p, q) {
         return Ok(None);
     }
-    match targets_of(&p.prim, &q.prim) {
-        None => Ok(None),
-        Some(targets) => {
-            let second = moved_copy(q, targets.second)?;
-            let first = moved_copy(p, targets.first)?;
-            Ok(Some((second, first)))
-        }
+    let mut second = q.try_clone()?;
+    let mut first = p.try_clone()?;
+    if !commute_in_place(&mut first, &mut second) {
+        return Ok(None);
     }
+    Ok(Some((second, first)))
 }
 
 /// Two primitives commute to one pair at most.
@@ -128,13 +123,4 @@ fn are_full(takes: usize, leaves: usize, lower: &Hunk) -> bool
         return false;
     }
     !lower.old().is_empty() && !lower.new().is_empty()
-}
-
-fn moved_copy(p: &Named, line: Option<u32>) -> Result<Named, AllocError>
-    requires { InRange (moved line p.now.prim) }
-    ensures { IfOk result (λ copy. copy ≡ record p.now { prim = moved line p.now.prim }) }
-{
-    let mut copy = p.try_clone()?;
-    move_to(&mut copy.prim, line);
-    Ok(copy)
 }

@@ -28,7 +28,7 @@ pub fn commute_in_place(p: &mut Named, q: &mut Named) -> bool
 }
 
 /// Moves a primitive to a line, where one is given.
-pub(crate) fn move_to(p: &mut Primitive, line: Option<u32>)
+fn move_to(p: &mut Primitive, line: Option<u32>)
     requires { InRange (moved line p.old) }
     ensures { p.new ≡ moved line p.old }
 {
