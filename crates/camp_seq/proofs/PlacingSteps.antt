@@ -1,5 +1,5 @@
 -- An element that is commuted to its place behind the others, from one neighbour to the next.
-use Rattle.camp_seq.proofs.Words.{◌≡◌, ◌≢◌, ℕ, ◌+◌, ◌-◌, ◌≤◌, List, [], ◌∷◌, ◌++◌, length, take, drop, refl, sym, ap, ◌∙◌, subst, inl, inr, arith, append_assoc, length-append, length-take-le, length-drop, take_at, drop_at, take-append-drop, Less, label_of, label_cmp, Named, ◌~◌, backwards, through, Precedes, IsHeld, ComesUpTo, HasRoom, ◌⊎◌, Label, IsLeast, Norm, Passes, Fronts}
+use Rattle.camp_seq.proofs.Words.{◌≡◌, ◌≢◌, ℕ, ◌+◌, ◌-◌, List, [], ◌∷◌, ◌++◌, length, take, drop, refl, sym, ap, ◌∙◌, subst, inl, inr, arith, append_assoc, length-append, length-take-le, length-drop, take_at, drop_at, take-append-drop, Less, label_of, label_cmp, Named, ◌~◌, backwards, through, IsHeld, ComesUpTo, HasRoom, Label, IsLeast, Norm, Passes, Fronts}
 use Rattle.camp_seq.specs.Inside.FirstInOrder.{ComesIn, GoesIn}
 use Rattle.camp_seq.proofs.EquivalentLists.{comes_first, passes_alike, room_of_rest}
 use Rattle.camp_seq.proofs.FirstOrders.{own_behind, own_with_room}

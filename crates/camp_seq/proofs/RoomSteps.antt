@@ -1,5 +1,5 @@
 -- What a list with room reaches has room.
-use Rattle.camp_seq.proofs.Words.{◌≡◌, List, [], ◌∷◌, ◌++◌, sym, ap, ◌∙◌, subst, inl, inr, All, All-tail, All-take, length, refl, take_at, InRange, Label, Commute, Named, CommutesOnce, ◌~◌, Fronts, Reaches, here, further, HasRoom}
+use Rattle.camp_seq.proofs.Words.{List, [], ◌∷◌, ◌++◌, subst, All, All-tail, All-take, length, refl, take_at, InRange, Commute, Named, CommutesOnce, ◌~◌, Reaches, here, further, HasRoom}
 pub use Rattle.camp_seq.proofs.ExchangeSteps.{at_front, exchanged_anywhere, exchanges_back, exchanges_before, exchanges_behind, shared}
 
 pub reaches_through : (s t u : List Named) → Reaches s t → Reaches t u → Reaches s u

@@ -1,4 +1,4 @@
-use Rattle.camp_seq.proofs.Words.{sym, subst, FirstPasses}
+use Rattle.camp_seq.proofs.Words.{subst, FirstPasses}
 use Rattle.camp_seq.proofs.splits.pass_first.Goals as goal
 
 pub returns-then-not-pass : goal.returns-then-not-pass

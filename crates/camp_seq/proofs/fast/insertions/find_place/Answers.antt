@@ -1,4 +1,4 @@
-use Rattle.camp_seq.proofs.Words.{refl, sym, subst, take_rest, Norm}
+use Rattle.camp_seq.proofs.Words.{sym, subst, take_rest, Norm}
 use Rattle.camp_seq.proofs.OrderSteps.{rest_written}
 use Rattle.camp_seq.proofs.PlacingSteps.{own_there, comes_in}
 use Rattle.camp_seq.proofs.fast.insertions.find_place.Goals as goal
