@@ -1,12 +1,13 @@
 -- Lists that merge cleanly exactly where their normal orders do, and the contexted patches that they are of.
-use Rattle.camp_ctx.proofs.Words.{◌≡◌, List, [], refl, sym, subst, Label, Named, CleanMerge, Norm, Splits, one_order, one_split, ContextedPatch, Conflict, common_labels, whole}
+use Rattle.camp_ctx.proofs.Words.{◌≡◌, List, [], ◌∷◌, ◌++◌, false, subst, label_of, Label, Named, CleanMerge, Norm, Splits, one_order, one_split, chain_is_ordered, ContextedPatch, Conflict, common_labels, has_label, whole}
+use Rattle.camp_ctx.specs.Contexts.{bare}
 use Rattle.camp_seq.specs.Equivalence.{backwards}
 use Rattle.camp_seq.specs.Room.{HasRoomToMerge}
 use Rattle.camp_seq.proofs.ListEquivalence.{ordered}
 use Rattle.camp_seq.proofs.MergeOrders.{merges_in_any_order, room_in_any_order}
 use Rattle.camp_seq.proofs.NormalOrders.{has_normal_order}
 use Rattle.camp_ctx.specs.Inside.Apart.{LacksLabels, MergesAsOrdered, NoCleanMerge}
-use Rattle.camp_ctx.proofs.Standing.{no_parts, none_in_common}
+use Rattle.camp_ctx.proofs.Standing.{no_split, none_in_common}
 
 pub of_own_orders : (s t : List Named) → Norm s s → Norm t t → MergesAsOrdered s t
 of_own_orders s t own other = record {
@@ -27,15 +28,10 @@ of_room s t room = record {
       (n.0, m.0, v.0, v.1, n.1, m.1, v.2);
 }
 
--- no label splits off nothing, and leaves the list in its normal order
-split_of_none : (labels : List Label) (s r : List Named) → labels ≡ [] → Norm s r → Splits labels s [] r
-split_of_none labels s r none n =
-    subst (λ ls. Splits ls s [] r) (sym none) (record { named = []; others = s; parts = no_parts s; first = refl; rest = n })
-
 rest_of_none : (labels : List Label) (s f r : List Named) → labels ≡ [] → Splits labels s f r → Norm s r
 rest_of_none labels s f r none w =
     let n = has_normal_order s in
-    subst (Norm s) (one_split labels s [] n.0 f r (split_of_none labels s n.0 none n.1) w).1 n.1
+    subst (Norm s) (one_split labels s [] n.0 f r (no_split labels s n.0 none n.1) w).1 n.1
 
 module _ (x y : ContextedPatch) (lacks : LacksLabels (whole x) (whole y)) (any : MergesAsOrdered (whole x) (whole y)) where
   nothing : common_labels (whole x) (whole y) ≡ []
@@ -53,7 +49,13 @@ module _ (x y : ContextedPatch) (lacks : LacksLabels (whole x) (whole y)) (any :
         common = [];
         s1 = v.0;
         t1 = v.1;
-        first = split_of_none _ (whole x) v.0 nothing v.4;
-        second = split_of_none _ (whole y) v.1 nothing v.5;
+        first = no_split _ (whole x) v.0 nothing v.4;
+        second = no_split _ (whole y) v.1 nothing v.5;
         merge = v.6;
       })
+
+-- a patch without a context, which does not merge with a list and a patch behind it, conflicts with them, where they
+-- don't have its label
+pub some_behind : (a patch : Named) (s : List Named) → has_label (s ++ patch ∷ []) (label_of a) ≡ false → NoCleanMerge (a ∷ []) (s ++ patch ∷ []) → Norm (s ++ patch ∷ []) (s ++ patch ∷ []) → Conflict (bare a) (record { context = s; patch = patch })
+some_behind a patch s lacks stops own =
+    conflict_as_they_stand (bare a) (record { context = s; patch = patch }) (lacks, tt) (of_own_orders (a ∷ []) (s ++ patch ∷ []) (chain_is_ordered (a ∷ []) (tt, tt)) own) stops

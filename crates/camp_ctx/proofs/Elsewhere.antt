@@ -1,14 +1,15 @@
 -- Contexted patches that change other files do not conflict.
-use Rattle.camp_ctx.proofs.Words.{◌≡◌, ◌∙◌, Bool, true, false, cond, List, [], ◌∷◌, map, refl, sym, ap, subst, inl, inr, label_of, key_of, Label, Named, inverse_of, Commute, Norm, Fronts, Splits, CleanMerge, common_labels, has_label, Conflict, ContextedPatch, whole}
+use Rattle.camp_ctx.proofs.Words.{◌≡◌, ◌∙◌, List, [], ◌∷◌, map, refl, sym, ap, subst, inl, inr, label_of, key_of, Label, Named, inverse_of, Commute, Norm, Fronts, CleanMerge, Conflict, ContextedPatch, whole}
+use Rattle.std.proofs.lemmas.Bool.{false_from_ne_true}
 use Rattle.camp_prim.specs.Effect.{InRange}
 use Rattle.camp_prim.specs.Commuting.{PrimitivesCommute, path_of}
 use Rattle.camp_prim.specs.declared.primitives.Primitive.{Primitive}
 use Rattle.camp_prim.proofs.CommuteLaws.{square}
 use Rattle.camp_seq.specs.Merging.{MergesOne}
 use Rattle.camp_seq.proofs.NormalOrders.{has_normal_order}
-use Rattle.camp_ctx.specs.Inside.Apart.{Elsewhere, IsElsewhere, AreElsewhere}
+use Rattle.camp_ctx.specs.Inside.Apart.{AreElsewhere, Elsewhere, IsElsewhere, LacksLabels}
 use Rattle.camp_ctx.proofs.CommonLabels.{IsIn, in_from_has}
-use Rattle.camp_ctx.proofs.Standing.{no_parts}
+use Rattle.camp_ctx.proofs.Standing.{no_split, none_in_common}
 
 -- the paths stay where two primitives commute
 paths_stay : (p q q' p' : Primitive) → PrimitivesCommute p q q' p' → (path_of q' ≡ path_of q) × (path_of p' ≡ path_of p)
@@ -87,19 +88,10 @@ not_among p [] w among = among
 not_among p (q ∷ t) w (inl is) = w.0.keys (sym (ap key_of is))
 not_among p (q ∷ t) w (inr among) = not_among p t w.1 among
 
-kept_out : (b : Bool) (l : Label) (ls : List Label) → ¬ (b ≡ true) → cond b (l ∷ ls) ls ≡ ls
-kept_out true l ls never = absurd (never refl)
-kept_out false l ls never = refl
-
-none_common : (s t : List Named) → AreElsewhere s t → common_labels s t ≡ []
-none_common [] t w = refl
-none_common (p ∷ s) t w =
-    kept_out (has_label t (label_of p)) (label_of p) (common_labels s t) (λ has. not_among p t w.0 (in_from_has t (label_of p) has))
-    ∙ none_common s t w.1
-
-none_split : (labels : List Label) (s u : List Named) → labels ≡ [] → Norm s u → Splits labels s [] u
-none_split labels s u none n =
-    subst (λ ls. Splits ls s [] u) (sym none) (record { named = []; others = s; parts = no_parts s; first = refl; rest = n })
+lack_labels : (s t : List Named) → AreElsewhere s t → LacksLabels s t
+lack_labels [] t w = tt
+lack_labels (p ∷ s) t w =
+    (false_from_ne_true _ (λ has. not_among p t w.0 (in_from_has t (label_of p) has)), lack_labels s t w.1)
 
 pub no_conflict : (x y : ContextedPatch) → AreElsewhere (whole x) (whole y) → ¬ (Conflict x y)
 no_conflict x y w never =
@@ -107,7 +99,7 @@ no_conflict x y w never =
     let t = whole y in
     let (u, first) = has_normal_order s in
     let (v, second) = has_normal_order t in
-    let none = none_common s t w in
+    let none = none_in_common s t (lack_labels s t w) in
     let own = norm_elsewhere t s u first w in
     let all = turned_all v u (norm_elsewhere u t v second (turned_all u t own)) in
-    never v u (record { common = []; s1 = u; t1 = v; first = none_split _ s u none first; second = none_split _ t v none second; merge = rows u v all })
+    never v u (record { common = []; s1 = u; t1 = v; first = no_split _ s u none first; second = no_split _ t v none second; merge = rows u v all })

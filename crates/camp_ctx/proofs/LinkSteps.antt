@@ -38,9 +38,6 @@ pub record Linked (r s : List Named) (patch : Named) : Type 0 where
   pub chain : Chain (r ++ s)
   pub added : AddsAll r (at s patch) (at (r ++ s) patch)
 
-pub linked_none : (s : List Named) (patch : Named) → Chain s → Linked [] s patch
-linked_none s patch c = record { chain = c; added = refl }
-
 pub linked_more : (a : Named) (r s : List Named) (patch : Named) → Links a (r ++ s) patch → Linked r s patch → Linked (a ∷ r) s patch
 linked_more a r s patch l w =
     let chain = chain_more a (r ++ s) patch w.chain l in

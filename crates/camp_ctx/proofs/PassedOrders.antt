@@ -1,7 +1,7 @@
 -- A list in normal order is so too when a primitive has passed it, if there is room.
-use Rattle.camp_ctx.proofs.Words.{List, [], ◌∷◌, ◌++◌, inl, inr, Less, refl, sym, ap, ◌∙◌, subst, ◌≡◌, inverse_of, label_cmp, label_of, Commute, Named, Norm, Fronts, Passes}
+use Rattle.camp_ctx.proofs.Words.{List, [], ◌∷◌, ◌++◌, inl, Less, refl, sym, ap, ◌∙◌, subst, ◌≡◌, inverse_of, label_cmp, label_of, Named, Norm, Fronts, Passes}
 use Rattle.camp_prim.proofs.CommuteLaws.{square}
-use Rattle.camp_seq.specs.Equivalence.{◌~◌, through}
+use Rattle.camp_seq.specs.Equivalence.{through}
 use Rattle.camp_seq.specs.NormalOrder.{IsLeast}
 use Rattle.camp_seq.specs.Room.{HasRoom}
 use Rattle.camp_seq.proofs.EquivalentLists.{comes_first, passes_alike}

@@ -1,13 +1,13 @@
 -- What stays as it is where a primitive passes it as it is.
-use Rattle.camp_ctx.proofs.Words.{◌≡◌, ◌∙◌, ℕ, suc, get_or, ◌<◌, ◌≤◌, length, Some, None, Bool, true, false, cond, List, [], ◌∷◌, ◌++◌, map, refl, sym, ap, subst, inl, inr, arith, slice_get, none-some, same_Some, entries, get-entries, len, len-entries, find, eq_by_cmp, inverse_of, label_of, key_of, key_cmp, Commute, Key, Label, Named, inverse_of-inverse_of, Norm, Splits, Parts, Passes, passes_row, chain_is_ordered, Adds, PassesBy}
+use Rattle.camp_ctx.proofs.Words.{◌≡◌, ◌∙◌, ℕ, suc, get_or, ◌<◌, ◌≤◌, length, Some, Bool, true, false, cond, List, [], ◌∷◌, ◌++◌, map, refl, sym, ap, subst, inl, inr, arith, slice_get, none-some, same_Some, entries, get-entries, len, len-entries, find, eq_by_cmp, inverse_of, label_of, key_of, key_cmp, Commute, Key, Label, Named, inverse_of-inverse_of, Norm, Splits, Parts, Passes, passes_row, chain_is_ordered, Adds, PassesBy}
 use Rattle.std.proofs.lemmas.List.Folds.{list_any-append}
 use Rattle.std.proofs.Common.{◌||◌}
+use Rattle.std.proofs.lemmas.Bool.{false_from_ne_true}
 use Rattle.camp_prim.specs.Labels.{label_cmp}
 use Rattle.camp_ctx.proofs.Words.{commute, MergesBehindCommon, common_labels, has_label, Conflict, ChangesAt, ContextedPatches, EachMember, ContextedPatch, whole}
 use Rattle.camp_ctx.specs.Contexts.{bare}
 use Rattle.camp_ctx.specs.Inside.Apart.{LacksLabels, NoCleanMerge}
 use Rattle.camp_ctx.proofs.CommonLabels.{IsIn, in_from_fronts, in_from_has}
-use Rattle.camp_ctx.proofs.ConflictSteps.{conflicts_from, merges_as_the_rests}
 use Rattle.camp_ctx.proofs.SetSteps.{members_of}
 
 -- what a primitive passes has other absolute labels
@@ -41,24 +41,26 @@ each_is_same Change xs i n counted past own key =
     let long = len-entries xs in
     subst (λ o. ChangesAt Change o o) (sym (get-entries xs key)) (same_at_each Change (entries xs) (λ k within. own k (omega arith)) key)
 
-none_named : (b : Bool) (l : Label) → ¬ (b ≡ true) → cond b (l ∷ []) [] ≡ []
-none_named true l never = absurd (never refl)
-none_named false l never = refl
+-- lists of which no label of the one is in the other have none in common
+pub none_in_common : (s t : List Named) → LacksLabels s t → common_labels s t ≡ []
+none_in_common [] t lacks = refl
+none_in_common (p ∷ s) t lacks =
+    ap (λ b. cond b (label_of p ∷ common_labels s t) (common_labels s t)) lacks.0 ∙ none_in_common s t lacks.1
 
 pub no_parts : (t : List Named) → Parts [] t [] t
 no_parts [] = (refl, refl)
 no_parts (p ∷ t) =
     inr ((λ named. let within = named.1 in absurd (omega arith)), ([], t, p, no_parts t, (refl, refl), refl))
 
--- no label splits nothing off a list in normal order
-pub no_split : (labels : List Label) (t : List Named) → labels ≡ [] → Norm t t → Splits labels t [] t
-no_split labels t none own =
-    subst (λ ls. Splits ls t [] t) (sym none) (record { named = []; others = t; parts = no_parts t; first = refl; rest = own })
+-- no label splits off nothing, and leaves the list in its normal order
+pub no_split : (labels : List Label) (t u : List Named) → labels ≡ [] → Norm t u → Splits labels t [] u
+no_split labels t u none n =
+    subst (λ ls. Splits ls t [] u) (sym none) (record { named = []; others = t; parts = no_parts t; first = refl; rest = n })
 
 module _ (back : Named) (t : List Named) (passes : Passes back t t back) where
   nothing_common : common_labels (inverse_of back ∷ []) t ≡ []
   nothing_common =
-      none_named (has_label t (label_of (inverse_of back))) _ (λ has. has_other_labels back t t back passes _ refl (in_from_has t _ has))
+      none_in_common (inverse_of back ∷ []) t (false_from_ne_true _ (λ has. has_other_labels back t t back passes _ refl (in_from_has t _ has)), tt)
 
   -- what goes back past a list in normal order, where all stay as they are, merges with it
   pub merges_aside : Norm t t → MergesBehindCommon (inverse_of back ∷ []) t t (inverse_of back ∷ [])
@@ -66,8 +68,8 @@ module _ (back : Named) (t : List Named) (passes : Passes back t t back) where
     common = [];
     s1 = inverse_of back ∷ [];
     t1 = t;
-    first = no_split _ (inverse_of back ∷ []) nothing_common (chain_is_ordered (inverse_of back ∷ []) (tt, tt));
-    second = no_split _ t nothing_common own;
+    first = no_split _ _ _ nothing_common (chain_is_ordered (inverse_of back ∷ []) (tt, tt));
+    second = no_split _ t t nothing_common own;
     merge = (t, inverse_of back, [], passes_row back t t back passes, (refl, refl), refl);
   }
 
@@ -93,12 +95,6 @@ module _ (x : ContextedPatch) (c : List Named) (l m : Label) (found : Bool) (is 
   named_by_patch t told lacks own tells_too =
       tells_too ∙ ap (λ s. has_label s m) own ∙ ap (has_label (x.patch ∷ [])) same ∙ sym (both_told ∙ ap (λ b. b || has_label (x.patch ∷ []) l) lacks)
 
--- lists of which no label of the one is in the other have none in common
-pub none_in_common : (s t : List Named) → LacksLabels s t → common_labels s t ≡ []
-none_in_common [] t lacks = refl
-none_in_common (p ∷ s) t lacks =
-    ap (λ b. cond b (label_of p ∷ common_labels s t) (common_labels s t)) lacks.0 ∙ none_in_common s t lacks.1
-
 -- the first of a context is the first of the whole
 pub first_of_context : (x : ContextedPatch) (s : List Named) (p : Named) → s ≡ x.context → Some p ≡ slice_get s 0 → (rest : List Named) × (whole x ≡ p ∷ rest)
 first_of_context x [] p is there = absurd (none-some p (sym there))
@@ -116,23 +112,8 @@ firsts_stop s t rest more p q first second never = rw (first, second) (λ t' s' 
     let row = w.3 in
     never (row.0 ∷ []) (row.1 ∷ []) (row.0 ∷ [], row.1, [], (row.0, row.1, [], row.3, (refl, refl), refl), (refl, refl), refl))
 
--- contexted patches in normal order without a label in common conflict where they do not merge
-pub clashes : (x y : ContextedPatch) → LacksLabels (whole x) (whole y) → Norm (whole x) (whole x) → Norm (whole y) (whole y) → NoCleanMerge (whole x) (whole y) → Conflict x y
-clashes x y lacks own other never t' s' w =
-    let s = whole x in
-    let t = whole y in
-    let nothing = none_in_common s t lacks in
-    let front = no_split (common_labels s t) s nothing own in
-    let behind = no_split (common_labels s t) t nothing other in
-    conflicts_from s t x y refl refl (merges_as_the_rests s t (common_labels s t) refl [] [] s t front behind refl None (λ pair. never pair.0 pair.1)) t' s' w
-
 -- what goes back past a list and a patch behind it, where all stay as they are, does not conflict with them
 pub none_behind : (a patch : Named) (s : List Named) → Passes (inverse_of a) (s ++ patch ∷ []) (s ++ patch ∷ []) (inverse_of a) → Norm (s ++ patch ∷ []) (s ++ patch ∷ []) → ¬ (Conflict (bare a) (record { context = s; patch = patch }))
 none_behind a patch s passes own conflict =
     let t : List Named = s ++ patch ∷ [] in
     conflict t (a ∷ []) (subst (λ p. MergesBehindCommon (p ∷ []) t t (p ∷ [])) (inverse_of-inverse_of a) (merges_aside (inverse_of a) t passes own))
-
--- and what does not merge with them, under a label that they don't have, does
-pub some_behind : (a patch : Named) (s : List Named) → has_label (s ++ patch ∷ []) (label_of a) ≡ false → NoCleanMerge (a ∷ []) (s ++ patch ∷ []) → Norm (s ++ patch ∷ []) (s ++ patch ∷ []) → Conflict (bare a) (record { context = s; patch = patch })
-some_behind a patch s lacks stops own =
-    clashes (bare a) (record { context = s; patch = patch }) (lacks, tt) (chain_is_ordered (a ∷ []) (tt, tt)) own stops

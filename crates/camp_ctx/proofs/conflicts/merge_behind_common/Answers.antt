@@ -22,8 +22,8 @@ returns-then-are_apart c =
     let s = c.args.s.now in
     let t = c.args.t.now in
     let none = c.are_apart.ensures.none c.if-are_apart.true in
-    let first = no_split _ s none (c.are_apart.ensures.first c.if-are_apart.true) in
-    let second = no_split _ t none (c.are_apart.ensures.second c.if-are_apart.true) in
+    let first = no_split _ s s none (c.are_apart.ensures.first c.if-are_apart.true) in
+    let second = no_split _ t t none (c.are_apart.ensures.second c.if-are_apart.true) in
     record { exact = IfOk-weaker c.merge_apart.result _ _ (merges_as_the_rests s t _ labels [] [] s t first second refl) c.merge_apart.ensures.exact }
 
 pub returns-then-not-is_same : goal.returns-then-not-is_same

@@ -1,5 +1,6 @@
 use Rattle.camp_ctx.proofs.Words.{refl}
-use Rattle.camp_ctx.proofs.Standing.{none_behind, some_behind}
+use Rattle.camp_ctx.proofs.AnyOrder.{some_behind}
+use Rattle.camp_ctx.proofs.Standing.{none_behind}
 use Rattle.camp_ctx.proofs.fast.behind.conflict_behind.Goals as goal
 
 pub returns-then-branch : goal.returns-then-branch
