@@ -1,6 +1,7 @@
 -- Merging behind a common part has at most one result, and does not depend on the order of the two; so neither does
 -- conflict.
 use Rattle.camp_ctx.proofs.Words.{◌≡◌, List, [], ◌∷◌, subst, inl, inr, Contains, label_of, Label, Named, CleanMerge, Splits, Parts, one_split, one_clean_merge, merge_is_symmetric, common_labels, MergesBehindCommon, Conflict, ContextedPatch, whole}
+use Rattle.camp_ctx.specs.Laws.{AreSymmetric}
 use Rattle.camp_ctx.proofs.CommonLabels.{common_turned}
 
 pub one_merge_behind : (s t t' s' u v : List Named) → MergesBehindCommon s t t' s' → MergesBehindCommon s t u v → (t' ≡ u) × (s' ≡ v)
@@ -40,3 +41,6 @@ merge_behind_is_symmetric s t t' s' w = record {
 
 pub conflict_is_symmetric : (x y : ContextedPatch) → Conflict x y → Conflict y x
 conflict_is_symmetric x y c t' s' w = c s' t' (merge_behind_is_symmetric (whole y) (whole x) t' s' w)
+
+pub are_symmetric : AreSymmetric
+are_symmetric = record { merges = merge_behind_is_symmetric; conflicts = conflict_is_symmetric }

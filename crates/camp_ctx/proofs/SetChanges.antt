@@ -1,7 +1,10 @@
 -- Sets whose members change.
 use Rattle.camp_ctx.proofs.Words.{◌≡◌, true, false, cond, T, ◌&&◌, Option, None, Some, List, [], ◌∷◌, map, refl, sym, ap, ◌∙◌, subst, option_map, get, entries, entries_sorted, from_sorted, is_sorted, find, same_map, get-from_sorted, get-entries, below_all, is_lt, eq_by_cmp, same_Some, Files, Named, Adds, AddsAll, ContextedPatch, ContextedPatches, ChangesAt, EachMember, key_cmp, Key, GivesOne}
-use Rattle.camp_ctx.proofs.Words.{AlwaysGives, KeepsValid, KeepsMembersValid, key_total, key_ties}
-use Rattle.camp_ctx.proofs.AddResults.{one_add_of_all}
+use Rattle.camp_ctx.proofs.Words.{AlwaysGives, Applies, AppliesAll, KeepsValid, KeepsMembersValid, key_total, key_ties}
+use Rattle.camp_ctx.specs.Laws.{AddingGives, AreDetermined, EmptyChangesNothing, KeepValid}
+use Rattle.camp_ctx.proofs.AddResults.{add_exists, add_of_all_exists, one_add, one_add_of_all, one_passing_by, one_passing_of_all}
+use Rattle.camp_ctx.proofs.AddValid.{valid_by_adding, valid_by_adding_all, valid_by_passing, valid_by_passing_all}
+use Rattle.camp_ctx.proofs.ConflictLaws.{one_merge_behind}
 
 -- at each label a change of one result has one result
 one_change_at : (Change : ContextedPatch → ContextedPatch → Type 0) → GivesOne Change → (was now other : Option ContextedPatch) → ChangesAt Change was now → ChangesAt Change was other → now ≡ other
@@ -73,9 +76,11 @@ unchanged_at (Some x) = refl
 pub unchanged : (xs : ContextedPatches) → EachMember (AddsAll []) xs xs
 unchanged xs key = unchanged_at (get xs key)
 
--- adding the empty list leaves a set as it is
-pub empty_changes_none : (xs ys : ContextedPatches) → EachMember (AddsAll []) xs ys → ys ≡ xs
-empty_changes_none xs ys w = one_change_of_members (AddsAll []) (one_add_of_all []) xs ys xs w (unchanged xs)
+pub empty_changes_nothing : EmptyChangesNothing
+empty_changes_nothing = record {
+  adds = λ x y is. is;
+  adds_to_members = λ xs ys w. one_change_of_members (AddsAll []) (one_add_of_all []) xs ys xs w (unchanged xs);
+}
 
 alone_at : (a : Named) (was now : Option ContextedPatch) → ChangesAt (AddsAll (a ∷ [])) was now → ChangesAt (Adds a) was now
 alone_at a None None w = w
@@ -87,3 +92,32 @@ alone_at a (Some x) (Some y) w = subst (λ u. Adds a u y) w.1 w.2
 pub added_alone : (a : Named) (r : List Named) (xs ys : ContextedPatches) → r ≡ a ∷ [] → EachMember (AddsAll r) xs ys → EachMember (Adds a) xs ys
 added_alone a r xs ys is w key =
     alone_at a (get xs key) (get ys key) (subst (λ s. ChangesAt (AddsAll s) (get xs key) (get ys key)) is (w key))
+
+pub are_determined : AreDetermined
+are_determined = record {
+  adds = one_add;
+  adds_all = one_add_of_all;
+  adds_to_members = λ a. one_change_of_members (Adds a) (one_add a);
+  adds_all_to_members = λ r. one_change_of_members (AddsAll r) (one_add_of_all r);
+  passes_by = one_passing_by;
+  passes_by_all = one_passing_of_all;
+  merges = one_merge_behind;
+}
+
+pub adding_gives : AddingGives
+adding_gives = record {
+  adds = add_exists;
+  adds_all = add_of_all_exists;
+  adds_to_members = λ a. members_change (Adds a) (add_exists a);
+  adds_all_to_members = λ r. members_change (AddsAll r) (add_of_all_exists r);
+}
+
+pub keep_valid : KeepValid
+keep_valid = record {
+  adds = valid_by_adding;
+  adds_all = valid_by_adding_all;
+  adds_to_members = λ a. members_valid (Adds a) (Applies a.prim) (valid_by_adding a);
+  adds_all_to_members = λ r. members_valid (AddsAll r) (AppliesAll r) (valid_by_adding_all r);
+  passes_by = valid_by_passing;
+  passes_by_all = valid_by_passing_all;
+}

@@ -2,27 +2,32 @@ ghost use Rattle.camp_ctx.specs.Laws.{AddingGives, AreDetermined, AreSymmetric, 
 ghost use Rattle.camp_ctx.specs.Room.{AddsInAnyOrder, ReachGivesRoomToAdd};
 
 /// Adding, passing by, and merging behind a common part have at most one result.
+#[tactic(auto, using(crate::proofs::SetChanges::are_determined))]
 pub fn results_in_context_are_determined()
     ensures law { AreDetermined }
 {}
 
 /// Adding always has a result.
+#[tactic(auto, using(crate::proofs::SetChanges::adding_gives))]
 pub fn adding_always_gives()
     ensures law { AddingGives }
 {}
 
 /// Adding and passing by keep what is valid: what is valid behind a primitive or a list becomes
 /// something that is valid before it.
+#[tactic(auto, using(crate::proofs::SetChanges::keep_valid))]
 pub fn adding_and_passing_keep_valid()
     ensures law { KeepValid }
 {}
 
 /// Adding the empty list changes nothing.
+#[tactic(auto, using(crate::proofs::SetChanges::empty_changes_nothing))]
 pub fn adding_the_empty_list_changes_nothing()
     ensures law { EmptyChangesNothing }
 {}
 
 /// Whether two contexted patches conflict does not depend on which comes first.
+#[tactic(auto, using(crate::proofs::ConflictLaws::are_symmetric))]
 pub fn conflict_is_symmetric()
     ensures law { AreSymmetric }
 {}
