@@ -50,10 +50,10 @@ not_past_context a x s is never y w = never (w.passed, w.a') (subst (λ t. Passe
 
 -- what passed a context
 module _ (a : Named) (x : ContextedPatch) (s passed : List Named) (a' : Named) (is : s ≡ x.context) (past : Passes a s passed a') where
-  pub not_past_patch : (p : Named) → p ≡ x.patch → ((before : Named) → ¬ ((a'' : Named) × Commute a' p before a'')) → GivesNone (PassesBy a) x
+  pub not_past_patch : (p : Named) → p ≡ x.patch → ((pair : Named × Named) → ¬ (Commute a' p pair.0 pair.1)) → GivesNone (PassesBy a) x
   not_past_patch p patch never y w =
       let pass = one_pass a s passed w.passed a' w.a' past (subst (λ t. Passes a t w.passed w.a') (sym is) w.past_context) in
-      never y.patch (w.a'', subst (λ q. Commute a' q y.patch w.a'') (sym patch) (subst (λ b. Commute b x.patch y.patch w.a'') (sym pass.1) w.past_patch))
+      never (y.patch, w.a'') (subst (λ q. Commute a' q y.patch w.a'') (sym patch) (subst (λ b. Commute b x.patch y.patch w.a'') (sym pass.1) w.past_patch))
 
   pub passes_by_from : (y : ContextedPatch) (p patch a'' : Named) → p ≡ x.patch → Commute a' p patch a'' → Norm passed y.context → y.patch ≡ patch → PassesBy a x y
   passes_by_from y p patch a'' here swap order same = record {

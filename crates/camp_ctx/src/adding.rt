@@ -1,9 +1,7 @@
-ghost use Rattle.std.specs.Prelude.{◌≡◌, ◌↔◌, IfOk, IsTrue};
+ghost use Rattle.std.specs.Prelude.{◌≡◌, IfOk, IsTrue};
 ghost use Rattle.camp_base.specs.Answers.{Finds};
 ghost use Rattle.camp_prim.specs.Effect.{inverse_of};
 ghost use Rattle.camp_prim.specs.Labels.{label_of};
-ghost use Rattle.camp_prim.specs.Commuting.{Commute};
-ghost use Rattle.camp_prim.specs.declared.named.Named.{Named};
 ghost use Rattle.camp_seq.specs.NormalOrder.{Norm};
 ghost use Rattle.camp_seq.specs.Passing.{Fronts};
 ghost use Rattle.camp_ctx.specs.Adding.{Adds, AddsAll, PassesBy, PassesByAll};
@@ -83,7 +81,7 @@ impl Contexted {
         let Some((mut context, moved)) = past(a, x.context())? else {
             return Ok(None);
         };
-        let Some(patch) = patch_before(&moved, x.patch())? else {
+        let Some((patch, _)) = commute(&moved, x.patch())? else {
             return Ok(None);
         };
         let told = order_passed(a, &mut context, &patch, x.context_is_ordered());
@@ -170,27 +168,10 @@ fn behind_inverse(a: &Named, s: &Seq) -> Result<Option<Seq>, AllocError>
     let Some((first, rest)) = front(s, &label)? else {
         return Ok(None);
     };
-    if !undoes(first, a) {
+    if !first.invert().is_same(a) {
         return Ok(None);
     }
     Ok(Some(rest))
-}
-
-/// Whether the first is the inverse of the second, by its label and by its primitive.
-fn undoes(first: Named, a: &Named) -> bool
-    ensures { IsTrue result ↔ (inverse_of first ≡ a.now) }
-{
-    first.invert().is_same(a)
-}
-
-/// What a primitive that stands behind `a` becomes before it. None where they don't commute.
-fn patch_before(a: &Named, patch: &Named) -> Result<Option<Named>, AllocError>
-    ensures { IfOk result (Finds (λ before. (a'' : Named) × Commute a.now patch.now before a'')) }
-{
-    match commute(a, patch)? {
-        Some((before, _)) => Ok(Some(before)),
-        None => Ok(None),
-    }
 }
 
 /// A patch behind a context, which is its own normal order where that is told or a look tells it.
@@ -199,8 +180,5 @@ fn made(alloc: Global, context: Seq, patch: Named, told: bool) -> Result<Context
     ensures { IfOk result (λ y. y ≡ behind context patch) }
 {
     let (own, all) = are_own_orders(context.items(), &patch);
-    if told {
-        return Contexted::told(alloc, context, patch, (true, all));
-    }
-    Contexted::told(alloc, context, patch, (own, all))
+    Contexted::told(alloc, context, patch, (told || own, all))
 }

@@ -13,13 +13,13 @@ returns-in_default c =
     let never = rw c.in_default.is at c.in_ok-first.ensures.exact in
     record { exact = none_behind_inverse c.args.a.now c.args.s.now _ _ (c.opposite-label.ensures.exact ∙ ap opposite c.label.ensures.exact) refl never }
 
-pub returns-then-not-undoes : goal.returns-then-not-undoes
-returns-then-not-undoes c =
+pub returns-then-not-is_same : goal.returns-then-not-is_same
+returns-then-not-is_same c =
     let front = rw c.in-Some.is at c.in_ok-first.ensures.exact in
-    let no = c.if-not-undoes.true in
-    record { exact = not_inverse c.args.a.now c.args.s.now _ _ _ (c.opposite-label.ensures.exact ∙ ap opposite c.label.ensures.exact) front (λ same. let yes = c.undoes.ensures.1 same in cc) }
+    let no = c.if-not-is_same.true in
+    record { exact = not_inverse c.args.a.now c.args.s.now _ _ _ (c.opposite-label.ensures.exact ∙ ap opposite c.label.ensures.exact) front (λ same. let yes = c.is_same.ensures.exact.1 (c.invert.ensures.exact ∙ same) in cc) }
 
 pub returns : goal.returns
 returns c =
     let front = rw c.in-Some.is at c.in_ok-first.ensures.exact in
-    record { exact = is_inverse c.args.a.now c.args.s.now _ _ _ (c.opposite-label.ensures.exact ∙ ap opposite c.label.ensures.exact) front (c.undoes.ensures.0 c.if-not-undoes.false) }
+    record { exact = is_inverse c.args.a.now c.args.s.now _ _ _ (c.opposite-label.ensures.exact ∙ ap opposite c.label.ensures.exact) front (sym c.invert.ensures.exact ∙ c.is_same.ensures.exact.0 c.if-not-is_same.false) }

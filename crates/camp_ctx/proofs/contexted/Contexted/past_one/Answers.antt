@@ -11,7 +11,7 @@ returns-in_default c =
 pub returns-in_default-2 : goal.returns-in_default-2
 returns-in_default-2 c =
     let past = rw c.in-Some.is at c.in_ok-context.ensures.exact in
-    let never = rw c.in_default-2.is at c.in_ok-patch.ensures in
+    let never = rw c.in_default-2.is at c.in_ok-patch.ensures.exact in
     record { exact = not_past_patch c.args.a.now c.args.x.now _ _ _ c.context.ensures.exact past _ c.patch.ensures.exact never }
 
 pub order_passed-told-requires : goal.order_passed-told-requires
@@ -22,7 +22,7 @@ order_passed-told-requires c = λ yes.
 pub returns : goal.returns
 returns c =
     let past = rw c.in-Some.is at c.in_ok-context.ensures.exact in
-    let swap = rw c.in-Some-2.is at c.in_ok-patch.ensures in
+    let swap = rw c.in-Some-2.is at c.in_ok-patch.ensures.exact in
     let made = c.in_ok-before.ensures in
     let order = subst (λ y. Norm c.in-Some.context y.context) (sym made) c.order_passed-told.ensures.order in
-    record { exact = passes_by_from c.args.a.now c.args.x.now _ _ _ c.context.ensures.exact past c.in_ok-before.before _ _ _ c.patch.ensures.exact swap.1 order (λ i. (made i).patch) }
+    record { exact = passes_by_from c.args.a.now c.args.x.now _ _ _ c.context.ensures.exact past c.in_ok-before.before _ _ _ c.patch.ensures.exact swap order (λ i. (made i).patch) }
