@@ -1,6 +1,7 @@
 -- The labels that two lists have in common.
-use Rattle.camp_ctx.proofs.Words.{◌≡◌, zero, suc, ◌⊎◌, Bool, true, false, cond, List, [], ◌∷◌, map, refl, sym, subst, inl, inr, arith, filter, Equal-is, tied_itself, eq_by_cmp, label_of, label_cmp, Label, Named, Fronts, label_total, label_ties, has_label, common_labels, Contains}
+use Rattle.camp_ctx.proofs.Words.{◌≡◌, zero, suc, ◌⊎◌, Bool, true, false, cond, List, [], ◌∷◌, map, sym, subst, inl, inr, arith, filter, Equal-is, tied_itself, eq_by_cmp, label_of, label_cmp, Label, Named, Fronts, label_total, label_ties, has_label, common_labels, Contains}
 use Rattle.std.proofs.lemmas.Bool.{or_cases, or_left, or_right}
+use Rattle.std.proofs.lemmas.List.Elements.{All-contains, All-contains_itself, All-filter, filter_passes}
 
 -- an element of a list, by recursion
 abbrev pub IsIn : Label → List Label → Type 0
@@ -33,15 +34,6 @@ has_from_in (p ∷ t) l (inl is) =
     or_left _ _ (subst (λ x. eq_by_cmp label_cmp (label_of p) x ≡ true) is ((Equal-is _).1 (tied_itself label_total (label_of p))))
 has_from_in (p ∷ t) l (inr among) = or_right _ _ (has_from_in t l among)
 
-in_filtered : (test : Label → Bool) (l x : Label) (xs : List Label) (b : Bool) → test x ≡ b → IsIn l (cond b (x ∷ filter test xs) (filter test xs)) → (IsIn l (filter test xs) → IsIn l xs × (test l ≡ true)) → IsIn l (x ∷ xs) × (test l ≡ true)
-in_filtered test l x xs true is (inl here) rest = (inl here, subst (λ y. test y ≡ true) here is)
-in_filtered test l x xs true is (inr among) rest = let more = rest among in (inr more.0, more.1)
-in_filtered test l x xs false is among rest = let more = rest among in (inr more.0, more.1)
-
-pub in_from_filter : (test : Label → Bool) (l : Label) (xs : List Label) → IsIn l (filter test xs) → IsIn l xs × (test l ≡ true)
-in_from_filter test l [] among = absurd among
-in_from_filter test l (x ∷ xs) among = in_filtered test l x xs (test x) refl among (in_from_filter test l xs)
-
 kept : (b : Bool) (l x : Label) (xs : List Label) → IsIn l xs → IsIn l (cond b (x ∷ xs) xs)
 kept true l x xs among = inr among
 kept false l x xs among = among
@@ -55,8 +47,11 @@ filter_from_in test l (x ∷ xs) e (inr among) = kept (test x) l x (filter test 
 
 pub common_turned : (s t : List Named) (l : Label) → Contains (common_labels s t) l → Contains (common_labels t s) l
 common_turned s t l among =
-    let both = in_from_filter (has_label t) l (map label_of s) (in_from_contains l (common_labels s t) among) in
-    contains_from_in l (common_labels t s) (filter_from_in (has_label s) l (map label_of t) (has_from_in s l both.0) (in_from_has t l both.1))
+    let labels = map label_of s in
+    let common = common_labels s t in
+    let ours : Contains labels l = All-contains (Contains labels) common l (All-filter (has_label t) (Contains labels) labels (All-contains_itself labels)) among in
+    let theirs : has_label t l ≡ true = All-contains (λ m. has_label t m ≡ true) common l (filter_passes (has_label t) labels) among in
+    contains_from_in l (common_labels t s) (filter_from_in (has_label s) l (map label_of t) (has_from_in s l (in_from_contains l labels ours)) (in_from_has t l theirs))
 
 -- what comes to the front of a list is in it
 pub in_from_fronts : (l : Label) (s : List Named) (y : Named) (t : List Named) → Fronts l s y t → IsIn l (map label_of s)

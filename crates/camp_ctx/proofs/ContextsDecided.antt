@@ -65,15 +65,13 @@ pub contexts_or_not : (xs ys : ContextedPatches) → Decided (xs ≡ ys)
 contexts_or_not xs ys =
     decided_by (same_entries_map xs ys) (ap entries) (elements_or_not entry_or_not (entries xs) (entries ys))
 
-first_entry : (e f : Key × ContextedPatch) (es fs : List (Key × ContextedPatch)) → e ∷ es ≡ f ∷ fs → e ≡ f
-first_entry e f es fs same = cc
-
 entries_or_not : (xs : ContextedPatches) (es : List (Key × ContextedPatch)) → entries xs ≡ es → Decided ((y : ContextedPatch) × (xs ≡ only y))
 entries_or_not xs [] is = inr (λ y.
     let e : [] ≡ (context_key y.0, y.0) ∷ [] = sym is ∙ ap entries y.1 ∙ entries-only y.0 in cc)
 entries_or_not xs (e ∷ es) is =
     decided_by (λ same. (e.1, same)) (λ y.
-    let same = first_entry e (context_key y.0, y.0) es [] (sym is ∙ ap entries y.1 ∙ entries-only y.0) in
+    let alone : e ∷ es ≡ (context_key y.0, y.0) ∷ [] = sym is ∙ ap entries y.1 ∙ entries-only y.0 in
+    let same : e ≡ (context_key y.0, y.0) = cc in
     y.1 ∙ ap (λ (f : Key × ContextedPatch). only f.1) (sym same)) (contexts_or_not xs (only e.1))
 
 -- a set has one member, which stands under its own label, or it is another

@@ -109,15 +109,6 @@ changes_choose : (Change : ContextedPatch → ContextedPatch → Type 0) (b : Bo
 changes_choose Change true x y was now change w = change
 changes_choose Change false x y was now change w = w
 
-pub one_more_added : (r : List Named) (xs sum after : ContextedPatches) (i : ℕ) (k : Key) (x y : ContextedPatch) → slice_get (entries xs) i ≡ Some (k, x) → AddsAll r x y → after ≡ insert sum k y → ((key : Key) → ChangesAt (AddsAll r) (find key_cmp key (take i (entries xs))) (get sum key)) → (key : Key) → ChangesAt (AddsAll r) (find key_cmp key (take (i + 1) (entries xs))) (get after key)
-one_more_added r xs sum after i k x y is adds becomes before key =
-    let es = entries xs in
-    let test = eq_by_cmp key_cmp key k in
-    let was : find key_cmp key (take (i + 1) es) ≡ cond test (Some x) (find key_cmp key (take i es)) =
-    ap (find key_cmp key) (take_push es i (k, x) is) ∙ find-append key_cmp key_total (take i es) k x key (not_before key_cmp key_total es i k x is (entries_sorted xs)) in
-    let now : get after key ≡ cond test (Some y) (get sum key) = ap (λ m. get m key) becomes ∙ get-insert key_total sum k y key in
-    subst (ChangesAt (AddsAll r) (find key_cmp key (take (i + 1) es))) (sym now) (subst (λ w. ChangesAt (AddsAll r) w (cond test (Some y) (get sum key))) (sym was) (changes_choose (AddsAll r) test x y _ _ adds (before key)))
-
 nothing_from : (Change : ContextedPatch → ContextedPatch → Type 0) (now : Option ContextedPatch) → ChangesAt Change None now → now ≡ None
 nothing_from Change None w = refl
 nothing_from Change (Some y) w = absurd w
@@ -127,10 +118,16 @@ none_yet : (r : List Named) (xs sum : ContextedPatches) (i : ℕ) (k : Key) (x :
 none_yet r xs sum i k x is before =
     nothing_from (AddsAll r) (get sum k) (subst (λ was. ChangesAt (AddsAll r) was (get sum k)) (not_before key_cmp key_total (entries xs) i k x is (entries_sorted xs)) (before k))
 
--- so a member that is put there where there is none is put there
+-- so the next member comes to stand there
 pub one_more_put : (r : List Named) (xs sum after : ContextedPatches) (i : ℕ) (k : Key) (x y : ContextedPatch) → slice_get (entries xs) i ≡ Some (k, x) → AddsAll r x y → after ≡ cond (contains_key sum k) sum (insert sum k y) → ((key : Key) → ChangesAt (AddsAll r) (find key_cmp key (take i (entries xs))) (get sum key)) → (key : Key) → ChangesAt (AddsAll r) (find key_cmp key (take (i + 1) (entries xs))) (get after key)
-one_more_put r xs sum after i k x y is adds becomes before =
-    one_more_added r xs sum after i k x y is adds (becomes ∙ ap (λ o. cond (is_some o) sum (insert sum k y)) (none_yet r xs sum i k x is before)) before
+one_more_put r xs sum after i k x y is adds is_put before key =
+    let es = entries xs in
+    let test = eq_by_cmp key_cmp key k in
+    let becomes : after ≡ insert sum k y = is_put ∙ ap (λ o. cond (is_some o) sum (insert sum k y)) (none_yet r xs sum i k x is before) in
+    let was : find key_cmp key (take (i + 1) es) ≡ cond test (Some x) (find key_cmp key (take i es)) =
+    ap (find key_cmp key) (take_push es i (k, x) is) ∙ find-append key_cmp key_total (take i es) k x key (not_before key_cmp key_total es i k x is (entries_sorted xs)) in
+    let now : get after key ≡ cond test (Some y) (get sum key) = ap (λ m. get m key) becomes ∙ get-insert key_total sum k y key in
+    subst (ChangesAt (AddsAll r) (find key_cmp key (take (i + 1) es))) (sym now) (subst (λ w. ChangesAt (AddsAll r) w (cond test (Some y) (get sum key))) (sym was) (changes_choose (AddsAll r) test x y _ _ adds (before key)))
 
 -- no place below the number of entries is empty
 pub none_missing : (xs : ContextedPatches) (i n : ℕ) → n ≡ len xs → i < n → ¬ (None ≡ slice_get (entries xs) i)
