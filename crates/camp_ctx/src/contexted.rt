@@ -118,10 +118,7 @@ impl Contexted {
     pub fn is_same(&self, other: &Contexted) -> bool
         ensures exact { IsTrue result ↔ (self.now ≡ other.now) }
     {
-        if !self.context().is_same(other.context()) {
-            return false;
-        }
-        self.patch().is_same(other.patch())
+        self.context().is_same(other.context()) && self.patch().is_same(other.patch())
     }
 
     /// A quick test, made once. True: the context is its own normal order. False: it may or may not be.

@@ -75,10 +75,7 @@ fn are_ordered(x: &Contexted, y: &Contexted) -> bool
     ensures first { IsTrue result → Norm (whole x.now) (whole x.now) }
     ensures second { IsTrue result → Norm (whole y.now) (whole y.now) }
 {
-    if !x.whole_is_ordered() {
-        return false;
-    }
-    y.whole_is_ordered()
+    x.whole_is_ordered() && y.whole_is_ordered()
 }
 
 /// The first primitive of the context, or the patch where there is none.
@@ -146,13 +143,7 @@ pub(crate) fn are_apart(common: &[Label], s: &Seq, t: &Seq) -> bool
     ensures first { IsTrue result → Norm s.now s.now }
     ensures second { IsTrue result → Norm t.now t.now }
 {
-    if !common.is_empty() {
-        return false;
-    }
-    if !is_own_order(s.items()) {
-        return false;
-    }
-    is_own_order(t.items())
+    common.is_empty() && is_own_order(s.items()) && is_own_order(t.items())
 }
 
 /// The clean merge of two lists. Neither is copied where their first primitives don't merge.

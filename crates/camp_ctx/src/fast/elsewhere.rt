@@ -55,8 +55,5 @@ fn is_away_from(p: &Named, s: &[Named]) -> bool
 fn change_two_files(p: &Named, q: &Named) -> bool
     ensures { IsTrue result → Elsewhere p.now q.now }
 {
-    if p.prim.path() == q.prim.path() {
-        return false;
-    }
-    !have_same_key(p, q)
+    p.prim.path() != q.prim.path() && !have_same_key(p, q)
 }

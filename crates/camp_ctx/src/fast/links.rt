@@ -42,11 +42,7 @@ pub(crate) fn becomes_context(r: &Seq, x: &Contexted) -> bool
     if !context.is_empty() {
         return false;
     }
-    let start = links_from(items, context, x.patch());
-    if start > 0 {
-        return false;
-    }
-    true
+    links_from(items, context, x.patch()) == 0
 }
 
 /// From which place on the elements of a list are put before a context as they stand: no two
@@ -54,10 +50,7 @@ pub(crate) fn becomes_context(r: &Seq, x: &Contexted) -> bool
 fn links_from(r: &[Named], s: &[Named], patch: &Named) -> usize
     ensures { LinksFrom r.now s.now patch.now result }
 {
-    if !may_link(r, s, patch) {
-        return r.len();
-    }
-    if !is_chain(s) {
+    if !may_link(r, s, patch) || !is_chain(s) {
         return r.len();
     }
     for at in (0..r.len()).rev() {
@@ -82,12 +75,9 @@ fn may_link(r: &[Named], s: &[Named], patch: &Named) -> bool {
 fn links(a: &Named, r: &[Named], s: &[Named], patch: &Named) -> bool
     ensures { IsTrue result ↔ Links a.now (r.now ++ s.now) patch.now }
 {
-    match r.first() {
+    match r.first().or(s.first()) {
         Some(q) => holds(a, q),
-        None => match s.first() {
-            Some(q) => holds(a, q),
-            None => !can_commute(a, patch),
-        },
+        None => !can_commute(a, patch),
     }
 }
 
@@ -95,8 +85,5 @@ fn links(a: &Named, r: &[Named], s: &[Named], patch: &Named) -> bool
 fn holds(a: &Named, q: &Named) -> bool
     ensures { IsTrue result ↔ (¬ (CanCommute a.now q.now) × (label_of q.now ≢ label_of (inverse_of a.now))) }
 {
-    if q.label() == a.label().opposite() {
-        return false;
-    }
-    !can_commute(a, q)
+    q.label() != a.label().opposite() && !can_commute(a, q)
 }

@@ -1,3 +1,4 @@
+use Rattle.std.proofs.Common.{eqb-true}
 use Rattle.std.proofs.lemmas.Bool.Decides.{nat_tests}
 use Rattle.camp_ctx.proofs.Words.{◌≡◌, ◌∙◌, ◌<◌, [], length, sym, subst, arith, nil_from_length, AddsAll, Named, List}
 use Rattle.camp_seq.specs.Chains.{Chain}
@@ -12,11 +13,9 @@ returns c =
     let none = sym c.is_empty-2.ensures ∙ c.if-not-is_empty.false in
     let some : 0 < length r = grind (arith, nat_tests) in
     let nothing : s ≡ [] = nil_from_length s (grind (arith, nat_tests)) in
-    let last = c.if-start-gt0.false in
-    let start : c.links_from-start.result ≡ 0 = omega arith in
     record {
       some = λ yes. subst (λ l. 0 < length l) c.items-items.ensures.exact some;
-      chain = λ yes. subst Chain c.items-items.ensures.exact (chain_linked r s c.patch.result.now c.links_from-start.result nothing start some c.links_from-start.ensures);
+      chain = λ yes. subst Chain c.items-items.ensures.exact (chain_linked r s c.patch.result.now c.links_from.result nothing (eqb-true _ _ yes) some c.links_from.ensures);
       added = λ yes. subst (λ l. AddsAll l c.args.x.now (record { context = l; patch = c.args.x.now.patch })) c.items-items.ensures.exact
-          (all_linked r s c.args.x.now c.patch.result.now c.links_from-start.result nothing (c.items-context.ensures.exact ∙ c.context.ensures.exact) c.patch.ensures.exact start c.links_from-start.ensures);
+          (all_linked r s c.args.x.now c.patch.result.now c.links_from.result nothing (c.items-context.ensures.exact ∙ c.context.ensures.exact) c.patch.ensures.exact (eqb-true _ _ yes) c.links_from.ensures);
     }
