@@ -1,7 +1,7 @@
-ghost use Rattle.std.specs.Prelude.{◌≡◌, ◌≢◌, ◌↔◌, ◌&&◌, [], ◌∷◌, All, IfOk, IsTrue};
+ghost use Rattle.std.specs.Prelude.{◌≡◌, ◌↔◌, ◌&&◌, [], ◌∷◌, IfOk, IsTrue};
 ghost use Rattle.std.specs.FinMap.{contains_key};
 ghost use Rattle.camp_prim.specs.Effect.{inverse_of};
-ghost use Rattle.camp_ctx.specs.Contexts.{bare, context_key, only, patch_key};
+ghost use Rattle.camp_ctx.specs.Contexts.{bare, only, patch_key};
 
 use camp_ctx::{Contexted, CtxSet, join};
 use camp_prim::Named;
@@ -75,14 +75,6 @@ pub(crate) fn is_bare(x: &Contexted, p: &Named) -> bool
         return false;
     }
     x.patch().is_same(p)
-}
-
-/// Whether a list has an element with the absolute label of a contexted patch.
-pub(crate) fn has_key(s: &[Named], x: &Contexted) -> bool
-    ensures { IsTrue result ↔ ¬ (All (λ p. patch_key p ≢ context_key x.now) s.now) }
-{
-    let key = x.key();
-    s.iter().any(|p| p.label().key() == key)
 }
 
 /// Whether an element is an inverse whose absolute label stands in a set.
