@@ -1,6 +1,7 @@
 -- The cases of commuting exclude one another, and each is determined.
 use Rattle.std.specs.Cmp.{Equal-is, tied_itself}
-use Rattle.camp_catch.proofs.Words.{None, Option, Some, [], ap, arith, cond, inl, inr, is_some, refl, subst, sym, true, ◌+◌, ◌∙◌, ◌∷◌, ◌≡◌, ◌≤◌, empty, get, get-empty, get-insert, len, len-empty, len-insert, remove, eq_by_cmp, key_total, le_or_not, swap_or_not, swap_unique, inverse_of, key_cmp, Key, Named, inverse_all, keys_or_not, lists_or_not, ContextedPatch, ContextedPatches, bare, context_key, only, patch_key, CasesExclude, BothPlain, CommuteCatch, CommuteConflictors, CommutePlainConflictor, ConflictDissolves, ConflictorPastPlain, OneOfSeveralConflicts, OnlyConflictGoes, PlainLeavesTheSet, PlainPastConflictor, TwoConflictorsApart, against, in_conflict_with, joined_by, with_effect, without, CommuteIsUnique, Catch, Plain, Conflictor}
+use Rattle.camp_ctx.proofs.SetSteps.{len-only}
+use Rattle.camp_catch.proofs.Words.{None, Option, Some, [], ap, arith, cond, inl, inr, refl, subst, sym, ◌∙◌, ◌∷◌, ◌≡◌, ◌≤◌, empty, get, get-insert, len, remove, key_total, le_or_not, swap_or_not, swap_unique, inverse_of, Key, Named, inverse_all, keys_or_not, lists_or_not, ContextedPatch, ContextedPatches, bare, context_key, only, patch_key, CasesExclude, BothPlain, CommuteCatch, CommuteConflictors, CommutePlainConflictor, ConflictDissolves, ConflictorPastPlain, OneOfSeveralConflicts, OnlyConflictGoes, PlainLeavesTheSet, PlainPastConflictor, TwoConflictorsApart, against, in_conflict_with, joined_by, with_effect, without, CommuteIsUnique, Catch, Plain, Conflictor}
 use Rattle.camp_catch.proofs.Determined.{Determined, both, chain, either, found, made_of, none_or_not, pairs, where_holds}
 use Rattle.camp_catch.proofs.PartsDetermined.{adds_to_bare, against_one, all_added_to, all_pass_by, comes_before, effects_pass, fronts, lacks_or_not, one_member, one_passes, order, passes_by}
 
@@ -56,23 +57,12 @@ one_of_several_conflicts j k =
     chain (effects_pass j.effect k.effect (remove k.conflicts key)) (λ e passes.
     both (all_added_to e.1 e.0 (without key k)) (all_added_to (inverse_all k.effect) e.1 j))))) (λ x. (Catch.Conflictor x.1.1.0, Catch.Conflictor (joined_by k.identity x.1.1.1))) (λ x w. record { z = x.0; member = w.0; several = w.1.0; effect = x.1.0.0; rr' = x.1.0.1; effects = w.1.1.0; moved = x.1.1.0; becomes = w.1.1.1.0; own = x.1.1.1; own_becomes = w.1.1.1.1; second = refl; first = refl }) (λ pair c. ((c.z, ((c.effect, c.rr'), (c.moved, c.own))), (c.member, (c.several, (c.effects, (c.becomes, c.own_becomes)))), λ t. (c.second t, c.first t)))
 
--- a key is its own equal
-key_itself : (key : Key) → eq_by_cmp key_cmp key key ≡ true
-key_itself key = (Equal-is _).1 (tied_itself key_total key)
-
 -- the set of one has its member
 get_only : (x : ContextedPatch) → get (only x) (context_key x) ≡ Some x
 get_only x =
     let none : ContextedPatches = empty in
     let k = context_key x in
-    get-insert key_total none k x k ∙ ap (λ b. cond b (Some x) (get none k)) (key_itself k)
-
--- and no second one
-len_only : (x : ContextedPatch) → len (only x) ≡ 1
-len_only x =
-    let none : ContextedPatches = empty in
-    let k = context_key x in
-    len-insert key_total none k x ∙ ap (λ o. cond (is_some o) (len none) (len none + 1)) (get-empty key_cmp k) ∙ ap (λ n. n + 1) (len-empty key_cmp ContextedPatch)
+    get-insert key_total none k x k ∙ ap (λ b. cond b (Some x) (get none k)) ((Equal-is _).1 (tied_itself key_total k))
 
 pub not_none : (x : ContextedPatch) (o : Option ContextedPatch) → o ≡ Some x → o ≡ None → ⊥
 not_none x o e f = cc
@@ -84,7 +74,7 @@ lacks_its_only ys x key lacks alone named =
 
 pub only_is_one : (ys : ContextedPatches) (x : ContextedPatch) → ys ≡ only x → 2 ≤ len ys → ⊥
 only_is_one ys x e several =
-    let one : len ys ≡ 1 = ap len e ∙ len_only x in
+    let one : len ys ≡ 1 = ap len e ∙ len-only x in
     absurd (omega (arith, one, several))
 
 -- the set of a conflictor with a alone

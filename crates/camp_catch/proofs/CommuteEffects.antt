@@ -1,6 +1,6 @@
 -- Commuting keeps effects: each case is a path of trees.
-use Rattle.camp_catch.proofs.Words.{List, [], inl, inr, refl, subst, sym, ◌++◌, ◌∷◌, ◌≡◌, append_assoc, remove, Files, applies_once, Applies, inverse_of, label_of, Named, after_one, all_passed, before, behind, equal_are, fronted, joined, ordered, passed, split, swapped, runs_back, through, ◌~◌, Norm, AppliesAll, inverse_all, valid_by_adding, valid_by_adding_all, valid_by_passing, valid_by_passing_all, Adds, AddsAll, PassesBy, PassesByAll, ContextedPatches, Valid, bare, context_key, patch_key, Fits, BothPlain, ConflictDissolves, ConflictorPastPlain, EffectsPass, OneOfSeveralConflicts, OnlyConflictGoes, PlainLeavesTheSet, PlainPastConflictor, TwoConflictorsApart, labels_undone, against, in_conflict_with, with_effect, without, CommuteKeepsEffects, Catch, Plain, Conflictor}
-use Rattle.camp_catch.proofs.Fitting.{FitBoth, plain_fits, conflictor_fits, becomes_fits, added_fits, joined_fits, along, places_change, one_runs, one_applies, one_back, only_valid, without_valid}
+use Rattle.camp_catch.proofs.Words.{List, [], inl, inr, refl, subst, sym, ◌++◌, ◌∷◌, ◌≡◌, append_assoc, remove, Files, applies_once, Applies, inverse_of, label_of, Named, after_one, all_passed, before, behind, equal_are, fronted, joined, ordered, passed, split, swapped, runs_back, through, ◌~◌, Norm, AppliesAll, inverse_all, run_along, valid_by_adding, valid_by_adding_all, valid_by_passing, valid_by_passing_all, Adds, AddsAll, PassesBy, PassesByAll, ContextedPatches, Valid, bare, context_key, patch_key, Fits, BothPlain, ConflictDissolves, ConflictorPastPlain, EffectsPass, OneOfSeveralConflicts, OnlyConflictGoes, PlainLeavesTheSet, PlainPastConflictor, TwoConflictorsApart, labels_undone, against, in_conflict_with, with_effect, without, CommuteKeepsEffects, Catch, Plain, Conflictor}
+use Rattle.camp_catch.proofs.Fitting.{FitBoth, plain_fits, conflictor_fits, becomes_fits, added_fits, joined_fits, places_change, one_runs, one_applies, one_back, only_valid, without_valid}
 
 -- a case keeps effects
 abbrev KeepsEffects : Catch → Catch → (Catch → Catch → Type 0) → Type 0
@@ -77,7 +77,7 @@ plain_leaves_the_set a k k' j' w old between new f g =
     let left : Conflictor = with_effect w.s' (without key k) in
     let order : k.effect ~ (inverse_of a ∷ w.s') =
     through (fronted (label_of (inverse_of a)) k.effect (inverse_of a) w.rest w.front) (after_one (inverse_of a) w.rest w.s' (ordered w.rest w.s' w.effect)) in
-    let run = along k.effect (inverse_of a ∷ w.s') order between new g.effect in
+    let run = run_along k.effect (inverse_of a ∷ w.s') order between new g.effect in
     let rest : AppliesAll w.s' old new = subst (λ t. AppliesAll w.s' t new) (back_to_old a old between run.0 f.effect run.1) run.2 in
     rw (w.second, w.first) (new, conflictor_fits left old new rest (without_valid new k.conflicts key g.seen.0) g.seen.1, conflictor_fits (in_conflict_with k.identity w.z) new new refl (only_valid new k.identity g.seen.1) (g.seen.0 key w.z w.member))
 
@@ -87,7 +87,7 @@ only_conflict_goes j k k' j' w old between new f g =
     let h : Fits (Catch.Conflictor j) old new = subst (Fits (Catch.Conflictor j) old) (sym still) f in
     let valid : Valid old (bare w.a) = valid_by_adding_all j.effect k.identity (bare w.a) w.becomes old new h.effect g.seen.1 in
     let run : AppliesAll (inverse_of w.a ∷ j.effect) valid.0 new = (old, one_back w.a old valid.0 valid.1, h.effect) in
-    let back = along (inverse_of w.a ∷ j.effect) w.effect (ordered (inverse_of w.a ∷ j.effect) w.effect w.joined) valid.0 new run in
+    let back = run_along (inverse_of w.a ∷ j.effect) w.effect (ordered (inverse_of w.a ∷ j.effect) w.effect w.joined) valid.0 new run in
     rw (w.second, w.first) (valid.0, plain_fits w.a old valid.0 valid.1, joined_fits (with_effect w.effect j) k.identity valid.0 new (conflictor_fits (with_effect w.effect j) valid.0 new back h.seen.0 h.seen.1) g.seen.1)
 
 pub commute_keeps_effects : CommuteKeepsEffects

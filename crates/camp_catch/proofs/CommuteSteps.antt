@@ -90,7 +90,7 @@ pub no_context : (x : ContextedPatch) (a : Named) → x ≡ bare a → x ≡ bar
 no_context x a is = is ∙ ap (λ (y : ContextedPatch). bare y.patch) (sym is)
 
 -- a list whose length tests as 0
-pub is_nothing : (s items : List Named) (test : Bool) → test ≡ (length items == 0) → test ≡ true → items ≡ s → s ≡ []
+pub is_nothing : {X : Type 0} (s items : List X) (test : Bool) → test ≡ (length items == 0) → test ≡ true → items ≡ s → s ≡ []
 is_nothing s items test is counts same = sym same ∙ nil_from_length items (eqb-true _ _ (sym is ∙ counts))
 
 -- a list before what a primitive becomes, turned back, is what that makes of it behind the primitive turned back

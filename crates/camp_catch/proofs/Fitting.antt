@@ -1,5 +1,5 @@
 -- Catches that fit one after the other, and what keeps the members of sets valid.
-use Rattle.camp_catch.proofs.Words.{Bool, List, None, Option, Some, [], cond, false, refl, subst, sym, true, ◌++◌, ◌∷◌, ◌≡◌, same_Some, contains_key, empty, get, get-empty, get-insert, get-remove, insert, remove, eq_by_cmp, Files, applies_once, inverse_of-inverse_of, leads_back, key_total, Applies, inverse_of, key_cmp, Key, Named, passed, cut_run, equivalent_run, joined_runs, row_passes, ◌~◌, MergesOne, AppliesAll, valid_by_adding_all, members_valid, AddsAll, AreValid, ContextedPatch, ContextedPatches, Valid, context_key, only, with_member, KeepsValid, Fits, IsSeenFrom, Becomes, joined_by, Catch, Plain, Conflictor}
+use Rattle.camp_catch.proofs.Words.{Bool, List, None, Option, Some, [], cond, false, refl, subst, sym, true, ◌++◌, ◌∷◌, ◌≡◌, same_Some, contains_key, empty, get, get-empty, get-insert, get-remove, insert, remove, eq_by_cmp, Files, applies_once, inverse_of-inverse_of, leads_back, key_total, Applies, inverse_of, key_cmp, Key, Named, passed, cut_run, joined_runs, row_passes, ◌~◌, MergesOne, AppliesAll, run_along, valid_by_adding_all, members_valid, AddsAll, AreValid, ContextedPatch, ContextedPatches, Valid, context_key, only, KeepsValid, Fits, IsSeenFrom, Becomes, joined_by, Catch, Plain, Conflictor}
 
 -- two catches that fit, one after the other
 abbrev pub FitBoth : Catch → Catch → Files → Files → Type 0
@@ -21,14 +21,10 @@ pub added_fits : (r s : List Named) (j k : Conflictor) → Becomes (λ t. t ≡ 
 added_fits r s j k w old new behind run step seen =
     becomes_fits (λ t. t ≡ s) (AddsAll r) (AddsAll r) (AppliesAll r) (valid_by_adding_all r) (valid_by_adding_all r) j k w old new behind (subst (λ t. AppliesAll t old new) (sym w.effect) run) step seen
 
--- equivalent lists lead from the same trees
-pub along : (s t : List Named) → s ~ t → (old new : Files) → AppliesAll s old new → AppliesAll t old new
-along s t e old new run = (equivalent_run s t e old new).0 run
-
 -- two lists commute and lead to the same tree
 pub places_change : (r s s' r' : List Named) → (r ++ s) ~ (s' ++ r') → (old between new : Files) → AppliesAll r old between → AppliesAll s between new → (other : Files) × AppliesAll s' old other × AppliesAll r' other new
 places_change r s s' r' e old between new first second =
-    cut_run s' r' old new (along (r ++ s) (s' ++ r') e old new (joined_runs r s old between new first second))
+    cut_run s' r' old new (run_along (r ++ s) (s' ++ r') e old new (joined_runs r s old between new first second))
 
 -- a list of one is its element
 pub one_runs : (a : Named) (old new : Files) → Applies a.prim old new → AppliesAll (a ∷ []) old new
@@ -69,18 +65,15 @@ inserted_valid tree xs key l members valid q w is =
 pub only_valid : (tree : Files) (l : ContextedPatch) → Valid tree l → AreValid tree (only l)
 only_valid tree l valid = inserted_valid tree empty (context_key l) l (λ q w e. let is = subst (λ o. o ≡ Some w) (get-empty key_cmp q) e in cc) valid
 
+-- a set that a member joins
 joined_valid : (tree : Files) (xs : ContextedPatches) (l : ContextedPatch) (there : Bool) → AreValid tree xs → Valid tree l → AreValid tree (cond there xs (insert xs (context_key l) l))
 joined_valid tree xs l true members valid = members
 joined_valid tree xs l false members valid = inserted_valid tree xs (context_key l) l members valid
 
--- a set that a member joins
-pub with_member_valid : (tree : Files) (xs : ContextedPatches) (l : ContextedPatch) → AreValid tree xs → Valid tree l → AreValid tree (with_member xs l)
-with_member_valid tree xs l members valid = joined_valid tree xs l (contains_key xs (context_key l)) members valid
-
 -- a conflictor that l joins
 pub joined_fits : (k : Conflictor) (l : ContextedPatch) (old new : Files) → Fits (Catch.Conflictor k) old new → Valid new l → Fits (Catch.Conflictor (joined_by l k)) old new
 joined_fits k l old new f valid =
-    conflictor_fits (joined_by l k) old new f.effect (with_member_valid new k.conflicts l f.seen.0 valid) f.seen.1
+    conflictor_fits (joined_by l k) old new f.effect (joined_valid new k.conflicts l (contains_key k.conflicts (context_key l)) f.seen.0 valid) f.seen.1
 
 -- a set without a member
 pub without_valid : (tree : Files) (xs : ContextedPatches) (key : Key) → AreValid tree xs → AreValid tree (remove xs key)

@@ -1,5 +1,5 @@
 -- What two conflictors without an effect gain from each other.
-use Rattle.std.proofs.Common.{◌≡◌, ◌==◌, ◌∙◌, ◌↔◌, Bool, IfOk, IsTrue, Result, List, [], ◌∷◌, ◌++◌, append-nil, false, inl, inr, length, true, refl, sym, ap, subst, arith, eqb-true}
+use Rattle.std.proofs.Common.{◌≡◌, ◌∙◌, ◌↔◌, Bool, IfOk, IsTrue, Result, List, [], ◌∷◌, ◌++◌, append-nil, false, inl, inr, true, refl, sym, ap, subst}
 use Rattle.camp_base.specs.Answers.{Changes}
 use Rattle.std.specs.List.{fold}
 use Rattle.std.proofs.lemmas.Grind.{fold-append}
@@ -18,13 +18,6 @@ use Rattle.camp_catch.specs.declared.catches.Catch.{Catch}
 use Rattle.camp_catch.specs.declared.catches.Catch.TheVariants.{Plain}
 use Rattle.camp_catch.specs.declared.catches.Conflictor.{Conflictor}
 use Rattle.camp_catch.proofs.MergeSteps.{two_from}
-
--- what has no element is nothing
-pub is_nothing : {X : Type 0} (s items : List X) (test : Bool) → test ≡ (length items == 0) → test ≡ true → items ≡ s → s ≡ []
-is_nothing s [] test is counts same = sym same
-is_nothing s (p ∷ items) test is counts same =
-    let none : length (p ∷ items) ≡ 0 = eqb-true _ _ (sym is ∙ counts) in
-    absurd (omega arith)
 
 -- two empty effects merge
 none_merge : EffectsMerge [] [] [] []

@@ -3,15 +3,8 @@ use Rattle.camp_catch.proofs.Words.{List, [], inl, inr, refl, subst, sym, ℕ, �
 use Rattle.camp_catch.proofs.CommuteEffects.{commute_keeps_effects}
 use Rattle.camp_catch.proofs.MergeEffects.{merge_keeps_effects}
 
--- two lists of catches that fit, one after the other
-abbrev FitBothLists : List Catch → List Catch → Files → Files → Type 0
-FitBothLists s t old new = (between : Files) × FitsAll s old between × FitsAll t between new
-
 fits_as : (s t : List Catch) (old new : Files) → s ≡ t → FitsAll t old new → FitsAll s old new
 fits_as s t old new e f = subst (λ x. FitsAll x old new) (sym e) f
-
-fits_from : (s : List Catch) (old other new : Files) → old ≡ other → FitsAll s old new → FitsAll s other new
-fits_from s old other new e f = subst (λ x. FitsAll s x new) e f
 
 push_fits : (s : List Catch) (k : Catch) (old between new : Files) → FitsAll s old between → Fits k between new → FitsAll (s ++ k ∷ []) old new
 push_fits [] k old between new f g = (new, subst (λ t. Fits k t new) f g, refl)
@@ -25,7 +18,7 @@ comes_before_fits (j ∷ list) k k' list' w old between new f g =
     let pair = commute_keeps_effects j w.0 k' w.1 w.4 old f.0 rest.0 f.1 rest.1 in
     (pair.0, pair.1, fits_as list' (w.1 ∷ w.2) pair.0 new w.5 (rest.0, pair.2, rest.2))
 
-arranged_behind : (names : List (List ℕ)) (rest list first others : List Catch) → ArrangesBehind names rest list first others → (old between new : Files) → FitsAll rest old between → FitsAll list between new → FitBothLists first others old new
+arranged_behind : (names : List (List ℕ)) (rest list first others : List Catch) → ArrangesBehind names rest list first others → (old between new : Files) → FitsAll rest old between → FitsAll list between new → (other : Files) × FitsAll first old other × FitsAll others other new
 arranged_behind names rest [] first others w old between new f g =
     (old, fits_as first [] old old w.0 refl, fits_as others rest old new w.1 (subst (FitsAll rest old) (sym g) f))
 arranged_behind names rest (k ∷ list) first others (inl w) old between new f g =
@@ -62,7 +55,7 @@ merged_with_all (j ∷ q) k k' q' w old left right f g =
 
 merged_fits : (p q p' q' : List Catch) → MergeLists p q p' q' → (old left right : Files) → FitsAll q old left → FitsAll p old right → (new : Files) × FitsAll p' left new × FitsAll q' right new
 merged_fits [] q p' q' w old left right f g =
-    (left, fits_as p' [] left left w.0 refl, fits_as q' q right left w.1 (fits_from q old right left (sym g) f))
+    (left, fits_as p' [] left left w.0 refl, fits_as q' q right left w.1 (subst (λ x. FitsAll q x left) (sym g) f))
 merged_fits (k ∷ p) q p' q' w old left right f g =
     let row = merged_with_all q k w.0 w.1 w.3 old left g.0 f g.1 in
     let rest = merged_fits p w.1 w.2 q' w.4 g.0 row.0 right row.2 g.2 in

@@ -1,6 +1,6 @@
 -- Merging keeps effects and is symmetric: each case closes a square of trees.
-use Rattle.camp_catch.proofs.Words.{List, [], inl, inr, refl, subst, sym, ◌++◌, ◌∷◌, ◌≡◌, Files, Applies, inverse_of, Named, ordered, split, cut_run, runs_back, cell_is_symmetric, merge_closes, Norm, AppliesAll, inverse_all, valid_by_adding, valid_by_adding_all, conflict_is_symmetric, merge_behind_is_symmetric, Adds, Conflict, MergesBehindCommon, common_labels, ContextedPatch, Valid, bare, Fits, against, in_conflict_with, with_effect, MergeIsSymmetric, MergeKeepsEffects, Clean, FirstConflict, JoinsWhere, PlainBesideConflictor, PlainJoinsConflictor, TwoConflictors, Catch, Plain, Conflictor}
-use Rattle.camp_catch.proofs.Fitting.{plain_fits, conflictor_fits, becomes_fits, added_fits, joined_fits, along, one_runs, one_back, row_closes, run_once, only_valid}
+use Rattle.camp_catch.proofs.Words.{List, [], inl, inr, refl, subst, sym, ◌++◌, ◌∷◌, ◌≡◌, Files, Applies, inverse_of, Named, ordered, split, cut_run, runs_back, cell_is_symmetric, merge_closes, Norm, AppliesAll, inverse_all, run_along, valid_by_adding, valid_by_adding_all, conflict_is_symmetric, merge_behind_is_symmetric, Adds, Conflict, MergesBehindCommon, common_labels, ContextedPatch, Valid, bare, Fits, against, in_conflict_with, with_effect, MergeIsSymmetric, MergeKeepsEffects, Clean, FirstConflict, JoinsWhere, PlainBesideConflictor, PlainJoinsConflictor, TwoConflictors, Catch, Plain, Conflictor}
+use Rattle.camp_catch.proofs.Fitting.{plain_fits, conflictor_fits, becomes_fits, added_fits, joined_fits, one_runs, one_back, row_closes, run_once, only_valid}
 
 -- two catches that fit, each from a tree of its own, and end in one
 abbrev pub FitMeeting : Catch → Catch → Files → Files → Type 0
@@ -29,7 +29,7 @@ plain_beside_conflictor : (a : Named) (k : Conflictor) → ClosesSquares (Plain 
 plain_beside_conflictor a k k' j' w old left right f g =
     let row = row_closes a k.effect w.merged w.a' w.merge old left right f.effect g.effect in
     let undo = inverse_of w.a' in
-    let effect = along w.merged w.moved.effect (ordered w.merged w.moved.effect w.becomes.effect) left row.0 row.1 in
+    let effect = run_along w.merged w.moved.effect (ordered w.merged w.moved.effect w.becomes.effect) left row.0 row.1 in
     let moved = becomes_fits (Norm w.merged) (Adds undo) (Adds undo) (Applies undo.prim) (valid_by_adding undo) (valid_by_adding undo) k w.moved w.becomes left row.0 right effect (one_back w.a' right row.0 row.2) g.seen in
     rw (w.after, w.beside) (row.0, moved, plain_fits w.a' right row.0 row.2)
 
@@ -39,15 +39,15 @@ plain_joins_conflictor a k k' j' w old left right f g =
     let back = runs_back k.effect old right g.effect in
     let valid : Valid right w.z = valid_by_adding_all (inverse_all k.effect) (bare a) w.z w.becomes right old back (left, f.effect) in
     let run : AppliesAll (inverse_of a ∷ k.effect) left right = (old, one_back a old left f.effect, g.effect) in
-    let effect = along (inverse_of a ∷ k.effect) w.effect (ordered (inverse_of a ∷ k.effect) w.effect w.joined) left right run in
+    let effect = run_along (inverse_of a ∷ k.effect) w.effect (ordered (inverse_of a ∷ k.effect) w.effect w.joined) left right run in
     rw (w.after, w.beside) (right, joined_fits taken w.z left right (conflictor_fits taken left right effect g.seen.0 g.seen.1) valid, conflictor_fits (in_conflict_with k.identity w.z) right right refl (only_valid right k.identity g.seen.1) valid)
 
 -- lists that merge cleanly behind what they have in common close a square of trees
 behind_common_closes : (s t t' s' : List Named) → MergesBehindCommon s t t' s' → (old left right : Files) → AppliesAll s old left → AppliesAll t old right → (new : Files) × AppliesAll t' left new × AppliesAll s' right new
 behind_common_closes s t t' s' w old left right first second =
     let labels = common_labels s t in
-    let one = cut_run w.common w.s1 old left (along s (w.common ++ w.s1) (split labels s w.common w.s1 w.first) old left first) in
-    let other = cut_run w.common w.t1 old right (along t (w.common ++ w.t1) (split labels t w.common w.t1 w.second) old right second) in
+    let one = cut_run w.common w.s1 old left (run_along s (w.common ++ w.s1) (split labels s w.common w.s1 w.first) old left first) in
+    let other = cut_run w.common w.t1 old right (run_along t (w.common ++ w.t1) (split labels t w.common w.t1 w.second) old right second) in
     let same : other.0 ≡ one.0 = run_once w.common old other.0 one.0 other.1 one.1 in
     merge_closes w.s1 w.t1 t' s' w.merge one.0 left right one.2 (subst (λ tree. AppliesAll w.t1 tree right) same other.2)
 
@@ -60,8 +60,8 @@ two_conflictors : (j k : Conflictor) → ClosesSquares (Catch.Conflictor j) (Cat
 two_conflictors j k k' j' w old left right f g =
     let square = behind_common_closes j.effect k.effect w.merged w.left w.merge old left right f.effect g.effect in
     let new = square.0 in
-    let effect = along w.merged w.s2 (ordered w.merged w.s2 w.effect) left new square.1 in
-    let own_effect = along w.left w.r2 (ordered w.left w.r2 w.own_effect) right new square.2 in
+    let effect = run_along w.merged w.s2 (ordered w.merged w.s2 w.effect) left new square.1 in
+    let own_effect = run_along w.left w.r2 (ordered w.left w.r2 w.own_effect) right new square.2 in
     let moved = added_fits (inverse_all w.r2) w.s2 k w.moved w.becomes left new right effect (runs_back w.r2 right new own_effect) g.seen in
     let own = added_fits (inverse_all w.s2) w.r2 j w.own w.own_becomes right new left own_effect (runs_back w.s2 left new effect) f.seen in
     rw (w.after, w.beside) (new, joins_fit _ w.own.identity w.moved w.joined w.joins left new moved own.seen.1, joins_fit _ w.moved.identity w.own w.own_joined w.own_joins right new own moved.seen.1)

@@ -36,7 +36,7 @@ pub use Rattle.camp_seq.specs.Passing.{Fronts, Passes, PassesAll}
 pub use Rattle.camp_seq.specs.Room.{HasRoom}
 pub use Rattle.camp_seq.specs.Running.{AppliesAll, inverse_all}
 pub use Rattle.camp_ctx.proofs.AddResults.{add_exists, add_of_all_exists, front_as_or_not, one_add, one_add_of_all, one_passing_by, one_passing_of_all, passing_by_or_not, same_in_context, same_key_of_sum}
-pub use Rattle.camp_ctx.proofs.AddValid.{valid_by_adding, valid_by_adding_all, valid_by_passing, valid_by_passing_all}
+pub use Rattle.camp_ctx.proofs.AddValid.{run_along, valid_by_adding, valid_by_adding_all, valid_by_passing, valid_by_passing_all}
 pub use Rattle.camp_ctx.proofs.ConflictLaws.{conflict_is_symmetric, merge_behind_is_symmetric, one_merge_behind}
 pub use Rattle.camp_ctx.proofs.ContextsDecided.{conflict_or_not, contexts_or_not, in_context_or_not, keys_or_not, list_passes_by_or_not, lists_or_not, merge_behind_or_not, only_or_not, same_alone}
 pub use Rattle.camp_ctx.proofs.NamedDecided.{both_or_not, bytes_or_not, named_or_not}

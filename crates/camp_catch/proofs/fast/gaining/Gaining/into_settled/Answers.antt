@@ -1,5 +1,6 @@
 use Rattle.std.proofs.Common.{ap, refl, sym, ◌==◌, ◌∙◌}
-use Rattle.camp_catch.proofs.Gains.{is_nothing, ungained}
+use Rattle.camp_catch.proofs.CommuteSteps.{is_nothing}
+use Rattle.camp_catch.proofs.Gains.{ungained}
 use Rattle.camp_catch.proofs.fast.gaining.Gaining.into_settled.Goals as goal
 
 pub returns : goal.returns

@@ -1,5 +1,6 @@
 use Rattle.std.proofs.Common.{ap, refl, ◌==◌, ◌∙◌}
-use Rattle.camp_catch.proofs.Gains.{commuted_alone, is_nothing, let_by, let_by_aside}
+use Rattle.camp_catch.proofs.CommuteSteps.{is_nothing}
+use Rattle.camp_catch.proofs.Gains.{commuted_alone, let_by, let_by_aside}
 use Rattle.camp_catch.proofs.fast.gaining.Gaining.let_pass.Goals as goal
 
 pub returns-in-Aside : goal.returns-in-Aside
