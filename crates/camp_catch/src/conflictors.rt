@@ -8,7 +8,7 @@ ghost use Rattle.camp_catch.specs.Inside.Pairs.{JoinsBehindEffects, PlainAndUndo
 ghost use Rattle.camp_catch.specs.Inside.Seen.{JoinsInOrder};
 
 use crate::seen::{
-    all_pass_before, both_behind, has_no_context, joined, joined_behind, others_before, takes_back,
+    all_pass_before, both_behind, has_no_context, joined, others_before, takes_back,
 };
 use crate::values::is_undone;
 use crate::{Catch, Conflictor};
@@ -136,7 +136,7 @@ fn joins_behind_effects(
         return Ok(None);
     };
     let moved = others_before(&rest, effect, k, others)?;
-    let own = joined_behind(&k.effect, rest, j, &k.identity)?;
+    let own = joined(both_behind(&k.effect, rest, j)?, &k.identity)?;
     Ok(Some((Catch::Conflictor(moved), Catch::Conflictor(own))))
 }
 

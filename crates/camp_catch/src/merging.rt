@@ -1,10 +1,7 @@
 ghost use Rattle.std.specs.Prelude.{◌≡◌, IfOk};
 ghost use Rattle.camp_base.specs.Answers.{FindsPair};
-ghost use Rattle.camp_prim.specs.Effect.{inverse_of};
-ghost use Rattle.camp_prim.specs.Commuting.{Commute};
 ghost use Rattle.camp_prim.specs.declared.named.Named.{Named};
 ghost use Rattle.camp_seq.specs.Merging.{Merges};
-ghost use Rattle.camp_seq.specs.Passing.{Passes};
 ghost use Rattle.camp_seq.specs.Running.{inverse_all};
 ghost use Rattle.camp_ctx.specs.Adding.{AddsAll};
 ghost use Rattle.camp_ctx.specs.Conflicts.{Conflict};
@@ -50,18 +47,10 @@ fn both_plain(alloc: Global, a: &Named, b: &Named) -> Result<Option<(Catch, Catc
 fn clean(a: &Named, b: &Named) -> Result<Option<(Catch, Catch)>, AllocError>
     ensures exact { IfOk result (FindsPair (Clean a.now b.now)) }
 {
-    match commute_inverse(a, b)? {
-        Some((b, back)) => Ok(Some((Catch::Plain(b), Catch::Plain(back.invert())))),
-        None => Ok(None),
-    }
-}
-
-/// `a^ b <-> b' a'^`
-fn commute_inverse(a: &Named, b: &Named) -> Result<Option<(Named, Named)>, AllocError>
-    ensures exact { IfOk result (FindsPair (Commute (inverse_of a.now) b.now)) }
-{
-    let back = inverse(a)?;
-    commute(&back, b)
+    let Some((b, back)) = commute(&inverse(a)?, b)? else {
+        return Ok(None);
+    };
+    Ok(Some((Catch::Plain(b), Catch::Plain(back.invert()))))
 }
 
 /// `[a] | [b] -> ([a^], {:a}, :b) | ([b^], {:b}, :a)`
@@ -108,19 +97,11 @@ fn plain_beside_conflictor(a: &Named, k: &Conflictor) -> Result<Option<(Catch, C
     requires { (seen : ContextedPatch) × AddsAll k.now.effect k.now.identity seen × (¬ (Conflict (bare a.now) seen)) }
     ensures exact { IfOk result (FindsPair (PlainBesideConflictor a.now k.now)) }
 {
-    let Some((merged, back)) = past_inverse(a, &k.effect)? else {
+    let Some((merged, back)) = past(&inverse(a)?, &k.effect)? else {
         return Ok(None);
     };
     let moved = one_before(&back, merged, k)?;
     Ok(Some((Catch::Conflictor(moved), Catch::Plain(back.invert()))))
-}
-
-/// `a^ s <-> s' a'^`
-fn past_inverse(a: &Named, s: &Seq) -> Result<Option<(Seq, Named)>, AllocError>
-    ensures exact { IfOk result (FindsPair (Passes (inverse_of a.now) s.now)) }
-{
-    let back = inverse(a)?;
-    past(&back, s)
 }
 
 /// `[a] | (s, Y, l) -> (a^ s, Y and z, l) | ([], {l}, z)`, where `z` is `:a` as seen behind `s`
@@ -132,7 +113,7 @@ fn plain_joins_conflictor(
     requires { (seen : ContextedPatch) × AddsAll k.now.effect k.now.identity seen × Conflict (bare a.now) seen }
     ensures { IfOk result (λ pair. PlainJoinsConflictor a.now k.now pair.0 pair.1) }
 {
-    let z = bare_behind(alloc, a, &k.effect)?;
+    let z = seen_behind(&k.effect, &bare(alloc, a)?)?;
     joins_as(alloc, a, k, &z)
 }
 
@@ -148,14 +129,6 @@ fn joins_as(
     let taken = takes_back(alloc, a, k, z)?;
     let beside = in_conflict_with(alloc, &k.identity, z)?;
     Ok((Catch::Conflictor(taken), Catch::Conflictor(beside)))
-}
-
-/// `:a` as it is seen behind a list
-fn bare_behind(alloc: Global, a: &Named, list: &Seq) -> Result<Contexted, AllocError>
-    ensures { IfOk result (AddsAll (inverse_all list.now) (bare a.now)) }
-{
-    let own = bare(alloc, a)?;
-    seen_behind(list, &own)
 }
 
 /// `(r, X, i) | [b]`, as `[b] | (r, X, i)` with the two results exchanged

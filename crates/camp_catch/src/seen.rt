@@ -1,15 +1,14 @@
-ghost use Rattle.std.specs.Prelude.{◌≡◌, ◌↔◌, ◌∷◌, IfOk, IsTrue};
+ghost use Rattle.std.specs.Prelude.{◌≡◌, ◌↔◌, IfOk, IsTrue};
 ghost use Rattle.camp_base.specs.Answers.{Finds};
-ghost use Rattle.camp_prim.specs.Effect.{inverse_of};
 ghost use Rattle.camp_seq.specs.NormalOrder.{Norm};
 ghost use Rattle.camp_seq.specs.Running.{inverse_all};
 ghost use Rattle.camp_ctx.specs.Adding.{Adds, AddsAll, PassesBy, PassesByAll};
 ghost use Rattle.camp_ctx.specs.Contexts.{bare};
 ghost use Rattle.camp_catch.specs.Conflictors.{Becomes, against, in_conflict_with, joined_by, with_conflicts};
-ghost use Rattle.camp_catch.specs.Inside.Seen.{JoinedBefore, LeavesSet, TakesBack};
+ghost use Rattle.camp_catch.specs.Inside.Seen.{LeavesSet, TakesBack};
 
 use crate::Conflictor;
-use crate::values::{alone, bare, bare_alone, inverse, undone};
+use crate::values::{alone, bare, inverse, one};
 use camp_ctx::{Contexted, CtxSet, join};
 use camp_prim::{Key, Named};
 use camp_seq::{Seq, invert_all, ordered};
@@ -53,14 +52,7 @@ pub(crate) fn one_before(a: &Named, s: Seq, k: &Conflictor) -> Result<Conflictor
     set_before(a, s, k, identity)
 }
 
-/// `(s, X', i')`, where `r` added to `X` and `i` gives `X'` and `i'`
-fn both_before(r: &Seq, s: Seq, k: &Conflictor) -> Result<Conflictor, AllocError>
-    ensures { IfOk result (Becomes (λ t. t ≡ s) (AddsAll r.now) (AddsAll r.now) k.now) }
-{
-    others_before(r, s, k, &k.conflicts)
-}
-
-/// The same of a conflictor with other conflicts in place of its own.
+/// `(s, Z', i')`, where `r` added to `Z`, other conflicts than the conflictor has, and to `i` gives `Z'` and `i'`
 pub(crate) fn others_before(
     r: &Seq,
     s: Seq,
@@ -83,7 +75,7 @@ pub(crate) fn both_behind(r: &Seq, s: Seq, k: &Conflictor) -> Result<Conflictor,
     ensures { IfOk result (Becomes (λ t. t ≡ s) (AddsAll (inverse_all r.now)) (AddsAll (inverse_all r.now)) k.now) }
 {
     let back = invert_all(r)?;
-    both_before(&back, s, k)
+    others_before(&back, s, k, &k.conflicts)
 }
 
 /// `Some((s, X', i'))`, where `r` added to `X` gives `X'`, and `r` passes by `i`. None where it can't.
@@ -103,19 +95,6 @@ pub(crate) fn all_pass_before(
         conflicts,
         identity,
     }))
-}
-
-/// `(s, X' and l, i')`, where `r^` added to `X` and `i` gives `X'` and `i'`
-pub(crate) fn joined_behind(
-    r: &Seq,
-    s: Seq,
-    k: &Conflictor,
-    l: &Contexted,
-) -> Result<Conflictor, AllocError>
-    ensures { IfOk result (JoinedBefore (inverse_all r.now) s k.now l.now) }
-{
-    let moved = both_behind(r, s, k)?;
-    joined(moved, l)
 }
 
 /// `(r, X and l, i)`
@@ -139,23 +118,14 @@ pub(crate) fn takes_back(
 ) -> Result<Conflictor, AllocError>
     ensures { IfOk result (TakesBack a.now k.now l.now) }
 {
-    let effect = with_undone(alloc, a, &k.effect)?;
+    let whole = join(alloc, slice::from_ref(&inverse(a)?), k.effect.items())?;
     let conflicts = k.conflicts.insert(l)?;
     let identity = k.identity.try_clone()?;
     Ok(Conflictor {
-        effect,
+        effect: ordered(whole),
         conflicts,
         identity,
     })
-}
-
-/// `a^ s`, in normal order.
-fn with_undone(alloc: Global, a: &Named, s: &Seq) -> Result<Seq, AllocError>
-    ensures { IfOk result (Norm (inverse_of a.now ∷ s.now)) }
-{
-    let back = inverse(a)?;
-    let joined = join(alloc, slice::from_ref(&back), s.items())?;
-    Ok(ordered(joined))
 }
 
 /// `(s', X without a label, i)`, where `s'` is `s` in normal order
@@ -176,8 +146,8 @@ pub(crate) fn without_member(key: &Key, s: Seq, k: &Conflictor) -> Result<Confli
 pub(crate) fn against(alloc: Global, a: &Named, b: &Named) -> Result<Conflictor, AllocError>
     ensures { IfOk result (λ made. made ≡ against a.now b.now) }
 {
-    let effect = undone(alloc, a)?;
-    let conflicts = bare_alone(alloc, a)?;
+    let effect = one(alloc, &inverse(a)?)?;
+    let conflicts = alone(alloc, &bare(alloc, a)?)?;
     let identity = bare(alloc, b)?;
     Ok(Conflictor {
         effect,

@@ -24,14 +24,6 @@ pub(crate) fn inverse(p: &Named) -> Result<Named, AllocError>
     Ok(copy.invert())
 }
 
-/// `[p^]`
-pub(crate) fn undone(alloc: Global, p: &Named) -> Result<Seq, AllocError>
-    ensures { IfOk result (λ list. list ≡ inverse_of p.now ∷ []) }
-{
-    let back = inverse(p)?;
-    one(alloc, &back)
-}
-
 /// `:p`
 pub(crate) fn bare(alloc: Global, p: &Named) -> Result<Contexted, AllocError>
     ensures { IfOk result (λ x. x ≡ bare p.now) }
@@ -45,14 +37,6 @@ pub(crate) fn alone(alloc: Global, x: &Contexted) -> Result<CtxSet, AllocError>
     ensures { IfOk result (λ set. set ≡ only x.now) }
 {
     CtxSet::empty(alloc).insert(x)
-}
-
-/// `{:p}`
-pub(crate) fn bare_alone(alloc: Global, p: &Named) -> Result<CtxSet, AllocError>
-    ensures { IfOk result (λ set. set ≡ only (bare p.now)) }
-{
-    let own = bare(alloc, p)?;
-    alone(alloc, &own)
 }
 
 /// Whether a list is the inverse of `a` and no more.

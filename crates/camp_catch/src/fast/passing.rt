@@ -1,5 +1,5 @@
 //! Conflictors without an effect that pass one another.
-ghost use Rattle.std.specs.Prelude.{◌≡◌, ◌↔◌, [], IfOk, IsTrue, None, Some};
+ghost use Rattle.std.specs.Prelude.{◌≡◌, ◌↔◌, [], IfOk, IsTrue, Some};
 ghost use Rattle.std.specs.FinMap.{get};
 ghost use Rattle.camp_ctx.specs.Contexts.{context_key, ContextedPatch};
 ghost use Rattle.camp_catch.specs.Inside.Meetings.{PassAs};
@@ -42,23 +42,13 @@ fn passing_of_two(j: &Conflictor, k: &Conflictor) -> Result<Passing, AllocError>
     if !has_no_effect(k) {
         return Ok(Passing::Unknown);
     }
-    match k.conflicts.get(&j.identity.key()) {
-        None => Ok(passing_aside(j, k)),
+    let key = j.identity.key();
+    match k.conflicts.get(&key) {
+        // `([], X, i) ([], Y, l) <-> ([], Y, l) ([], X, i)`
+        None if lacks_key(k.identity.context().items(), &key) => Ok(Passing::Aside),
+        None => Ok(Passing::Unknown),
         Some(_) => passing_out(j, k),
     }
-}
-
-/// `([], X, i) ([], Y, l) <-> ([], Y, l) ([], X, i)`, unless `j` is in the context of `l`
-fn passing_aside(j: &Conflictor, k: &Conflictor) -> Passing
-    requires first { j.now.effect ≡ [] }
-    requires second { k.now.effect ≡ [] }
-    requires apart { get k.now.conflicts (context_key j.now.identity) ≡ None }
-    ensures { PassAs (AnyCatch.Conflictor j.now) (AnyCatch.Conflictor k.now) result }
-{
-    if lacks_key(k.identity.context().items(), &j.identity.key()) {
-        return Passing::Aside;
-    }
-    Passing::Unknown
 }
 
 /// `([], X, i) ([], Y, l) <-> ([], Y without j, l) ([], X and l, i)`, unless `j` is alone in `Y`

@@ -6,4 +6,4 @@ returns-in_default c = λ pair w. (rw c.in_default.is at c.in_ok-effect.ensures)
 
 pub returns : goal.returns
 returns c =
-    record { effect = _; rr' = _; effects = rw c.in-Some.is at c.in_ok-effect.ensures; moved = _; becomes = c.in_ok-moved.ensures; own = _; joined = c.in_ok-own.ensures; second = refl; first = refl }
+    record { effect = _; rr' = _; effects = rw c.in-Some.is at c.in_ok-effect.ensures; moved = _; becomes = c.in_ok-moved.ensures; own = _; joined = record { moved = _; becomes = c.in_ok-both_behind.ensures; is = c.in_ok-own.ensures }; second = refl; first = refl }

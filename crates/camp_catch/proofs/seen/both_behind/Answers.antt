@@ -1,4 +1,4 @@
 use Rattle.camp_catch.proofs.seen.both_behind.Goals as goal
 
 pub returns : goal.returns
-returns c = rw c.in_ok-back.ensures.exact at c.both_before.ensures
+returns c = rw c.in_ok-back.ensures.exact at c.others_before.ensures
