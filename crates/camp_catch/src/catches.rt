@@ -106,13 +106,9 @@ impl Conflictor {
     pub fn is_same(&self, other: &Conflictor) -> bool
         ensures exact { IsTrue result ↔ (self.now ≡ other.now) }
     {
-        if !self.identity.is_same(&other.identity) {
-            return false;
-        }
-        if !self.effect.is_same(&other.effect) {
-            return false;
-        }
-        self.conflicts.is_same(&other.conflicts)
+        self.identity.is_same(&other.identity)
+            && self.effect.is_same(&other.effect)
+            && self.conflicts.is_same(&other.conflicts)
     }
 }
 

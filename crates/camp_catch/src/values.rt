@@ -55,10 +55,7 @@ pub(crate) fn undoes(s: &Seq, a: &Named) -> Result<bool, AllocError>
 pub(crate) fn is_bare(x: &Contexted, p: &Named) -> bool
     ensures { IsTrue result ↔ (x.now ≡ bare p.now) }
 {
-    if !x.context().items().is_empty() {
-        return false;
-    }
-    x.patch().is_same(p)
+    x.context().items().is_empty() && x.patch().is_same(p)
 }
 
 /// Whether an element is an inverse whose absolute label stands in a set.

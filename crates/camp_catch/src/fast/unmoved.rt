@@ -79,14 +79,8 @@ fn stays_behind(a: &Named, k: &Conflictor) -> bool
     ensures passed { IsTrue result → Becomes (Norm k.now.effect) (Adds a.now) (PassesBy a.now) k.now k.now }
 {
     let effect = k.effect.items();
-    if !stays_past(a, effect) {
-        return false;
-    }
-    if !is_own_order(effect) {
-        return false;
-    }
-    if !k.identity.stays_behind(a) {
-        return false;
-    }
-    k.conflicts.stays_behind(a)
+    stays_past(a, effect)
+        && is_own_order(effect)
+        && k.identity.stays_behind(a)
+        && k.conflicts.stays_behind(a)
 }
