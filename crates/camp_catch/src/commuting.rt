@@ -10,7 +10,6 @@ ghost use Rattle.camp_ctx.specs.Contexts.{context_key, patch_key};
 ghost use Rattle.camp_catch.specs.Commuting.{BothPlain, CommuteCatch, CommutePlainConflictor, ConflictDissolves, ConflictorPastPlain, MayWant, PlainLeavesTheSet, PlainPastConflictor};
 ghost use Rattle.camp_catch.specs.Conflictors.{Becomes};
 ghost use Rattle.camp_catch.specs.declared.catches.Catch.TheVariants.{Plain};
-ghost use Rattle.camp_catch.specs.Inside.Pairs.{PlainAndFirstConflict};
 
 use crate::conflictors::commute_conflictors;
 use crate::seen::{against, has_no_context, in_conflict_with, passes_before, without_member};
@@ -165,21 +164,10 @@ fn conflict_dissolves(
     if !undone {
         return Ok(None);
     }
-    let pair = plain_and_first_conflict(alloc, a, k.identity.patch())?;
-    Ok(Some(pair))
-}
-
-/// `[q] ([q^], {:q}, :a)`
-fn plain_and_first_conflict(
-    alloc: Global,
-    a: &Named,
-    q: &Named,
-) -> Result<(Catch, Catch), AllocError>
-    ensures { IfOk result (λ pair. PlainAndFirstConflict a.now q.now pair.0 pair.1) }
-{
+    let q = k.identity.patch();
     let first = against(alloc, q, a)?;
     let second = q.try_clone()?;
-    Ok((Catch::Plain(second), Catch::Conflictor(first)))
+    Ok(Some((Catch::Plain(second), Catch::Conflictor(first))))
 }
 
 /// `[a] (s, Y, l) <-> (s', Y without a, l) ([], {l}, z)`, where `s ~ a^ s'`

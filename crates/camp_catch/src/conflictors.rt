@@ -4,7 +4,7 @@ ghost use Rattle.camp_base.specs.Answers.{FindsPair};
 ghost use Rattle.camp_seq.specs.NormalOrder.{Splits};
 ghost use Rattle.camp_ctx.specs.Contexts.{context_key, patch_key, ContextedPatch};
 ghost use Rattle.camp_catch.specs.Commuting.{CommuteConflictors, EffectsPass, OneOfSeveralConflicts, OnlyConflictGoes, TwoConflictorsApart, labels_undone};
-ghost use Rattle.camp_catch.specs.Inside.Pairs.{JoinsBehindEffects, PlainAndUndone};
+ghost use Rattle.camp_catch.specs.Inside.Pairs.{JoinsBehindEffects};
 ghost use Rattle.camp_catch.specs.Inside.Seen.{JoinsInOrder};
 
 use crate::seen::{
@@ -90,22 +90,10 @@ fn only_conflict_goes(
     if !has_no_context(&seen) {
         return Ok(None);
     }
-    let pair = plain_and_undone(alloc, seen.patch(), j, &k.identity)?;
-    Ok(Some(pair))
-}
-
-/// `[a] (a^ r, X and l, i)`
-fn plain_and_undone(
-    alloc: Global,
-    a: &Named,
-    j: &Conflictor,
-    l: &Contexted,
-) -> Result<(Catch, Catch), AllocError>
-    ensures { IfOk result (λ pair. PlainAndUndone a.now j.now l.now pair.0 pair.1) }
-{
-    let first = takes_back(alloc, a, j, l)?;
+    let a = seen.patch();
+    let first = takes_back(alloc, a, j, &k.identity)?;
     let second = a.try_clone()?;
-    Ok((Catch::Plain(second), Catch::Conflictor(first)))
+    Ok(Some((Catch::Plain(second), Catch::Conflictor(first))))
 }
 
 /// `(common rr, X, i) (s, Y, l) <-> (common s', Z', l') (rr', X' and l, i')`, where `Z` is `Y`

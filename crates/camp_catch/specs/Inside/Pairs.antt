@@ -5,10 +5,9 @@ use Rattle.camp_seq.specs.Running.{inverse_all}
 use Rattle.camp_ctx.specs.Adding.{AddsAll}
 use Rattle.camp_ctx.specs.Contexts.{ContextedPatch, ContextedPatches}
 use Rattle.camp_catch.specs.Commuting.{EffectsPass}
-use Rattle.camp_catch.specs.Conflictors.{Becomes, against, in_conflict_with, with_conflicts}
+use Rattle.camp_catch.specs.Conflictors.{Becomes, in_conflict_with, with_conflicts}
 use Rattle.camp_catch.specs.Inside.Seen.{JoinedBefore, TakesBack}
 use Rattle.camp_catch.specs.declared.catches.Catch.{Catch}
-use Rattle.camp_catch.specs.declared.catches.Catch.TheVariants.{Plain}
 use Rattle.camp_catch.specs.declared.catches.Conflictor.{Conflictor}
 
 -- [a] | (s, Y, l) -> (a^ s, Y and z, l) | ([], {l}, z)
@@ -16,15 +15,6 @@ abbrev pub JoinsAs : Named → Conflictor → ContextedPatch → Catch → Catch
 JoinsAs a k z k' j' =
     (taken : Conflictor) × TakesBack a k z taken × (k' ≡ Catch.Conflictor taken)
     × (j' ≡ Catch.Conflictor (in_conflict_with k.identity z))
-
--- [a] (a^ r, X and l, i)
-abbrev pub PlainAndUndone : Named → Conflictor → ContextedPatch → Catch → Catch → Type 0
-PlainAndUndone a j l k' j' =
-    (k' ≡ Plain a) × ((taken : Conflictor) × TakesBack a j l taken × (j' ≡ Catch.Conflictor taken))
-
--- [q] ([q^], {:q}, :a)
-abbrev pub PlainAndFirstConflict : Named → Named → Catch → Catch → Type 0
-PlainAndFirstConflict a q k' j' = (k' ≡ Plain q) × (j' ≡ Catch.Conflictor (against q a))
 
 -- (common rr, X, i) (s, Z, l) <-> (common s', Z', l') (rr', X' and l, i')
 -- where rr' added to Z and l gives Z' and l', and s^ added to X and i gives X' and i'

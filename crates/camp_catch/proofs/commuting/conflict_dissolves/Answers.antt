@@ -1,4 +1,4 @@
-use Rattle.camp_catch.proofs.Words.{ap, sym, ◌∙◌, told_not, bare, only, Conflictor}
+use Rattle.camp_catch.proofs.Words.{ap, sym, ◌∙◌, told_not, bare, only, Catch, Plain, Conflictor}
 use Rattle.camp_catch.proofs.CommuteCases.{its_only}
 use Rattle.camp_catch.proofs.CommuteSteps.{no_context}
 use Rattle.camp_catch.proofs.PartsDetermined.{same_only}
@@ -23,5 +23,5 @@ pub returns : goal.returns
 returns c =
     let undone = c.in_ok-undone.ensures.0 c.if-not-undone.false in
     let alone = c.in-Some.ensures.exact ∙ ap only (c.is_bare.ensures.0 c.if-not-is_bare.false) in
-    let identity = c.has_no_context.ensures.0 c.if-not-has_no_context.false ∙ ap bare (sym c.patch.ensures.exact) in
-    record { q = _; is = λ t. record { effect = undone t; conflicts = alone t; identity = identity t }; second = c.in_ok-pair.ensures.0; first = c.in_ok-pair.ensures.1 }
+    let identity = c.has_no_context.ensures.0 c.if-not-has_no_context.false ∙ ap bare (sym c.patch-q.ensures.exact) in
+    record { q = _; is = λ t. record { effect = undone t; conflicts = alone t; identity = identity t }; second = ap Plain c.in_ok-second.ensures.exact; first = ap Catch.Conflictor c.in_ok-first.ensures }

@@ -1,4 +1,4 @@
-use Rattle.camp_catch.proofs.Words.{ap, sym, ◌∙◌, told_not, one_add_of_all, bare, context_key, patch_key, Catch}
+use Rattle.camp_catch.proofs.Words.{ap, sym, ◌∙◌, told_not, one_add_of_all, bare, context_key, patch_key, Catch, Plain}
 use Rattle.camp_catch.proofs.CommuteSteps.{no_context, is_nothing}
 use Rattle.camp_catch.proofs.PartsDetermined.{same_only}
 use Rattle.camp_catch.proofs.conflictors.only_conflict_goes.Goals as goal
@@ -18,5 +18,5 @@ pub returns : goal.returns
 returns c =
     let named = sym (ap patch_key c.patch.ensures.exact) ∙ c.has_key.ensures.0 c.if-not-has_key.false ∙ c.key.ensures.exact in
     let nothing = is_nothing c.args.k.now.effect _ _ c.is_empty.ensures c.if-not-is_empty.false c.items.ensures.exact in
-    let (plain, (taken, takes, first)) = c.in_ok-pair.ensures in
-    record { x = _; named = named; no_effect = nothing; alone = c.in-Some.ensures.exact; a = _; becomes = (rw (c.has_no_context.ensures.0 c.if-not-has_no_context.false ∙ ap bare (sym c.patch-2.ensures.exact)) at c.in_ok-seen.ensures.exact); effect = takes.s'; joined = takes.effect; second = plain; first = first ∙ ap Catch.Conflictor takes.is }
+    let takes = c.in_ok-first.ensures in
+    record { x = _; named = named; no_effect = nothing; alone = c.in-Some.ensures.exact; a = _; becomes = (rw (c.has_no_context.ensures.0 c.if-not-has_no_context.false ∙ ap bare (sym c.patch-a.ensures.exact)) at c.in_ok-seen.ensures.exact); effect = takes.s'; joined = takes.effect; second = ap Plain c.in_ok-second.ensures.exact; first = ap Catch.Conflictor takes.is }
