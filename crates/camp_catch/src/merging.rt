@@ -6,7 +6,6 @@ ghost use Rattle.camp_seq.specs.Running.{inverse_all};
 ghost use Rattle.camp_ctx.specs.Adding.{AddsAll};
 ghost use Rattle.camp_ctx.specs.Conflicts.{Conflict};
 ghost use Rattle.camp_ctx.specs.Contexts.{ContextedPatch, bare};
-ghost use Rattle.camp_catch.specs.Inside.Pairs.{JoinsAs};
 ghost use Rattle.camp_catch.specs.Inside.TwoConflictors.{EffectsMerge, JoinEachOther, TellsConflict, TellsPlainConflict};
 ghost use Rattle.camp_catch.specs.Merging.{Clean, FirstConflict, MergeCatch, MergePlainConflictor, Mirror, PlainBesideConflictor, PlainJoinsConflictor, TwoConflictors};
 ghost use Rattle.camp_catch.specs.declared.catches.Catch.TheVariants.{Plain};
@@ -114,20 +113,8 @@ fn plain_joins_conflictor(
     ensures { IfOk result (λ pair. PlainJoinsConflictor a.now k.now pair.0 pair.1) }
 {
     let z = seen_behind(&k.effect, &bare(alloc, a)?)?;
-    joins_as(alloc, a, k, &z)
-}
-
-/// `[a] | (s, Y, l) -> (a^ s, Y and z, l) | ([], {l}, z)`
-fn joins_as(
-    alloc: Global,
-    a: &Named,
-    k: &Conflictor,
-    z: &Contexted,
-) -> Result<(Catch, Catch), AllocError>
-    ensures { IfOk result (λ pair. JoinsAs a.now k.now z.now pair.0 pair.1) }
-{
-    let taken = takes_back(alloc, a, k, z)?;
-    let beside = in_conflict_with(alloc, &k.identity, z)?;
+    let taken = takes_back(alloc, a, k, &z)?;
+    let beside = in_conflict_with(alloc, &k.identity, &z)?;
     Ok((Catch::Conflictor(taken), Catch::Conflictor(beside)))
 }
 

@@ -3,18 +3,12 @@ use Rattle.std.specs.Prelude.{◌≡◌, List}
 use Rattle.camp_prim.specs.declared.named.Named.{Named}
 use Rattle.camp_seq.specs.Running.{inverse_all}
 use Rattle.camp_ctx.specs.Adding.{AddsAll}
-use Rattle.camp_ctx.specs.Contexts.{ContextedPatch, ContextedPatches}
+use Rattle.camp_ctx.specs.Contexts.{ContextedPatches}
 use Rattle.camp_catch.specs.Commuting.{EffectsPass}
-use Rattle.camp_catch.specs.Conflictors.{Becomes, in_conflict_with, with_conflicts}
-use Rattle.camp_catch.specs.Inside.Seen.{JoinedBefore, TakesBack}
+use Rattle.camp_catch.specs.Conflictors.{Becomes, with_conflicts}
+use Rattle.camp_catch.specs.Inside.Seen.{JoinedBefore}
 use Rattle.camp_catch.specs.declared.catches.Catch.{Catch}
 use Rattle.camp_catch.specs.declared.catches.Conflictor.{Conflictor}
-
--- [a] | (s, Y, l) -> (a^ s, Y and z, l) | ([], {l}, z)
-abbrev pub JoinsAs : Named → Conflictor → ContextedPatch → Catch → Catch → Type 0
-JoinsAs a k z k' j' =
-    (taken : Conflictor) × TakesBack a k z taken × (k' ≡ Catch.Conflictor taken)
-    × (j' ≡ Catch.Conflictor (in_conflict_with k.identity z))
 
 -- (common rr, X, i) (s, Z, l) <-> (common s', Z', l') (rr', X' and l, i')
 -- where rr' added to Z and l gives Z' and l', and s^ added to X and i gives X' and i'
