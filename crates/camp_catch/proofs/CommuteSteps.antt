@@ -1,8 +1,7 @@
 -- What the bodies of commuting know at their answers.
 use Rattle.camp_prim.proofs.CommuteLaws.{own_inverse, square}
 use Rattle.camp_seq.proofs.GatherSteps.{length-passes}
-use Rattle.camp_catch.specs.Inside.Pairs.{JoinsBehindEffects}
-use Rattle.camp_catch.proofs.Words.{Bool, Commute, IfOk, List, None, Option, Result, Some, [], ap, arith, eqb-true, inl, inr, length, refl, sym, true, ◌==◌, ◌∙◌, ◌∷◌, ◌≡◌, ◌≤◌, nil_from_length, IfOk-weaker, empty_of_len, get, get-empty, len, remove, FindsPair, inverse_of, key_cmp, Key, Named, Passes, PassesAll, ContextedPatch, ContextedPatches, bare, context_key, patch_key, CommuteConflictors, CommutePlainConflictor, MergeCatch, Plain, ConflictDissolves, OneOfSeveralConflicts, OnlyConflictGoes, PlainLeavesTheSet, PlainPastConflictor, TwoConflictorsApart, Catch, Conflictor}
+use Rattle.camp_catch.proofs.Words.{Bool, Commute, IfOk, List, None, Option, Result, Some, [], ap, arith, eqb-true, inl, inr, length, refl, sym, true, ◌==◌, ◌∙◌, ◌∷◌, ◌≡◌, ◌≤◌, nil_from_length, IfOk-weaker, empty_of_len, get, get-empty, len, FindsPair, inverse_of, key_cmp, Key, Named, Passes, PassesAll, ContextedPatch, ContextedPatches, bare, context_key, patch_key, CommuteConflictors, CommutePlainConflictor, MergeCatch, Plain, ConflictDissolves, OneOfSeveralConflicts, OnlyConflictGoes, PlainLeavesTheSet, PlainPastConflictor, TwoConflictorsApart, Catch, Conflictor}
 use Rattle.camp_catch.proofs.CommuteCases.{its_only, lacks_its_only, not_none, only_is_one}
 
 -- what one relation finds, another finds that has the same results
@@ -59,26 +58,6 @@ module _ (j k : Conflictor) where
         absurd (not_none z (get k.conflicts (context_key j.identity)) member w.apart)
     one_of_several several k' j' (inr (inl w)) = absurd (only_is_one k.conflicts w.x w.alone several)
     one_of_several several k' j' (inr (inr w)) = w
-
-  -- one of several conflicts, by the others
-  pub several_from : (z : ContextedPatch) → get k.conflicts (context_key j.identity) ≡ Some z → 2 ≤ len k.conflicts → (k' j' : Catch) → JoinsBehindEffects j k (remove k.conflicts (context_key j.identity)) k' j' → OneOfSeveralConflicts j k k' j'
-  several_from z member several k' j' w = record {
-    z = z;
-    member = member;
-    several = several;
-    effect = w.effect;
-    rr' = w.rr';
-    effects = w.effects;
-    moved = w.moved;
-    becomes = w.becomes;
-    own = w.joined.moved;
-    own_becomes = w.joined.becomes;
-    second = w.second;
-    first = w.first ∙ ap Catch.Conflictor w.joined.is;
-  }
-
-  pub several_back : (k' j' : Catch) → OneOfSeveralConflicts j k k' j' → JoinsBehindEffects j k (remove k.conflicts (context_key j.identity)) k' j'
-  several_back k' j' w = record { effect = w.effect; rr' = w.rr'; effects = w.effects; moved = w.moved; becomes = w.becomes; own = _; joined = record { moved = w.own; becomes = w.own_becomes; is = refl }; second = w.second; first = w.first }
 
 -- what a primitive comes before is as long as it was
 pub length-passes_all : (r s s' r' : List Named) → PassesAll r s s' r' → length s' ≡ length s

@@ -1,6 +1,5 @@
 -- Words that serve only private functions.
 pub mod InPlace
 pub mod Meetings
-pub mod Pairs
 pub mod Seen
 pub mod TwoConflictors

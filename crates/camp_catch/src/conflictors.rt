@@ -4,7 +4,6 @@ ghost use Rattle.camp_base.specs.Answers.{FindsPair};
 ghost use Rattle.camp_seq.specs.NormalOrder.{Splits};
 ghost use Rattle.camp_ctx.specs.Contexts.{context_key, patch_key, ContextedPatch};
 ghost use Rattle.camp_catch.specs.Commuting.{CommuteConflictors, EffectsPass, OneOfSeveralConflicts, OnlyConflictGoes, TwoConflictorsApart, labels_undone};
-ghost use Rattle.camp_catch.specs.Inside.Pairs.{JoinsBehindEffects};
 ghost use Rattle.camp_catch.specs.Inside.Seen.{JoinsInOrder};
 
 use crate::seen::{
@@ -108,22 +107,10 @@ fn one_of_several_conflicts(
     ensures { IfOk result (FindsPair (OneOfSeveralConflicts j.now k.now)) }
 {
     let others = k.conflicts.without(&j.identity.key())?;
-    joins_behind_effects(alloc, j, k, &others)
-}
-
-/// `(common rr, X, i) (s, Z, l) <-> (common s', Z', l') (rr', X' and l, i')`
-fn joins_behind_effects(
-    alloc: Global,
-    j: &Conflictor,
-    k: &Conflictor,
-    others: &CtxSet,
-) -> Result<Option<(Catch, Catch)>, AllocError>
-    ensures { IfOk result (FindsPair (JoinsBehindEffects j.now k.now others.now)) }
-{
-    let Some((effect, rest)) = effects_pass(alloc, &j.effect, &k.effect, others)? else {
+    let Some((effect, rest)) = effects_pass(alloc, &j.effect, &k.effect, &others)? else {
         return Ok(None);
     };
-    let moved = others_before(&rest, effect, k, others)?;
+    let moved = others_before(&rest, effect, k, &others)?;
     let own = joined(both_behind(&k.effect, rest, j)?, &k.identity)?;
     Ok(Some((Catch::Conflictor(moved), Catch::Conflictor(own))))
 }

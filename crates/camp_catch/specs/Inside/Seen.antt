@@ -4,16 +4,9 @@ use Rattle.camp_prim.specs.Effect.{inverse_of}
 use Rattle.camp_prim.specs.declared.labels.Key.{Key}
 use Rattle.camp_prim.specs.declared.named.Named.{Named}
 use Rattle.camp_seq.specs.NormalOrder.{Norm}
-use Rattle.camp_ctx.specs.Adding.{AddsAll}
 use Rattle.camp_ctx.specs.Contexts.{ContextedPatch}
-use Rattle.camp_catch.specs.Conflictors.{Becomes, joined_by, with_effect, without}
+use Rattle.camp_catch.specs.Conflictors.{joined_by, with_effect, without}
 use Rattle.camp_catch.specs.declared.catches.Conflictor.{Conflictor}
-
--- (s, X' and l, i'), where r added to X and i gives X' and i'
-pub record JoinedBefore (r s : List Named) (k : Conflictor) (l : ContextedPatch) (made : Conflictor) : Type 0 where
-  pub moved : Conflictor
-  pub becomes : Becomes (λ t. t ≡ s) (AddsAll r) (AddsAll r) k moved
-  pub is : made ≡ joined_by l moved
 
 -- (s', X and l, i), where s' is a^ r in normal order
 pub record TakesBack (a : Named) (k : Conflictor) (l : ContextedPatch) (made : Conflictor) : Type 0 where

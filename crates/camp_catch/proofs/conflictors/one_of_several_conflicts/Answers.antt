@@ -1,6 +1,22 @@
-use Rattle.camp_catch.proofs.CommuteSteps.{found_as, several_from, several_back}
+use Rattle.camp_catch.proofs.Words.{ap, refl, Catch}
 use Rattle.camp_catch.proofs.conflictors.one_of_several_conflicts.Goals as goal
 
+pub returns-in_default : goal.returns-in_default
+returns-in_default c =
+    λ pair w. (rw (c.in_ok-others.ensures.exact, c.key.ensures.exact, c.in_default.is) at c.in_ok-effect.ensures) (w.effect, w.rr') w.effects
+
 pub returns : goal.returns
-returns c =
-    found_as c.joins_behind_effects.result (several_from c.args.j.now c.args.k.now _ c.requires.member.1 c.requires.several) (several_back c.args.j.now c.args.k.now) (rw (c.in_ok-others.ensures.exact, c.key.ensures.exact) at c.joins_behind_effects.ensures)
+returns c = record {
+  z = _;
+  member = c.requires.member.1;
+  several = c.requires.several;
+  effect = _;
+  rr' = _;
+  effects = rw (c.in_ok-others.ensures.exact, c.key.ensures.exact, c.in-Some.is) at c.in_ok-effect.ensures;
+  moved = _;
+  becomes = rw (c.in_ok-others.ensures.exact, c.key.ensures.exact) at c.in_ok-moved.ensures;
+  own = _;
+  own_becomes = c.in_ok-both_behind.ensures;
+  second = refl;
+  first = ap Catch.Conflictor c.in_ok-own.ensures;
+}
