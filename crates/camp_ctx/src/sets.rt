@@ -15,7 +15,6 @@ use std::slice;
 /// A set of contexted patches with different absolute labels.
 #[derive(Drop)]
 pub struct CtxSet {
-    alloc: Global,
     members: SharedMap<MemberKey, Contexted>,
 }
 
@@ -41,7 +40,6 @@ impl CtxSet {
         ensures exact { result ≡ map.empty }
     {
         CtxSet {
-            alloc,
             members: SharedMap::new(alloc),
         }
     }
@@ -69,10 +67,7 @@ impl CtxSet {
     {
         let key = MemberKey::new(member.key());
         let members = self.members.inserted_if_absent(key, member.try_clone()?)?;
-        Ok(CtxSet {
-            alloc: self.alloc,
-            members,
-        })
+        Ok(CtxSet { members })
     }
 
     /// The set with these members too, one after the other. It is made once for all of them.
@@ -84,10 +79,8 @@ impl CtxSet {
             let key = MemberKey::new(member.key());
             members.insert_if_absent(key, member.try_clone()?)?;
         }
-        Ok(CtxSet {
-            alloc: self.alloc,
-            members: members.into_map()?,
-        })
+        let members = members.into_map()?;
+        Ok(CtxSet { members })
     }
 
     /// The set without the member of a label.
@@ -95,10 +88,7 @@ impl CtxSet {
         ensures exact { IfOk result (λ set. set ≡ map.remove self.now key.now) }
     {
         let members = self.members.without(&MemberKey::new(*key))?;
-        Ok(CtxSet {
-            alloc: self.alloc,
-            members,
-        })
+        Ok(CtxSet { members })
     }
 
     /// The member at a place in the order of the labels.
@@ -132,24 +122,22 @@ impl CtxSet {
         if r.items().is_empty() {
             return set.try_clone();
         }
-        let mut members = MapBuilder::from_map(&SharedMap::new(set.alloc))?;
+        let mut members = MapBuilder::from_map(&SharedMap::new(set.members.allocator()))?;
         for index in 0..set.members.len() {
             if let Some((key, member)) = set.members.at(index) {
                 let sum = Contexted::add(r, member)?;
                 members.insert_if_absent(*key, sum)?;
             }
         }
-        Ok(CtxSet {
-            alloc: set.alloc,
-            members: members.into_map()?,
-        })
+        let members = members.into_map()?;
+        Ok(CtxSet { members })
     }
 
     /// The same with a primitive in place of a list.
     pub fn add_one(a: &Named, set: &CtxSet) -> Result<CtxSet, AllocError>
         ensures exact { IfOk result (λ sum. EachMember (Adds a.now) set.now sum) }
     {
-        let list = join(set.alloc, slice::from_ref(a), &[])?;
+        let list = join(set.members.allocator(), slice::from_ref(a), &[])?;
         Ok(CtxSet::add(&list, set)?)
     }
 
@@ -157,10 +145,7 @@ impl CtxSet {
         ensures exact { IfOk result (λ copy. copy ≡ self.now) }
     {
         let members = self.members.share()?;
-        Ok(CtxSet {
-            alloc: self.alloc,
-            members,
-        })
+        Ok(CtxSet { members })
     }
 
     /// Whether the two sets have the same members. It takes no memory.

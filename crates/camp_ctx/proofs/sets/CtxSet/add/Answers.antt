@@ -20,7 +20,7 @@ pub invariant_of-result : goal.invariant_of-result
 invariant_of-result c =
     let sum : EachMember (AddsAll c.args.r.now) c.args.set.now (map_of key_cmp c.loop-index.members) =
     all_added c.args.r.now _ c.args.set.now _ _ _ c.set.view_is c.len-index-end.ensures.value c.loop-index-test.false c.loop-index.invariant in
-    subst AreKeyed (sym c.in_ok-into_map.ensures.exact) (keyed_sum c.args.r.now c.args.set.now _ sum (subst AreKeyed c.set.view_is c.set.invariant))
+    subst AreKeyed (sym c.in_ok-members-2.ensures.exact) (keyed_sum c.args.r.now c.args.set.now _ sum (subst AreKeyed c.set.view_is c.set.invariant))
 
 pub returns : goal.returns
-returns c = record { exact = subst (EachMember (AddsAll c.args.r.now) c.args.set.now) (sym c.in_ok-into_map.ensures.exact) (all_added c.args.r.now _ c.args.set.now _ _ _ c.set.view_is c.len-index-end.ensures.value c.loop-index-test.false c.loop-index.invariant) }
+returns c = record { exact = subst (EachMember (AddsAll c.args.r.now) c.args.set.now) (sym c.in_ok-members-2.ensures.exact) (all_added c.args.r.now _ c.args.set.now _ _ _ c.set.view_is c.len-index-end.ensures.value c.loop-index-test.false c.loop-index.invariant) }
