@@ -1,6 +1,5 @@
 -- Sets whose members change.
-use Rattle.camp_ctx.proofs.Words.{◌≡◌, true, false, cond, T, ◌&&◌, Option, None, Some, List, [], ◌∷◌, map, refl, sym, ap, ◌∙◌, subst, option_map, get, entries, entries_sorted, from_sorted, is_sorted, find, same_map, get-from_sorted, get-entries, below_all, is_lt, eq_by_cmp, same_Some, Files, Named, Adds, AddsAll, ContextedPatch, ContextedPatches, ChangesAt, EachMember, key_cmp, Key, GivesOne}
-use Rattle.camp_ctx.proofs.Words.{AlwaysGives, Applies, AppliesAll, KeepsValid, KeepsMembersValid, key_total, key_ties}
+use Rattle.camp_ctx.proofs.Words.{◌≡◌, true, false, cond, T, ◌&&◌, Option, None, Some, List, [], ◌∷◌, map, refl, sym, ap, ◌∙◌, subst, option_map, get, entries, entries_sorted, from_sorted, is_sorted, find, same_map, get-from_sorted, get-entries, below_all, is_lt, eq_by_cmp, same_Some, Files, Named, Adds, AddsAll, ContextedPatch, ContextedPatches, ChangesAt, EachMember, key_cmp, Key, GivesOne, AlwaysGives, Applies, AppliesAll, KeepsValid, KeepsMembersValid, key_total, key_ties}
 use Rattle.camp_ctx.specs.Laws.{AddingGives, AreDetermined, EmptyChangesNothing, KeepValid}
 use Rattle.camp_ctx.proofs.AddResults.{add_exists, add_of_all_exists, one_add, one_add_of_all, one_passing_by, one_passing_of_all}
 use Rattle.camp_ctx.proofs.AddValid.{valid_by_adding, valid_by_adding_all, valid_by_passing, valid_by_passing_all}

@@ -1,7 +1,6 @@
 -- What bodies of sets know at their answers.
 use Rattle.std.proofs.Common.{is_some}
-use Rattle.camp_ctx.proofs.Words.{nil_from_length, ◌≡◌, ℕ, suc, ◌+◌, ◌<◌, ◌≤◌, Bool, true, false, cond, Option, Some, None, List, [], ◌∷◌, length, take, map, refl, sym, ap, ◌∙◌, subst, arith, length-map, take_all, same_Some, none-some, slice_get-map, fold, slice_get, option_map, eq_by_cmp, Equal-is, empty, get, contains_key, insert, remove, entries, entries_sorted, len, get-empty, get-entries, get-insert}
-use Rattle.camp_ctx.proofs.Words.{same_lists, unwrap_or, unwrap_or-slice_get, slice_get_cases, inl, inr, get-remove, same_entries_map, entries-insert, len-entries, len-empty, find, put, find-append, key_cmp, Key, Named, key_total, key_ties, AddsAll, ContextedPatch, ContextedPatches, context_key, only, with_member, AreKeyed, ChangesAt, EachMember}
+use Rattle.camp_ctx.proofs.Words.{nil_from_length, ◌≡◌, ℕ, suc, ◌+◌, ◌<◌, ◌≤◌, Bool, true, false, cond, Option, Some, None, List, [], ◌∷◌, length, take, map, refl, sym, ap, ◌∙◌, subst, arith, length-map, take_all, same_Some, none-some, slice_get-map, fold, slice_get, option_map, eq_by_cmp, Equal-is, empty, get, contains_key, insert, remove, entries, entries_sorted, len, get-empty, get-entries, get-insert, same_lists, unwrap_or, unwrap_or-slice_get, slice_get_cases, inl, inr, get-remove, same_entries_map, entries-insert, len-entries, len-empty, find, put, find-append, key_cmp, Key, Named, key_total, key_ties, AddsAll, ContextedPatch, ContextedPatches, context_key, only, with_member, AreKeyed, ChangesAt, EachMember}
 use Rattle.camp_ctx.proofs.AddResults.{same_key_of_sum}
 use Rattle.camp_ctx.proofs.EntrySteps.{take_push, found_at, not_before}
 use Rattle.camp_ctx.proofs.SetChanges.{member_before}

@@ -1,10 +1,9 @@
 -- What stays as it is where a primitive passes it as it is.
-use Rattle.camp_ctx.proofs.Words.{◌≡◌, ◌∙◌, ℕ, suc, get_or, ◌<◌, ◌≤◌, length, Some, Bool, true, false, cond, List, [], ◌∷◌, ◌++◌, map, refl, sym, ap, subst, inl, inr, arith, slice_get, none-some, same_Some, entries, get-entries, len, len-entries, find, eq_by_cmp, inverse_of, label_of, key_of, key_cmp, Commute, Key, Label, Named, inverse_of-inverse_of, Norm, Splits, Parts, Passes, passes_row, chain_is_ordered, Adds, PassesBy}
+use Rattle.camp_ctx.proofs.Words.{◌≡◌, ◌∙◌, ℕ, suc, get_or, ◌<◌, ◌≤◌, length, Some, Bool, true, false, cond, List, [], ◌∷◌, ◌++◌, map, refl, sym, ap, subst, inl, inr, arith, slice_get, none-some, same_Some, entries, get-entries, len, len-entries, find, eq_by_cmp, inverse_of, label_of, key_of, key_cmp, Commute, Key, Label, Named, inverse_of-inverse_of, Norm, Splits, Parts, Passes, passes_row, chain_is_ordered, Adds, PassesBy, commute, MergesBehindCommon, common_labels, has_label, Conflict, ChangesAt, ContextedPatches, EachMember, ContextedPatch, whole}
 use Rattle.std.proofs.lemmas.List.Folds.{list_any-append}
 use Rattle.std.proofs.Common.{◌||◌}
 use Rattle.std.proofs.lemmas.Bool.{false_from_ne_true}
 use Rattle.camp_prim.specs.Labels.{label_cmp}
-use Rattle.camp_ctx.proofs.Words.{commute, MergesBehindCommon, common_labels, has_label, Conflict, ChangesAt, ContextedPatches, EachMember, ContextedPatch, whole}
 use Rattle.camp_ctx.specs.Contexts.{bare}
 use Rattle.camp_ctx.specs.Inside.Apart.{LacksLabels, NoCleanMerge}
 use Rattle.camp_ctx.proofs.CommonLabels.{IsIn, in_from_fronts, in_from_has}
