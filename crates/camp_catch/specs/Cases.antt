@@ -1,7 +1,6 @@
 -- The cases of commuting exclude one another, and so do those of merging.
 use Rattle.camp_prim.specs.declared.named.Named.{Named}
-use Rattle.camp_catch.specs.Commuting.{PlainPastConflictor, TwoConflictorsApart, ConflictDissolves, PlainLeavesTheSet}
-use Rattle.camp_catch.specs.Commuting.{OnlyConflictGoes, OneOfSeveralConflicts}
+use Rattle.camp_catch.specs.Commuting.{PlainPastConflictor, TwoConflictorsApart, ConflictDissolves, PlainLeavesTheSet, OnlyConflictGoes, OneOfSeveralConflicts}
 use Rattle.camp_catch.specs.Merging.{Clean, FirstConflict, PlainBesideConflictor, PlainJoinsConflictor}
 use Rattle.camp_catch.specs.declared.catches.Catch.{Catch}
 use Rattle.camp_catch.specs.declared.catches.Conflictor.{Conflictor}
