@@ -46,7 +46,7 @@ fn both_plain(a: &Named, b: &Named) -> Result<Option<(Catch, Catch)>, AllocError
     Ok(Some((Catch::Plain(b), Catch::Plain(a))))
 }
 
-/// A plain catch before a conflictor: it is not in the conflictor's set, or it is.
+/// A plain catch before a conflictor: it is not in the conflictor's set, or it is there alone, or as one of several.
 fn plain_before_conflictor(
     alloc: Global,
     a: &Named,
@@ -56,24 +56,8 @@ fn plain_before_conflictor(
 {
     match k.conflicts.get(&a.label().key()) {
         None => plain_past_conflictor(a, k),
-        Some(z) => plain_in_the_set(alloc, a, k, z),
-    }
-}
-
-/// A plain catch before a conflictor in whose set it is, alone or as one of several.
-fn plain_in_the_set(
-    alloc: Global,
-    a: &Named,
-    k: &Conflictor,
-    z: &Contexted,
-) -> Result<Option<(Catch, Catch)>, AllocError>
-    requires { get k.now.conflicts (patch_key a.now) ≡ Some z.now }
-    ensures { IfOk result (FindsPair (CommutePlainConflictor a.now k.now)) }
-{
-    if k.conflicts.len() == 1 {
-        conflict_dissolves(alloc, a, k)
-    } else {
-        plain_leaves_the_set(alloc, a, k, z)
+        Some(_) if k.conflicts.len() == 1 => conflict_dissolves(alloc, a, k),
+        Some(z) => plain_leaves_the_set(alloc, a, k, z),
     }
 }
 

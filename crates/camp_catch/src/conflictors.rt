@@ -16,7 +16,7 @@ use camp_prim::{Key, Label, Named};
 use camp_seq::{Seq, ordered, past_all, split};
 use std::alloc::{AllocError, Global};
 
-/// Two conflictors: the first is not in the second's set, or it is.
+/// Two conflictors: the first is not in the second's set, or it is there alone, or as one of several.
 pub(crate) fn commute_conflictors(
     alloc: Global,
     j: &Conflictor,
@@ -26,23 +26,8 @@ pub(crate) fn commute_conflictors(
 {
     match k.conflicts.get(&j.identity.key()) {
         None => two_conflictors_apart(alloc, j, k),
-        Some(_) => conflictor_in_the_set(alloc, j, k),
-    }
-}
-
-/// Two conflictors, the first of which is in the second's set, alone or as one of several.
-fn conflictor_in_the_set(
-    alloc: Global,
-    j: &Conflictor,
-    k: &Conflictor,
-) -> Result<Option<(Catch, Catch)>, AllocError>
-    requires { (z : ContextedPatch) × (get k.now.conflicts (context_key j.now.identity) ≡ Some z) }
-    ensures { IfOk result (FindsPair (CommuteConflictors j.now k.now)) }
-{
-    if k.conflicts.len() == 1 {
-        only_conflict_goes(alloc, j, k)
-    } else {
-        one_of_several_conflicts(alloc, j, k)
+        Some(_) if k.conflicts.len() == 1 => only_conflict_goes(alloc, j, k),
+        Some(_) => one_of_several_conflicts(alloc, j, k),
     }
 }
 
