@@ -1,13 +1,11 @@
 ghost use Rattle.std.specs.Prelude.{◌≡◌, IfOk};
 ghost use Rattle.camp_base.specs.Answers.{FindsPair};
-ghost use Rattle.camp_prim.specs.declared.named.Named.{Named};
-ghost use Rattle.camp_seq.specs.Merging.{Merges};
 ghost use Rattle.camp_seq.specs.Running.{inverse_all};
 ghost use Rattle.camp_ctx.specs.Adding.{AddsAll};
 ghost use Rattle.camp_ctx.specs.Conflicts.{Conflict};
 ghost use Rattle.camp_ctx.specs.Contexts.{ContextedPatch, bare};
 ghost use Rattle.camp_catch.specs.Inside.TwoConflictors.{EffectsMerge, JoinEachOther, TellsConflict, TellsPlainConflict};
-ghost use Rattle.camp_catch.specs.Merging.{Clean, FirstConflict, MergeCatch, MergePlainConflictor, Mirror, PlainBesideConflictor, PlainJoinsConflictor, TwoConflictors};
+ghost use Rattle.camp_catch.specs.Merging.{Clean, MergeCatch, MergePlainConflictor, Mirror, PlainBesideConflictor, PlainJoinsConflictor, TwoConflictors};
 ghost use Rattle.camp_catch.specs.declared.catches.Catch.TheVariants.{Plain};
 
 use crate::seen::{against, both_behind, in_conflict_with, joined, one_before, takes_back};
@@ -36,10 +34,13 @@ pub fn merge(alloc: Global, j: &Catch, k: &Catch) -> Result<Option<(Catch, Catch
 fn both_plain(alloc: Global, a: &Named, b: &Named) -> Result<Option<(Catch, Catch)>, AllocError>
     ensures exact { IfOk result (FindsPair (MergeCatch (Plain a.now) (Plain b.now))) }
 {
-    match clean(a, b)? {
-        Some(pair) => Ok(Some(pair)),
-        None => Ok(Some(first_conflict(alloc, a, b)?)),
+    if let Some(pair) = clean(a, b)? {
+        return Ok(Some(pair));
     }
+    // `[a] | [b] -> ([a^], {:a}, :b) | ([b^], {:b}, :a)`
+    let after = against(alloc, a, b)?;
+    let beside = against(alloc, b, a)?;
+    Ok(Some((Catch::Conflictor(after), Catch::Conflictor(beside))))
 }
 
 /// `[a] | [b] -> [b'] | [a']`
@@ -50,16 +51,6 @@ fn clean(a: &Named, b: &Named) -> Result<Option<(Catch, Catch)>, AllocError>
         return Ok(None);
     };
     Ok(Some((Catch::Plain(b), Catch::Plain(back.invert()))))
-}
-
-/// `[a] | [b] -> ([a^], {:a}, :b) | ([b^], {:b}, :a)`
-fn first_conflict(alloc: Global, a: &Named, b: &Named) -> Result<(Catch, Catch), AllocError>
-    requires { (b' a' : Named) → ¬ (Merges a.now b.now b' a') }
-    ensures { IfOk result (λ pair. FirstConflict a.now b.now pair.0 pair.1) }
-{
-    let after = against(alloc, a, b)?;
-    let beside = against(alloc, b, a)?;
-    Ok((Catch::Conflictor(after), Catch::Conflictor(beside)))
 }
 
 /// A plain catch and a conflictor: the plain one joins the conflictor's set where it conflicts with
