@@ -12,8 +12,8 @@ ghost use Rattle.camp_catch.specs.Conflictors.{Becomes};
 ghost use Rattle.camp_catch.specs.declared.catches.Catch.TheVariants.{Plain};
 
 use crate::conflictors::commute_conflictors;
-use crate::seen::{against, has_no_context, in_conflict_with, passes_before, without_member};
-use crate::values::{inverse, is_bare, one, undoes};
+use crate::seen::{against, in_conflict_with, passes_before, without_member};
+use crate::values::{inverse, one};
 use crate::{Catch, Conflictor};
 use camp_ctx::Contexted;
 use camp_prim::Named;
@@ -135,20 +135,10 @@ fn conflict_dissolves(
 ) -> Result<Option<(Catch, Catch)>, AllocError>
     ensures { IfOk result (FindsPair (ConflictDissolves a.now k.now)) }
 {
-    let Some(x) = k.conflicts.sole() else {
-        return Ok(None);
-    };
-    if !is_bare(x, a) {
-        return Ok(None);
-    }
-    if !has_no_context(&k.identity) {
-        return Ok(None);
-    }
-    let undone = undoes(&k.effect, a)?;
-    if !undone {
-        return Ok(None);
-    }
     let q = k.identity.patch();
+    if !k.is_same(&against(alloc, a, q)?) {
+        return Ok(None);
+    }
     let first = against(alloc, q, a)?;
     let second = q.try_clone()?;
     Ok(Some((Catch::Plain(second), Catch::Conflictor(first))))

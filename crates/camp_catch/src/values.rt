@@ -1,4 +1,4 @@
-ghost use Rattle.std.specs.Prelude.{◌≡◌, ◌↔◌, ◌&&◌, [], ◌∷◌, IfOk, IsTrue};
+ghost use Rattle.std.specs.Prelude.{◌≡◌, ◌&&◌, [], ◌∷◌, IfOk};
 ghost use Rattle.std.specs.FinMap.{contains_key};
 ghost use Rattle.camp_prim.specs.Effect.{inverse_of};
 ghost use Rattle.camp_ctx.specs.Contexts.{bare, only, patch_key};
@@ -37,25 +37,6 @@ pub(crate) fn alone(alloc: Global, x: &Contexted) -> Result<CtxSet, AllocError>
     ensures { IfOk result (λ set. set ≡ only x.now) }
 {
     CtxSet::empty(alloc).insert(x)
-}
-
-/// Whether a list is the inverse of `a` and no more.
-pub(crate) fn undoes(s: &Seq, a: &Named) -> Result<bool, AllocError>
-    ensures { IfOk result (λ found. IsTrue found ↔ (s.now ≡ inverse_of a.now ∷ [])) }
-{
-    let items = s.items();
-    if items.len() != 1 {
-        return Ok(false);
-    }
-    let back = items[0].try_clone()?;
-    Ok(back.invert().is_same(a))
-}
-
-/// Whether a contexted patch is `:p`.
-pub(crate) fn is_bare(x: &Contexted, p: &Named) -> bool
-    ensures { IsTrue result ↔ (x.now ≡ bare p.now) }
-{
-    x.context().items().is_empty() && x.patch().is_same(p)
 }
 
 /// Whether an element is an inverse whose absolute label stands in a set.
