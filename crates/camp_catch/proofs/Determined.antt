@@ -1,5 +1,5 @@
 -- Relations that have at most one result, where it is decided whether they have one.
-use Rattle.camp_catch.proofs.Words.{None, Option, Some, ap, inl, inr, refl, subst, sym, ◌∙◌, ◌≡◌, ◌⊎◌, same_Some, Decided, decided_by}
+use Rattle.camp_catch.proofs.Words.{None, Option, Some, ap, inl, inr, refl, subst, sym, ◌∙◌, ◌≡◌, ◌⊎◌, same_Some, Decided, decided_by, GivesOnePair}
 
 -- a relation has at most one result, and it is decided whether it has one
 pub record Determined {X : Type 0} (Gives : X → Type 0) : Type 0 where
@@ -50,6 +50,12 @@ either apart one other = record {
 -- a relation of two results, as one of a pair
 pub pairs : {X Y : Type 0} {Gives : X → Y → Type 0} → ((x z : X) (y w : Y) → Gives x y → Gives z w → (x ≡ z) × (y ≡ w)) → Decided ((x : X) × (y : Y) × Gives x y) → Determined (λ (p : X × Y). Gives p.0 p.1)
 pairs one decided = record { one = λ p q v w. let e = one p.0 q.0 p.1 q.1 v w in λ t. (e.0 t, e.1 t); decided = decided_by (λ w. ((w.0, w.1), w.2)) (λ w. (w.0.0, w.0.1, w.1)) decided }
+
+-- and back
+pub one_pair : {X Y : Type 0} (Gives : X → Y → Type 0) → ((p q : X × Y) → Gives p.0 p.1 → Gives q.0 q.1 → p ≡ q) → GivesOnePair Gives
+one_pair {X} {Y} Gives one x z y w v u =
+    let same = one (x, y) (z, w) v u in
+    (ap (λ (p : X × Y). p.0) same, ap (λ (p : X × Y). p.1) same)
 
 -- a relation that always has a result
 pub always : {X : Type 0} {Gives : X → Type 0} → ((x y : X) → Gives x → Gives y → x ≡ y) → (x : X) × Gives x → Determined Gives

@@ -1,10 +1,6 @@
 -- Catches that fit one after the other, and what keeps the members of sets valid.
 use Rattle.camp_catch.proofs.Words.{Bool, List, None, Option, Some, [], cond, false, refl, subst, sym, true, ◌++◌, ◌∷◌, ◌≡◌, same_Some, contains_key, empty, get, get-empty, get-insert, get-remove, insert, remove, eq_by_cmp, Files, applies_once, inverse_of-inverse_of, leads_back, key_total, Applies, inverse_of, key_cmp, Key, Named, passed, cut_run, joined_runs, row_passes, ◌~◌, MergesOne, AppliesAll, run_along, valid_by_adding_all, members_valid, AddsAll, AreValid, ContextedPatch, ContextedPatches, Valid, context_key, only, KeepsValid, Fits, IsSeenFrom, Becomes, joined_by, Catch, Plain, Conflictor}
 
--- two catches that fit, one after the other
-abbrev pub FitBoth : Catch → Catch → Files → Files → Type 0
-FitBoth j k old new = (between : Files) × Fits j old between × Fits k between new
-
 pub plain_fits : (a : Named) (old new : Files) → AppliesAll (a ∷ []) old new → Fits (Plain a) old new
 plain_fits a old new run = record { effect = run; seen = tt }
 

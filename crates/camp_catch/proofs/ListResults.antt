@@ -1,7 +1,7 @@
 -- What lists of catches become is determined: one result, or one place where they stick, and never both.
-use Rattle.camp_catch.proofs.Words.{Contains, List, [], ap, inl, inr, refl, ℕ, ◌++◌, ◌↔◌, ◌∷◌, ◌≡◌, ◌⊎◌, Decided, Key, among_or_not, keys_or_not, bytes_or_not, Align, AlignSticks, ArrangesBehind, ComesBefore, ComesFirst, IsOf, SticksBehind, StopsAt, catch_key, ArrangeByMembers, CatchesAreDecided, GivesOnePair, HasPair, ListsAreUnique, ListsSucceedOrStick, OneOf, MergeLists, MergeSticks, MergesWithAll, SticksWithin, Catch}
+use Rattle.camp_catch.proofs.Words.{Contains, List, [], ap, inl, inr, refl, ℕ, ◌++◌, ◌↔◌, ◌∷◌, ◌⊎◌, Key, among_or_not, keys_or_not, bytes_or_not, Align, AlignSticks, ArrangesBehind, ComesBefore, ComesFirst, SticksBehind, StopsAt, catch_key, ArrangeByMembers, CatchesAreDecided, HasPair, ListsAreUnique, ListsSucceedOrStick, OneOf, MergeLists, MergeSticks, MergesWithAll, SticksWithin, Catch}
 use Rattle.camp_catch.proofs.CommuteCases.{IsDetermined, commuting}
-use Rattle.camp_catch.proofs.Determined.{Determined, chain, either, just, made_of, not_or_not, where_holds}
+use Rattle.camp_catch.proofs.Determined.{Determined, chain, either, just, made_of, not_or_not, one_pair, where_holds}
 use Rattle.camp_catch.proofs.MergeCases.{merging}
 use Rattle.camp_catch.proofs.Settled.{Settled, at_once, both_at_once, beside, by_cases, next, settled_as, settles}
 
@@ -17,14 +17,11 @@ coming (j ∷ list) k =
       | inr s ↦ inr ((s.0, s.1), s.2, ((λ x w. s.3 x.0 x.1 w), s.4))
     ])
 
-is_of_or_not : (names : List (List ℕ)) (k : Catch) → Decided (IsOf names k)
-is_of_or_not names k = among_or_not bytes_or_not names (catch_key k).name
-
 arranging : (names : List (List ℕ)) (rest list : List Catch) → Settled (λ (p : List Catch × List Catch). ArrangesBehind names rest list p.0 p.1) (λ (s : Key × Key). SticksBehind names rest list s.0 s.1)
 arranging names rest [] = both_at_once [] rest
 arranging names rest (k ∷ list) =
     let come = settled_as (next (beside (catch_key k) (coming rest k)) (λ p w. arranging names p.1 list)) (λ x. (x.0.0 ∷ x.1.0, x.1.1)) (λ x w. (x.0.0, x.0.1, x.1.0, w.0, w.1, refl)) (λ y c. (((c.0, c.1), (c.2, y.1)), (c.3, c.4), λ t. (c.5 t, y.1))) (λ on v. v) (λ on v. v) in
-    settled_as (by_cases (is_of_or_not names k) come (arranging names (rest ++ k ∷ []) list)) (λ x. x) (λ x w. w) (λ y w. (y, w, refl)) (λ s v. elim v [
+    settled_as (by_cases (among_or_not bytes_or_not names (catch_key k).name) come (arranging names (rest ++ k ∷ []) list)) (λ x. x) (λ x w. w) (λ y w. (y, w, refl)) (λ s v. elim v [
       | inl w ↦ elim w.1 [ inl u ↦ inl (w.0, u.0, u.1) | inr u ↦ inr (inl (w.0, (u.0.0, u.0.1, u.1, u.2))) ]
       | inr w ↦ inr (inr w)
     ]) (λ s v. elim v [
@@ -66,11 +63,6 @@ merging_lists : (p q : List Catch) → Settled (λ (r : List Catch × List Catch
 merging_lists [] q = both_at_once [] q
 merging_lists (k ∷ p) q =
     settled_as (next (merging_with_all q k) (λ r w. merging_lists p r.1)) (λ x. (x.0.0 ∷ x.1.0, x.1.1)) (λ x w. (x.0.0, x.0.1, x.1.0, w.0, w.1, refl)) (λ y c. (((c.0, c.1), (c.2, y.1)), (c.3, c.4), λ t. (c.5 t, y.1))) (λ s v. elim v [ inl w ↦ inl w | inr w ↦ inr (w.0.0, w.0.1, w.1, w.2) ]) (λ s v. elim v [ inl w ↦ inl w | inr w ↦ inr ((w.0, w.1), w.2, w.3) ])
-
-one_pair : {X Y : Type 0} (Gives : X → Y → Type 0) → ((p q : X × Y) → Gives p.0 p.1 → Gives q.0 q.1 → p ≡ q) → GivesOnePair Gives
-one_pair {X} {Y} Gives one x z y w v u =
-    let same = one (x, y) (z, w) v u in
-    (ap (λ (p : X × Y). p.0) same, ap (λ (p : X × Y). p.1) same)
 
 pub lists_are_unique : ListsAreUnique
 lists_are_unique = record {

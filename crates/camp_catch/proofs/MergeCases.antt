@@ -1,7 +1,7 @@
 -- The cases of merging exclude one another, and each is determined.
 use Rattle.camp_catch.proofs.Words.{List, ap, refl, subst, sym, ◌∷◌, inverse_of-inverse_of, Decided, decided_by, swap_or_not, swap_unique, inverse_of, Commute, Named, passes_row, row_passes, Merges, MergesOne, inverse_all, one_add_of_all, one_merge_behind, conflict_or_not, merge_behind_or_not, Conflict, ContextedPatch, bare, MergeCasesExclude, against, in_conflict_with, joined_by, with_effect, MergeIsUnique, Clean, FirstConflict, JoinsWhere, MergeCatch, MergePlainConflictor, Mirror, PlainBesideConflictor, PlainJoinsConflictor, TwoConflictors, Catch, Plain, Conflictor}
 use Rattle.camp_catch.proofs.CommuteCases.{IsDetermined}
-use Rattle.camp_catch.proofs.Determined.{Determined, both, chain, either, just, made_of, not_or_not, pairs, where_holds}
+use Rattle.camp_catch.proofs.Determined.{Determined, both, chain, either, just, made_of, not_or_not, one_pair, pairs, where_holds}
 use Rattle.camp_catch.proofs.PartsDetermined.{adds_all, adds_to, all_added_to, one_passes, order}
 
 -- two primitives merge cleanly where the inverse of the first commutes
@@ -96,6 +96,4 @@ merging (Catch.Conflictor j) (Plain b) = mirror j b
 merging (Catch.Conflictor j) (Catch.Conflictor k) = two_conflictors j k
 
 pub one_merging : MergeIsUnique
-one_merging j k k' j' l i v w =
-    let same = (merging j k).one (k', j') (l, i) v w in
-    (ap (λ (p : Catch × Catch). p.0) same, ap (λ (p : Catch × Catch). p.1) same)
+one_merging j k k' j' l i = one_pair (MergeCatch j k) (merging j k).one k' l j' i

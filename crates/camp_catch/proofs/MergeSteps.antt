@@ -1,12 +1,8 @@
 -- What the bodies of merging know at their answers.
 use Rattle.camp_catch.specs.Inside.TwoConflictors.{EffectsMerge, JoinEachOther, TellsConflict}
-use Rattle.camp_catch.proofs.Words.{Bool, IsTrue, List, Option, ap, false, inl, inr, not, refl, subst, sym, true, ◌∙◌, ◌≡◌, FindsPair, inverse_of-inverse_of, inverse_of, Named, passes_row, MergesOne, Norm, Passes, inverse_all, add_of_all_exists, one_add_of_all, members_change, Adds, AddsAll, Conflict, ContextedPatch, ContextedPatches, EachMember, bare, Becomes, joined_by, MergesBehind, MergePlainConflictor, PlainBesideConflictor, TwoConflictors, Catch, Plain, Conflictor}
+use Rattle.camp_catch.proofs.Words.{Bool, IsTrue, List, Option, ap, inl, inr, refl, subst, sym, ◌∙◌, ◌≡◌, FindsPair, inverse_of-inverse_of, inverse_of, Named, passes_row, MergesOne, Norm, Passes, inverse_all, add_of_all_exists, one_add_of_all, members_change, Adds, AddsAll, Conflict, ContextedPatch, ContextedPatches, EachMember, bare, Becomes, joined_by, MergesBehind, MergePlainConflictor, PlainBesideConflictor, TwoConflictors, Catch, Plain, Conflictor}
 use Rattle.camp_catch.proofs.MergeEffects.{joins_alike}
 use Rattle.camp_catch.proofs.CommuteSteps.{finds_as}
-
-pub false_of_not : (b : Bool) → IsTrue (not b) → b ≡ false
-false_of_not true is = cc
-false_of_not false is = refl
 
 -- a list that the inverse of a passes merges cleanly with a, which is what comes out turned back
 pub row_of : (a : Named) (s merged : List Named) (back' a' : Named) → a' ≡ inverse_of back' → Passes (inverse_of a) s merged back' → MergesOne a s merged a'

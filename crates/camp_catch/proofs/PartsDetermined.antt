@@ -44,11 +44,7 @@ all_or_not Holds each (x ∷ xs) = elim (each x) [
   | inr never ↦ inr (λ w. never (All-head Holds x xs w))
 ]
 
--- no element of a list has this label
-abbrev pub LacksKey : Key → List Named → Type 0
-LacksKey key s = All (λ p. patch_key p ≢ key) s
-
-pub lacks_or_not : (key : Key) (s : List Named) → Decided (LacksKey key s)
+pub lacks_or_not : (key : Key) (s : List Named) → Decided (All (λ p. patch_key p ≢ key) s)
 lacks_or_not key s = all_or_not (λ p. patch_key p ≢ key) (λ p. not_or_not (keys_or_not (patch_key p) key)) s
 
 abbrev conflictor_of : List Named × (ContextedPatches × ContextedPatch) → Conflictor
