@@ -4,14 +4,12 @@ ghost use Rattle.camp_catch.specs.ListLaws.{ArrangeByMembers, CatchesAreDecided,
 
 /// Where two catches fit a tree one after the other, so do those that they become, and both orders
 /// end in one tree.
-#[tactic(auto, using(crate::proofs::CommuteEffects::commute_keeps_effects))]
 pub fn commute_keeps_effects()
     ensures law { CommuteKeepsEffects }
 {}
 
 /// Where two catches fit one tree, each of those that they become fits after the other, and both
 /// orders end in one tree.
-#[tactic(auto, using(crate::proofs::MergeEffects::merge_keeps_effects))]
 pub fn merge_keeps_effects()
     ensures law { MergeKeepsEffects }
 {}
@@ -29,7 +27,6 @@ pub fn cases_exclude_one_another()
 {}
 
 /// What two catches become by changing places is determined, whichever of the cases gives it.
-#[tactic(auto, using(crate::proofs::CommuteCases::one_commuting))]
 pub fn commute_is_unique()
     ensures law { CommuteIsUnique }
 {}
@@ -41,7 +38,6 @@ pub fn merge_cases_exclude()
 {}
 
 /// What two catches become by merging is determined, whichever of the cases gives it.
-#[tactic(auto, using(crate::proofs::MergeCases::one_merging))]
 pub fn merge_is_unique()
     ensures law { MergeIsUnique }
 {}
@@ -85,14 +81,12 @@ pub fn arrange_goes_by_members()
 
 /// Of plain catches with room: what stops those of some names on their way to the front comes along
 /// wherever these come there with others.
-#[tactic(auto, using(crate::proofs::PlainArranging::what_stops_comes_along))]
 pub fn what_stops_comes_along()
     ensures law { WhatStopsComesAlong }
 {}
 
 /// Of plain catches with room: those of some names that come to the front come there behind those of
 /// others too.
-#[tactic(auto, using(crate::proofs::PlainArranging::fronts_come_behind_fronts))]
 pub fn fronts_come_behind_fronts()
     ensures law { FrontsComeBehindFronts }
 {}
