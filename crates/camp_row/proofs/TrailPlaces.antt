@@ -1,6 +1,6 @@
 -- A place of a trail, before the entries that lie before it are seen.
-use Rattle.camp_row.proofs.Words.{◌≡◌, ℕ, zero, suc, ◌+◌, ◌-◌, ◌<◌, List, [], ◌∷◌, ◌++◌, length, slice_get, Some, sym, refl, ap, ◌∙◌, subst, arith, length-append, append-nil, append_assoc, same_Some, Entry, PassInside, RowInside, cell_of, Known, Leads, cells_back, Part, IsSoundPart, part, known, get_or, slice_get_read}
-use Rattle.camp_row.proofs.TrailSteps.{length-cells_back, IsOf, Held, held}
+use Rattle.camp_row.proofs.Words.{◌≡◌, ℕ, zero, suc, ◌+◌, ◌-◌, ◌<◌, List, [], ◌∷◌, ◌++◌, length, slice_get, Some, sym, refl, ap, ◌∙◌, subst, arith, length-append, append-nil, append_assoc, same_Some, Entry, cell_of, Known, Leads, Stands, cells_back, get_or, slice_get_read}
+use Rattle.camp_row.proofs.TrailSteps.{length-cells_back}
 
 -- the entry at a place of a list, and its cell
 record Placed (seats : ℕ) (before left : List Entry) (index cell : ℕ) : Type 0 where
@@ -49,27 +49,22 @@ placed seats before (x ∷ left) (suc index) up cell sum at =
       cell_is = rest.cell_is ∙ ap (λ b. cell_of seats b rest.entry) (append_assoc before (x ∷ []) rest.mid);
     }
 
--- the entry at a place of the trail, as the pass's part sees it
-pub record StandsAt (pass : PassInside) (row : RowInside) (index cell : ℕ) : Type 0 where
-  pub before : List Entry
-  pub entry : Entry
-  pub later : List Entry
-  pub cut : before ++ entry ∷ later ≡ (part pass).ahead
-  pub place : slice_get (part pass).ahead (length (part pass).seen + index) ≡ Some entry
-  pub held : Held pass row before entry cell
+-- the entry at a place of the trail
+pub record StandsAt (known : Known) (index cell : ℕ) : Type 0 where
+  pub stands : Stands known cell
+  pub place : slice_get known.ahead (length known.seen + index) ≡ Some stands.entry
 
 -- the cell that lies so far below the top
-pub stands_below : {pass : PassInside} {row : RowInside} {k : Known} {cells trail : List ℕ} {index len cell : ℕ} → IsOf pass row → IsSoundPart (part pass) → known pass ≡ k → cells ≡ trail → Leads k k.seen trail
-    → len ≡ length cells → index < length trail → cell ≡ get_or cells (len - 1 - index) cell → StandsAt pass row index cell
-stands_below {pass} {k = k} {cells} {trail} {index} {len} {cell} of sound pass_is trail_is leads len_is index_below read =
-    let p : Part = part pass in
+pub stands_below : {known : Known} {cells trail : List ℕ} {index len cell : ℕ} → cells ≡ trail → Leads known known.seen trail → len ≡ length cells → index < length trail → cell ≡ get_or cells (len - 1 - index) cell → StandsAt known index cell
+stands_below {known} {cells} {trail} {index} {len} {cell} trail_is leads len_is index_below read =
     let same : length cells ≡ length trail = ap length trail_is in
-    let l = subst (λ (x : Known). Leads x x.seen cells) (sym pass_is) (subst (Leads k k.seen) (sym trail_is) leads) in
-    let long : length cells ≡ length l.left = ap length l.cells ∙ length-cells_back p.seats p.seen l.left in
+    let long : length trail ≡ length leads.left = ap length leads.cells ∙ length-cells_back known.row.seats known.seen leads.left in
     let at : slice_get cells (len - 1 - index) ≡ Some cell = slice_get_read cells len (len - 1 - index) cell len_is (omega arith) read in
-    let here = placed p.seats p.seen l.left index (len - 1 - index) cell (omega arith) (ap (λ c. slice_get c (len - 1 - index)) (sym l.cells) ∙ at) in
-    let before : List Entry = p.seen ++ here.mid in
-    let cut : before ++ here.entry ∷ here.later ≡ p.ahead = append_assoc p.seen here.mid (here.entry ∷ here.later) ∙ ap (λ xs. p.seen ++ xs) here.is ∙ l.is in
-    let far : length before ≡ length p.seen + index = length-append p.seen here.mid ∙ ap (λ n. length p.seen + n) here.place in
-    let place : slice_get p.ahead (length p.seen + index) ≡ Some here.entry = subst (λ xs. slice_get xs (length p.seen + index) ≡ Some here.entry) cut (get_after before here.entry here.later (length p.seen + index) far) in
-    record { before = before; entry = here.entry; later = here.later; cut = cut; place = place; held = held here.later of sound cut here.cell_is }
+    let here = placed known.row.seats known.seen leads.left index (len - 1 - index) cell (omega arith) (ap (λ c. slice_get c (len - 1 - index)) (sym (trail_is ∙ leads.cells)) ∙ at) in
+    let before : List Entry = known.seen ++ here.mid in
+    let cut : before ++ here.entry ∷ here.later ≡ known.ahead = append_assoc known.seen here.mid (here.entry ∷ here.later) ∙ ap (λ xs. known.seen ++ xs) here.is ∙ leads.is in
+    let far : length before ≡ length known.seen + index = length-append known.seen here.mid ∙ ap (λ n. length known.seen + n) here.place in
+    record {
+      stands = record { before = before; entry = here.entry; later = here.later; is = cut; cell_is = here.cell_is };
+      place = subst (λ xs. slice_get xs (length known.seen + index) ≡ Some here.entry) cut (get_after before here.entry here.later (length known.seen + index) far);
+    }

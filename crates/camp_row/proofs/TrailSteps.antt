@@ -1,5 +1,5 @@
 -- A trail, popped and pushed.
-use Rattle.camp_row.proofs.Words.{◌≡◌, ◌≢◌, ℕ, ◌+◌, ◌-◌, ◌%◌, ◌<◌, List, [], ◌∷◌, ◌++◌, length, sym, refl, ap, ◌∙◌, subst, inl, inr, arith, length-append, same_from_push, append-nil, append_assoc, length_push, TableId, Entry, PassInside, RowInside, IsBeginning, cell_of, head_word, Known, ComesNext, Leads, Reads, cells_back, Part, known_of, IsSoundPart, part, known, IsPass, place_word}
+use Rattle.camp_row.proofs.Words.{◌≡◌, ◌≢◌, ℕ, ◌+◌, ◌-◌, ◌<◌, List, [], ◌∷◌, ◌++◌, length, sym, refl, ap, ◌∙◌, subst, inl, inr, arith, length-append, same_from_push, append-nil, append_assoc, length_push, TableId, Entry, PassInside, RowInside, IsBeginning, cell_of, head_word, IsSound, Known, ComesNext, Leads, RowId, Stands, cells_back, Part, known_of, IsSoundPart, part, IsPass}
 use Rattle.camp_row.proofs.Cells.{next_is_others, head_word-push, same_front, last_cases}
 pub use Rattle.camp_row.proofs.PassOfRow.{Held, IsOf, cut_longer, cut_pushed, found_pass, held, is_of, no_cut, sees_still, walks_in}
 
@@ -7,57 +7,38 @@ pub trail_none : (seats : ℕ) (before left : List Entry) → cells_back seats b
 trail_none seats before [] e = refl
 trail_none seats before (x ∷ left) e = absurd (no_cut (cells_back seats (before ++ x ∷ []) left) (cell_of seats before x) [] e)
 
--- what the top of a trail says of the list that is left
-pub record Popped (seats : ℕ) (before left : List Entry) (rest : List ℕ) (cell : ℕ) : Type 0 where
+-- the entry on top of a trail
+pub record OnTop (known : Known) (rest : List ℕ) (cell : ℕ) : Type 0 where
   pub entry : Entry
   pub later : List Entry
-  pub is : left ≡ entry ∷ later
-  pub cell_is : cell ≡ cell_of seats before entry
-  pub rest_is : rest ≡ cells_back seats (before ++ entry ∷ []) later
+  pub is : known.seen ++ entry ∷ later ≡ known.ahead
+  pub cell_is : cell ≡ cell_of known.row.seats known.seen entry
+  pub rest_is : rest ≡ cells_back known.row.seats (known.seen ++ entry ∷ []) later
 
-pub popped : (seats : ℕ) (before left : List Entry) (rest : List ℕ) (cell : ℕ) → rest ++ cell ∷ [] ≡ cells_back seats before left → Popped seats before left rest cell
-popped seats before [] rest cell e = absurd (no_cut rest cell [] e)
-popped seats before (x ∷ left) rest cell e =
-    let parts = same_from_push rest (cells_back seats (before ++ x ∷ []) left) cell (cell_of seats before x) e in
-    record { entry = x; later = left; is = refl; cell_is = parts.1; rest_is = parts.0 }
+pub on_top : {known : Known} {trail items rest : List ℕ} {cell : ℕ} → items ≡ trail → items ≡ rest ++ cell ∷ [] → Leads known known.seen trail → OnTop known rest cell
+on_top {known} {rest = rest} {cell} trail_is items_are leads = at leads.left leads.is (sym items_are ∙ trail_is ∙ leads.cells) where
+  at : (left : List Entry) → known.seen ++ left ≡ known.ahead → rest ++ cell ∷ [] ≡ cells_back known.row.seats known.seen left → OnTop known rest cell
+  at [] is cells = absurd (no_cut rest cell [] cells)
+  at (e ∷ later) is cells =
+      let parts = same_from_push rest (cells_back known.row.seats (known.seen ++ e ∷ []) later) cell (cell_of known.row.seats known.seen e) cells in
+      record { entry = e; later = later; is = is; cell_is = parts.1; rest_is = parts.0 }
 
--- the entry on top of a trail, as the pass's part sees it
-pub record OnTop (pass : PassInside) (row : RowInside) (rest : List ℕ) (cell : ℕ) : Type 0 where
-  pub entry : Entry
-  pub later : List Entry
-  pub cut : (part pass).seen ++ entry ∷ later ≡ (part pass).ahead
-  pub rest_is : rest ≡ cells_back (part pass).seats ((part pass).seen ++ entry ∷ []) later
-  pub held : Held pass row (part pass).seen entry cell
-  pub other : entry.seat ≢ (part pass).number
+abbrev pub top_stands : {known : Known} {rest : List ℕ} {cell : ℕ} → OnTop known rest cell → Stands known cell
+top_stands {known} top = record { before = known.seen; entry = top.entry; later = top.later; is = top.is; cell_is = top.cell_is }
 
-module _ {pass : PassInside} {row : RowInside} {k : Known} {rest : List ℕ} {cell : ℕ} (pass_is : known pass ≡ k) where
-  pub on_top : {trail items : List ℕ} → IsOf pass row → IsSoundPart (part pass) → items ≡ trail → items ≡ rest ++ cell ∷ [] → Leads k k.seen trail → OnTop pass row rest cell
-  on_top of sound trail_is items_are leads =
-      let p : Part = part pass in
-      let l = subst (λ (x : Known). Leads x x.seen (rest ++ cell ∷ [])) (sym pass_is) (subst (Leads k k.seen) (sym trail_is ∙ items_are) leads) in
-      let top = popped p.seats p.seen l.left rest cell l.cells in
-      let cut : p.seen ++ top.entry ∷ top.later ≡ p.ahead = ap (λ xs. p.seen ++ xs) (sym top.is) ∙ l.is in record {
-        entry = top.entry;
-        later = top.later;
-        cut = cut;
-        rest_is = top.rest_is;
-        held = held top.later of sound cut top.cell_is;
-        other = next_is_others p.number p.seen top.entry top.later p.ahead cut sound.own_seen;
-      }
-
-  -- the entry comes next, once its place was read, and the rest of the trail leads on from it
-  pub comes_next : OnTop pass row rest cell → {word found : ℕ} → Reads word found (part pass) → word ≡ place_word cell
-      → let e : Entry = record { seat = cell % row.seats; place = found } in ComesNext k (record { entry = e; cell = cell }) × Leads k (k.seen ++ e ∷ []) rest
-  comes_next top {word} {found} reads word_is =
-      let p : Part = part pass in
-      let e : Entry = record { seat = cell % row.seats; place = found } in
-      let place : found ≡ top.entry.place = (reads p.seen top.entry top.later top.cut).1 (word_is ∙ ap place_word top.held.is) in
-      let e_is : top.entry ≡ e = (λ i. record { seat = sym top.held.seat_is i; place = sym place i }) in
-      subst (λ (x : Known). ComesNext x (record { entry = e; cell = cell }) × Leads x (x.seen ++ e ∷ []) rest) pass_is
-      (subst (λ (x : Entry). ComesNext (known pass) (record { entry = x; cell = cell }) × Leads (known pass) (p.seen ++ x ∷ []) rest) e_is (
-        record { later = top.later; is = top.cut; cell = top.held.is; other = top.other; seat_below = top.held.seat_below },
-        record { left = top.later; is = cut_pushed p.seen top.later top.entry ∙ top.cut; cells = top.rest_is },
-      ))
+-- it comes next, and the rest of the trail leads on from it
+pub comes_next : {known : Known} {row : RowId} {rest : List ℕ} {cell : ℕ} {e : Entry} (top : OnTop known rest cell) → e ≡ top.entry → IsSound known → known.row ≡ row → e.seat < row.seats
+    → ComesNext known (record { entry = e; cell = cell }) × Leads known (known.seen ++ e ∷ []) rest
+comes_next {known} {row} {rest} {cell} {e} top e_is sound row_is below = (
+  record {
+    later = top.later;
+    is = ap (λ (x : Entry). known.seen ++ x ∷ top.later) e_is ∙ top.is;
+    cell = top.cell_is ∙ ap (cell_of known.row.seats known.seen) (sym e_is);
+    other = subst (λ (x : Entry). x.seat ≢ known.number) (sym e_is) (next_is_others known.number known.seen top.entry top.later known.ahead top.is sound.own_seen);
+    seat_below = subst (λ (r : RowId). e.seat < r.seats) (sym row_is) below;
+  },
+  subst (λ (x : Entry). Leads known (known.seen ++ x ∷ []) rest) (sym e_is) (record { left = top.later; is = cut_pushed known.seen top.later top.entry ∙ top.is; cells = top.rest_is }),
+)
 
 -- a walk that has come to a beginning of the chain, with the cells behind it on the stack
 pub record Climbs (part : Part) (word : ℕ) (stack : List ℕ) : Type 0 where

@@ -57,6 +57,14 @@ pub record Leads (known : Known) (seen : List Entry) (trail : List ℕ) : Type 0
   pub is : seen ++ left ≡ known.ahead
   pub cells : trail ≡ cells_back known.row.seats seen left
 
+-- a cell has an entry of the chain that was found
+pub record Stands (known : Known) (cell : ℕ) : Type 0 where
+  pub before : List Entry
+  pub entry : Entry
+  pub later : List Entry
+  pub is : before ++ entry ∷ later ≡ known.ahead
+  pub cell_is : cell ≡ cell_of known.row.seats before entry
+
 -- the entry comes next in the chain that was found; another seat of the row made it
 pub record ComesNext (known : Known) (next : Next) : Type 0 where
   pub later : List Entry

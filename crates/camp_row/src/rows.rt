@@ -49,7 +49,7 @@ fn place_word(cell: usize) -> usize
 impl Row {
     ghost use Rattle.camp_row.specs.Chains.{turns};
     ghost use Rattle.camp_row.specs.Inside.Parts.{all_fresh};
-    ghost use Rattle.camp_row.specs.Known.{most_cells, most_seats, newcomer, FindsChain, Leads, ComesNext, IsDrafted, with_draft, Won, Lost, OneBegins};
+    ghost use Rattle.camp_row.specs.Known.{most_cells, most_seats, newcomer, FindsChain, IsSound, Leads, Stands, ComesNext, IsDrafted, with_draft, Won, Lost, OneBegins};
 
     /// A row with nothing published, and a pass for each of its seats, in their order. It has
     /// `1 + 2 * seats * per_seat` words of eight bytes, for which it takes twice the memory while
@@ -145,15 +145,8 @@ impl Row {
         ensures shorter { MatchOption result (trail.new ≡ trail.old) (λ next. length trail.old ≡ length trail.new + 1) }
     {
         let cell = trail.cells.pop()?;
-        let place = self
-            .table
-            .shared
-            .load::<Walk>(&mut pass.seat, place_word(cell)) as usize;
-        let seat = (cell % self.seats as usize) as u32;
-        Some(Next {
-            entry: Entry { seat, place },
-            cell,
-        })
+        let entry = self.entry_of(pass, cell);
+        Some(Next { entry, cell })
     }
 
     /// The entry at a place of the trail, counted from the one that comes next. Nothing more is seen.
@@ -166,6 +159,18 @@ impl Row {
         ensures seat_below { result.seat < self.now.seats }
     {
         let cell = trail.cells[trail.cells.len() - 1 - index];
+        self.entry_of(pass, cell)
+    }
+
+    // The entry of a cell of the chain that was found.
+    fn entry_of(&self, pass: &mut Pass, cell: usize) -> Entry
+        requires row { pass.old.row ≡ self.now }
+        requires stands { Stands pass.old cell }
+        ensures same { pass.new ≡ pass.old }
+        ensures entry { (stands : Stands pass.old cell) → result ≡ stands.entry }
+        ensures seat_below { result.seat < self.now.seats }
+        ensures sound { IsSound pass.old }
+    {
         let place = self
             .table
             .shared

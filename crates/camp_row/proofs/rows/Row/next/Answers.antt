@@ -1,5 +1,5 @@
-use Rattle.camp_row.proofs.Words.{arith, ◌≡◌, ◌<◌, [], ◌++◌, sym, ap, subst, ◌∙◌, length, vec_len, MatchOption, Option, nil_from_length, append-nil, false≢true, Next, ComesNext, cells_back, place_word}
-use Rattle.camp_row.proofs.TrailSteps.{trail_none, on_top, comes_next, is_of, walks_in}
+use Rattle.camp_row.proofs.Words.{arith, ◌≡◌, ◌<◌, [], ◌++◌, sym, ap, subst, ◌∙◌, length, vec_len, MatchOption, Option, nil_from_length, append-nil, false≢true, Next, ComesNext, cells_back}
+use Rattle.camp_row.proofs.TrailSteps.{trail_none, on_top, top_stands, comes_next}
 use Rattle.camp_row.proofs.rows.Row.next.Goals as goal
 
 pub returns-in_err-cell-clause-next : goal.returns-in_err-cell-clause-next
@@ -12,27 +12,17 @@ returns-in_err-cell-clause-next c =
     let same : c.args.pass.now.seen ≡ c.args.pass.now.ahead = sym (append-nil c.args.pass.now.seen) ∙ (ap (λ xs. c.args.pass.now.seen ++ xs) (sym left_is) ∙ l.is) in
     subst (λ (o : Option Next). MatchOption o (c.args.pass.now.seen ≡ c.args.pass.now.ahead) (λ next. ComesNext c.args.pass.now next)) (sym c.from_residual.ensures) same
 
-pub place_word-requires : goal.place_word-requires
-place_word-requires c =
-    let of = is_of c.pass.inside c.self.inside c.self.invariant c.pass.view_is c.self.view_is c.requires.row in
-    let top = on_top c.pass.view_is of c.pass.invariant.sound c.trail.view_is c.in_ok-cell.ensures.items c.requires.leads in
-    omega arith
-
-pub load-place-requires : goal.load-place-requires
-load-place-requires c =
-    let of = is_of c.pass.inside c.self.inside c.self.invariant c.pass.view_is c.self.view_is c.requires.row in
-    let top = on_top c.pass.view_is of c.pass.invariant.sound c.trail.view_is c.in_ok-cell.ensures.items c.requires.leads in
-    let word_is : c.place_word.result ≡ place_word c.in_ok-cell.cell = c.place_word.ensures in
-    walks_in c.self.inside c.pass.inside.seat top.held.of.table c.place_word.result (omega arith) c.pass.invariant.alone
+pub entry_of-entry-requires-clause-stands : goal.entry_of-entry-requires-clause-stands
+entry_of-entry-requires-clause-stands c = top_stands (on_top c.trail.view_is c.in_ok-cell.ensures.items c.requires.leads)
 
 pub returns-clause-next : goal.returns-clause-next
 returns-clause-next c =
-    let of = is_of c.pass.inside c.self.inside c.self.invariant c.pass.view_is c.self.view_is c.requires.row in
-    let top = on_top c.pass.view_is of c.pass.invariant.sound c.trail.view_is c.in_ok-cell.ensures.items c.requires.leads in
-    (comes_next c.pass.view_is top c.load-place.ensures.2.1.1 c.place_word.ensures).0
+    let top = on_top c.trail.view_is c.in_ok-cell.ensures.items c.requires.leads in
+    let entry = c.entry_of-entry.ensures in
+    (comes_next top (entry.entry (top_stands top)) entry.sound c.requires.row entry.seat_below).0
 
 pub returns-clause-leads : goal.returns-clause-leads
 returns-clause-leads c =
-    let of = is_of c.pass.inside c.self.inside c.self.invariant c.pass.view_is c.self.view_is c.requires.row in
-    let top = on_top c.pass.view_is of c.pass.invariant.sound c.trail.view_is c.in_ok-cell.ensures.items c.requires.leads in
-    (comes_next c.pass.view_is top c.load-place.ensures.2.1.1 c.place_word.ensures).1
+    let top = on_top c.trail.view_is c.in_ok-cell.ensures.items c.requires.leads in
+    let entry = c.entry_of-entry.ensures in
+    (comes_next top (entry.entry (top_stands top)) entry.sound c.requires.row entry.seat_below).1
