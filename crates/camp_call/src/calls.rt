@@ -121,13 +121,7 @@ impl Call {
     pub fn is_writing(&self) -> bool
         ensures exact { result ≡ is_writing self.now }
     {
-        match self {
-            Call::Branch { .. }
-            | Call::Record { .. }
-            | Call::Pull { .. }
-            | Call::Obliterate { .. } => true,
-            Call::Tree(_) | Call::Conflicts(_) | Call::Names(_) => false,
-        }
+        !matches!(self, Call::Tree(_) | Call::Conflicts(_) | Call::Names(_))
     }
 }
 

@@ -48,12 +48,10 @@ impl Changes {
                 prims: Held::Many(prims),
             });
         }
-        match prims.pop() {
-            Some(prim) => Some(Changes {
-                prims: Held::One(prim),
-            }),
-            None => None,
-        }
+        let prim = prims.pop()?;
+        Some(Changes {
+            prims: Held::One(prim),
+        })
     }
 
     pub fn prims(&self) -> &[Primitive]
