@@ -1,11 +1,8 @@
 -- The rule at the opening, after a split and after a join; the parts that are dealt out.
 use Rattle.camp_row.proofs.Words.{◌≡◌, ℕ, zero, suc, ◌+◌, ◌-◌, ◌*◌, ◌<◌, ◌≤◌, inl, inr, List, [], ◌∷◌, ◌++◌, replicate, cond, ◌==◌, sym, refl, ap, ◌∙◌, subst, arith, set, slice_index, sum_by, All, map, take, drop, length-replicate, sum_by-cons, sum_by_push, sum_by-append, All-cons, All-nil, All-map, All-take, All-drop, All-append, All-weaker, cases_eq, range_with_len, some, some-injective, some-ne-none, get_elem?, Splits, Joins, at_set, at_snoc, set_else, Knowledge, Part, parts_of, fresh, all_fresh, parent_word, place_word, Holds, Knows, IsRuled, first_apart, without_first, joined, spent}
+use Rattle.std.proofs.lemmas.List.Sums.{sum_by-take-drop}
 use Rattle.camp_row.proofs.Beginnings.{begins_nil, no_cut}
-use Rattle.camp_row.proofs.Ruling.{Ruled, with_views, sum_set, parts_of-cons, parts_of-self, parts_of-other}
-
-parts_of-cut : (number : ℕ) (ps : List Part) → parts_of number (drop 1 ps) + parts_of number (take 1 ps) ≡ parts_of number ps
-parts_of-cut number [] = refl
-parts_of-cut number (p ∷ ps) = let one = parts_of-cons number p [] in let all = parts_of-cons number p ps in omega arith
+use Rattle.camp_row.proofs.Ruling.{Ruled, with_views, sum_set, parts_of-self, parts_of-other}
 
 -- a split of a seat
 pub splits : (seats per_seat id : ℕ) (v : Knowledge) → Splits (Ruled seats per_seat) id v (without_first v) (first_apart v)
@@ -17,7 +14,7 @@ splits seats per_seat id v s ruled at =
     let f : Knowledge → ℕ = λ u. parts_of n u.parts in
     let a : sum_by f left + f v ≡ sum_by f s.views + f (without_first v) = sum_set f s.views id v (without_first v) at in
     let b : sum_by f (left ++ first_apart v ∷ []) ≡ sum_by f left + f (first_apart v) = sum_by_push f left (first_apart v) in
-    let c : f (without_first v) + f (first_apart v) ≡ f v = parts_of-cut n v.parts in
+    let c : f (first_apart v) + f (without_first v) ≡ f v = sum_by-take-drop (λ (part : Part). cond (part.number == n) 1 0) v.parts 1 in
     let one : sum_by f s.views ≤ 1 = ruled.one_each n in
     omega arith)
     (λ j u here. elim (at_snoc left (first_apart v) u j here) [

@@ -1,8 +1,8 @@
 -- Loads keep the rule, and tell what `specs/Inside/Steps` says.
-use Rattle.camp_row.proofs.Words.{◌≡◌, ℕ, ◌+◌, ◌*◌, ◌<◌, List, [], ◌∷◌, ◌++◌, length, cond, ◌==◌, sym, refl, ap, ◌∙◌, subst, arith, set, slice_index, All, map, All-weaker, All-map, Entry, Knowledge, IsShorter, own, turns, cell_of, head_word, Fits, Part, parts_of, finds, place_word, Holds, Knows, IsRuled, Sees, Looked, Walked, Advanced}
+use Rattle.camp_row.proofs.Words.{◌≡◌, ℕ, ◌+◌, ◌*◌, ◌<◌, List, [], ◌∷◌, ◌++◌, length, cond, ◌==◌, sym, refl, ap, ◌∙◌, subst, arith, set, slice_index, All, map, All-weaker, All-map, Entry, Knowledge, IsShorter, own, turns, cell_of, head_word, Fits, Part, parts_of, finds, place_word, Holds, Knows, IsRuled, Sees, Looked, Walked, Advanced, sum_by, spent}
 use Rattle.camp_row.proofs.Beginnings.{begins_refl, cut_longer, cut_pushed}
 use Rattle.camp_row.proofs.Cells.{own_of_next}
-use Rattle.camp_row.proofs.Ruling.{Owes, only, one_at, parts_of-cons, keep, word_same, knows, keep_words}
+use Rattle.camp_row.proofs.Ruling.{Owes, only, sum_set, parts_of-cons, keep, word_same, knows, keep_words}
 
 parts_of-finds : (chain : List Entry) (number : ℕ) (ps : List Part) → parts_of number (map (finds chain) ps) ≡ parts_of number ps
 parts_of-finds chain number [] = refl
@@ -32,7 +32,10 @@ looks seats per_seat id v words views ruled at =
           (keep seats per_seat words views ruled id v at words ruled.chain w refl ruled.head ruled.linked ruled.fits (λ n. parts_of-finds ruled.chain n v.parts) mine (λ q _ k. k)),
       record {
         chain = ruled.chain;
-        one_each = λ n. let one = one_at (λ (u : Knowledge). parts_of n u.parts) views id v at in let all = ruled.one_each n in omega arith;
+        one_each = λ n.
+            let f : Knowledge → ℕ = λ u. parts_of n u.parts in
+            let without : sum_by f (set views id spent) + f v ≡ sum_by f views + 0 = sum_set f views id v spent at in
+            omega (arith, ruled.one_each n);
         each = All-weaker K (Sees (slice_index words 0) ruled.chain) (sees seats per_seat words ruled.chain ruled.fits (slice_index words 0) ruled.head) v.parts known;
         is = refl;
       },

@@ -31,11 +31,6 @@ module _ (f : Knowledge → ℕ) where
   sum_set (x ∷ xs) (suc id) v w at =
       let h = sum_set xs id v w at in let l : sum_by f (set (x ∷ xs) (suc id) w) ≡ f x + sum_by f (set xs id w) = sum_by-cons f x (set xs id w) in omega (arith, sum_by-cons f x xs)
 
-  pub one_at : (views : List Knowledge) (id : ℕ) (v : Knowledge) → get_elem? views id ≡ some v → f v ≤ sum_by f views
-  one_at [] id v at = absurd (some-ne-none v (sym at))
-  one_at (x ∷ xs) zero v at = let e : f x ≡ f v = ap f (some-injective x v at) in omega (arith, sum_by-cons f x xs)
-  one_at (x ∷ xs) (suc id) v at = let h = one_at xs id v at in omega (arith, sum_by-cons f x xs)
-
 pub parts_of-cons : (number : ℕ) (p : Part) (ps : List Part) → parts_of number (p ∷ ps) ≡ cond (p.number == number) 1 0 + parts_of number ps
 parts_of-cons number p ps = sum_by-cons (λ (part : Part). cond (part.number == number) 1 0) p ps
 
@@ -60,7 +55,7 @@ module _ (seats per_seat : ℕ) (words : List ℕ) (views : List Knowledge) (rul
   others_apart j u ne other = all_apart u.parts v.parts (λ n.
       let f : Knowledge → ℕ = λ u. parts_of n u.parts in
       let without : sum_by f (set views id spent) + f v ≡ sum_by f views + 0 = sum_set f views id v spent at in
-      let two = one_at f (set views id spent) j u (set_else views id j spent ne ∙ other) in
+      let two : sum_by f (set (set views id spent) j spent) + f u ≡ sum_by f (set views id spent) + 0 = sum_set f (set views id spent) j u spent (set_else views id j spent ne ∙ other) in
       let one = ruled.one_each n in
       omega arith)
 

@@ -1,5 +1,8 @@
 -- A place of a trail, before the entries that lie before it are seen.
 use Rattle.camp_row.proofs.Words.{◌≡◌, ℕ, zero, suc, ◌+◌, ◌-◌, ◌<◌, List, [], ◌∷◌, ◌++◌, length, slice_get, Some, sym, refl, ap, ◌∙◌, subst, arith, length-append, append-nil, append_assoc, same_Some, Entry, cell_of, Known, Leads, Stands, cells_back, get_or, slice_get_read}
+use Rattle.std.proofs.Math.Seq.{get_or-append_seam}
+use Rattle.std.proofs.lemmas.List.{get_or_append_left}
+use Rattle.std.proofs.lemmas.Option.{get_or_from_slice_get, slice_get-get_or}
 use Rattle.camp_row.proofs.TrailSteps.{length-cells_back}
 
 -- the entry at a place of a list, and its cell
@@ -11,18 +14,11 @@ record Placed (seats : ℕ) (before left : List Entry) (index cell : ℕ) : Type
   pub place : length mid ≡ index
   pub cell_is : cell ≡ cell_of seats (before ++ mid) entry
 
--- an element of the first of two lists
-get_first : {A : Type 0} (xs ys : List A) (i : ℕ) → i < length xs → slice_get (xs ++ ys) i ≡ slice_get xs i
-get_first [] ys i below = absurd (omega arith)
-get_first (x ∷ xs) ys zero below = refl
-get_first (x ∷ xs) ys (suc i) below = get_first xs ys i (omega arith)
-
 -- an element stands at the length of what stands before it
 get_after : {A : Type 0} (before : List A) (x : A) (after : List A) (i : ℕ) → length before ≡ i → slice_get (before ++ x ∷ after) i ≡ Some x
-get_after [] x after zero at = refl
-get_after [] x after (suc i) at = absurd (omega arith)
-get_after (b ∷ before) x after zero at = absurd (omega arith)
-get_after (b ∷ before) x after (suc i) at = get_after before x after i (omega arith)
+get_after before x after i at =
+    subst (λ n. slice_get (before ++ x ∷ after) n ≡ Some x) at
+    (slice_get-get_or (before ++ x ∷ after) (length before) x (omega (arith, length-append before (x ∷ after))) ∙ ap Some (get_or-append_seam before x after x))
 
 -- the cells lie in the order of the entries, the last on the ground
 placed : (seats : ℕ) (before left : List Entry) (index up cell : ℕ) → up + index + 1 ≡ length left
@@ -36,10 +32,10 @@ placed seats before (x ∷ left) zero up cell sum at =
     record { mid = []; entry = x; later = left; is = refl; place = refl; cell_is = same_Some cell (cell_of seats before x) (sym at ∙ here) ∙ ap (λ b. cell_of seats b x) (sym (append-nil before)) }
 placed seats before (x ∷ left) (suc index) up cell sum at =
     let above = length-cells_back seats (before ++ x ∷ []) left in
-    let later : slice_get (cells_back seats (before ++ x ∷ []) left ++ cell_of seats before x ∷ []) up ≡ slice_get (cells_back seats (before ++ x ∷ []) left) up =
-    get_first (cells_back seats (before ++ x ∷ []) left) (cell_of seats before x ∷ []) up (omega arith)
-    in
-    let rest = placed seats (before ++ x ∷ []) left index up cell (omega arith) (sym later ∙ at) in
+    let below = cells_back seats (before ++ x ∷ []) left in
+    let same = get_or_append_left below (cell_of seats before x ∷ []) cell up (omega arith) in
+    let here = slice_get-get_or below up cell (omega arith) ∙ ap Some (sym same ∙ get_or_from_slice_get (below ++ cell_of seats before x ∷ []) up cell cell at) in
+    let rest = placed seats (before ++ x ∷ []) left index up cell (omega arith) here in
     record {
       mid = x ∷ rest.mid;
       entry = rest.entry;

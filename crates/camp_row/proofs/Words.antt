@@ -19,7 +19,7 @@ pub use Rattle.camp_row.specs.Inside.Parts.{IsSoundPart, Part, all_fresh, finds,
 pub use Rattle.camp_row.specs.Inside.PassFields.{IsPass, known, part}
 pub use Rattle.camp_row.specs.Inside.RowFields.{IsRow, id_of}
 pub use Rattle.camp_row.specs.Inside.Rule.{Holds, IsLinked, IsRuled, Knows, parent_word, place_word}
-pub use Rattle.camp_row.specs.Inside.Steps.{Advanced, Looked, LostPart, Reads, Sees, StoredParent, StoredPlace, Tried, Walked, WonPart, drafted_part, first_apart, joined, spent, without_first, won_part}
+pub use Rattle.camp_row.specs.Inside.Steps.{Advanced, Looked, LostPart, Sees, StoredParent, StoredPlace, Tried, Walked, WonPart, drafted_part, first_apart, joined, spent, without_first, won_part}
 pub use Rattle.camp_row.specs.Known.{ComesNext, FindsChain, IsDrafted, Known, Leads, OneBegins, IsSound, RowId, Stands, cells_back, newcomer}
 pub use Rattle.camp_row.specs.declared.entries.Entry.{Entry}
 pub use Rattle.camp_row.specs.declared.knowledge.Knowledge.{Knowledge}
