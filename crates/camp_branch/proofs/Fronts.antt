@@ -1,23 +1,19 @@
 -- The front of a branch that stays as it is: what stands behind it is arranged alone.
-use Rattle.camp_branch.proofs.Words.{◌≡◌, ◌≤◌, ◌+◌, ◌-◌, ◌++◌, ◌&&◌, ℕ, zero, suc, Bool, true, false, not, cond, Ok, Err, List, [], ◌∷◌, take, drop, length, refl, sym, ap, ◌∙◌, subst, arith, contains_key, keys, Key, Arrange, ArrangeSticks, Catch, IsLawfulBranch, has_patch, is_among, name_of, front_of, DependsIn, ObliterateGives, Blocked, cond_both, take-append-drop}
+use Rattle.camp_branch.proofs.Words.{◌≡◌, ◌+◌, ◌++◌, ◌&&◌, ℕ, suc, arith, not, Ok, Err, List, [], ◌∷◌, take, drop, refl, sym, ◌∙◌, subst, contains_key, keys, Key, Arrange, ArrangeSticks, Catch, IsLawfulBranch, has_patch, is_among, name_of, front_of, DependsIn, ObliterateGives, Blocked, cond_both, take-append-drop}
 use Rattle.camp_branch.proofs.BranchFields.{Names}
 use Rattle.camp_branch.proofs.KeepLawful.{obliterates_keep_lawful}
-use Rattle.camp_branch.proofs.NameSets.{has_listed}
 use Rattle.camp_branch.proofs.Names.{is_among_is}
 use Rattle.camp_branch.proofs.NamesKept.{left_has, obliterate_depends, obliterated}
 use Rattle.camp_branch.proofs.AgreedFronts.{AllOf, arranged_front, sticks_front}
 
 module _ (names : List (List ℕ)) where
-  pub front_within : (list : List Catch) → front_of names list ≤ length list
-  front_within [] = omega arith
-  front_within (k ∷ list) =
-      cond_both (is_among names (name_of k)) (suc (front_of names list)) zero (λ m. m ≤ suc (length list)) (λ e. omega (arith, front_within list)) (λ e. omega arith)
-
   -- each catch of the front is of one of the patches
   front_all : (list : List Catch) → AllOf names (take (front_of names list) list)
   front_all [] = tt
   front_all (k ∷ list) =
-      cond_both (is_among names (name_of k)) (suc (front_of names list)) zero (λ m. AllOf names (take m (k ∷ list))) (λ e. ((is_among_is names (name_of k)).1 e, front_all list)) (λ e. tt)
+      let n = front_of names list in
+      let more : suc n ≡ 1 + n = omega arith in
+      cond_both (is_among names (name_of k)) (1 + n) 0 (λ m. AllOf names (take m (k ∷ list))) (λ e. subst (λ m. AllOf names (take m (k ∷ list))) more ((is_among_is names (name_of k)).1 e, front_all list)) (λ e. tt)
 
   -- the front is arranged as it stands
   pub arranged_behind : (list first rest : List Catch) → Arrange names (drop (front_of names list) list) first rest → Arrange names list (take (front_of names list) list ++ first) rest
@@ -30,21 +26,6 @@ module _ (names : List (List ℕ)) where
   sticks_behind list patch on w =
       let n = front_of names list in
       subst (λ l. ArrangeSticks names l patch on) (take-append-drop n list) (sticks_front names (take n list) (drop n list) patch on (front_all list) w)
-
--- the front is counted catch by catch
-module _ (names : Names) (list rest more : List Catch) (k : Catch) (name : List ℕ) (front : ℕ) (is : rest ≡ k ∷ more) (of : name ≡ name_of k) (counted : front + front_of (keys names) rest ≡ front_of (keys names) list) where
-  next_by : (b : Bool) → contains_key names name ≡ b → front_of (keys names) rest ≡ cond b (suc (front_of (keys names) more)) zero
-  next_by b has =
-      ap (front_of (keys names)) is ∙ ap (λ b. cond b (suc (front_of (keys names) more)) zero) (sym (has_listed names (name_of k)) ∙ ap (contains_key names) (sym of) ∙ has)
-
-  pub front_stops : contains_key names name ≡ false → front ≡ front_of (keys names) list
-  front_stops has = omega (arith, next_by false has)
-
-  pub front_grows : contains_key names name ≡ true → front + 1 + front_of (keys names) more ≡ front_of (keys names) list
-  front_grows has = omega (arith, next_by true has)
-
-  pub fewer_behind : (n : ℕ) → front + length rest ≡ n → front + 1 + length more ≡ n
-  fewer_behind n behind = omega (arith, ap length is)
 
 -- what stands behind a beginning that stays, and which names stay
 pub record StaysInFront (own : List Catch) (gone : List (List ℕ)) (staying : Names) (start : ℕ) (behind : List Catch) : Type 0 where

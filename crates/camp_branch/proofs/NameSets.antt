@@ -1,8 +1,8 @@
 -- Sets of names, a name more or less at a time.
-use Rattle.camp_branch.proofs.Words.{◌≡◌, ◌<◌, ◌+◌, ℕ, Bool, true, false, not, cond, ◌||◌, ◌&&◌, Option, None, Some, List, [], ◌∷◌, map, drop, length, get_or, is_some, bytes_eq, refl, sym, ap, ◌∙◌, is_eq-slice_cmp, list_any, nat_cmp, eq_by_cmp, slice_cmp, nat_list_cmp_total, contains_key, contains_key-keys, empty, get, get-empty, get-remove, insert, remove, keys, Catch, stands_at, first_lacked, has_patch, is_among, name_of, or_assoc, cond_both, and_right}
+use Rattle.camp_branch.proofs.Words.{◌≡◌, ◌<◌, ◌+◌, ℕ, Bool, true, false, not, cond, ◌||◌, ◌&&◌, Option, None, List, [], ◌∷◌, map, drop, length, get_or, is_some, bytes_eq, refl, sym, ap, ◌∙◌, is_eq-slice_cmp, list_any, nat_cmp, eq_by_cmp, slice_cmp, nat_list_cmp_total, contains_key, contains_key-keys, empty, get, get-empty, get-remove, insert, remove, keys, Catch, stands_at, is_among, name_of, or_assoc, cond_both, and_right}
 use Rattle.camp_branch.proofs.BranchFields.{Names, contains_more}
 use Rattle.camp_branch.proofs.Names.{same_name}
-pub use Rattle.std.proofs.Math.Bool.{and-false as and_false, and-true as and_true}
+pub use Rattle.std.proofs.Math.Bool.{and-false as and_false, and-true as and_true, or-false as or_none}
 
 -- a name comes into a set, which may have it
 abbrev pub with_name : Names → List ℕ → Names
@@ -52,64 +52,19 @@ pub one_goes : (left next : Names) (rest more : Entries) (entry : List ℕ × Un
 one_goes left next rest more entry aim inv is becomes name =
     ap (λ m. contains_key m name && not (listed more name)) becomes ∙ ap (λ b. b && not (listed more name)) (contains_less left entry.0 name) ∙ and_not (contains_key left name) (bytes_eq name entry.0) (listed more name) ∙ ap (λ r. contains_key left name && not (listed r name)) (sym is) ∙ inv name
 
--- of some catches, the names of the rest are still to come into a set
-abbrev pub IsGrown : Names → List Catch → (List ℕ → Bool) → Type 0
-IsGrown all rest aim = (name : List ℕ) → (contains_key all name || is_among (map name_of rest) name) ≡ aim name
-
-pub one_comes : (all next : Names) (taken : List Catch) (i : ℕ) (k d : Catch) (named : List ℕ) (aim : List ℕ → Bool) → IsGrown all (drop i taken) aim → i < length taken → k ≡ get_or taken i d → named ≡ name_of k → next ≡ insert all named tt → IsGrown next (drop (i + 1) taken) aim
-one_comes all next taken i k d named aim inv within is called becomes name =
-    let rest = drop (i + 1) taken in
-    ap (λ m. contains_key m name || is_among (map name_of rest) name) (becomes ∙ ap (λ n. insert all n tt) called) ∙ ap (λ b. b || is_among (map name_of rest) name) (contains_more all (name_of k) name) ∙ or_assoc (contains_key all name) (bytes_eq name (name_of k)) (is_among (map name_of rest) name) ∙ ap (λ r. contains_key all name || is_among (map name_of r) name) (sym (stands_at taken i d k within is)) ∙ inv name
-
--- the name of a catch that is not there before, where a set has it
-held : (c e m h : Bool) → (e ≡ true → h ≡ true) → ((c || e) || (m && h)) ≡ (c || ((e || m) && h))
-held true e m h has = refl
-held false true m h has = sym (has refl)
-held false false m h has = refl
-
-not_held : (c e m h : Bool) → (e ≡ true → h ≡ false) → (c || (m && h)) ≡ (c || ((e || m) && h))
-not_held true e m h lacks = refl
-not_held false true m h lacks = ap (λ b. m && b) (lacks refl) ∙ and_false m ∙ sym (lacks refl)
-not_held false false m h lacks = refl
-
--- of some catches, those of the rest whose names a set has are still to come into another
-abbrev pub IsGrownBy : Names → Names → List Catch → (List ℕ → Bool) → Type 0
-IsGrownBy names all rest aim =
-    (name : List ℕ) → (contains_key all name || (is_among (map name_of rest) name && contains_key names name)) ≡ aim name
-
-module _ (names all : Names) (list : List Catch) (i : ℕ) (k d : Catch) (named : List ℕ) (aim : List ℕ → Bool) (inv : IsGrownBy names all (drop i list) aim) (within : i < length list) (is : k ≡ get_or list i d) (called : named ≡ name_of k) where
-  this_one : (b : Bool) → contains_key names named ≡ b → (name : List ℕ) → bytes_eq name (name_of k) ≡ true → contains_key names name ≡ b
-  this_one b e name same = ap (contains_key names) (same_name name (name_of k) same ∙ sym called) ∙ e
-
-  here : (name : List ℕ) → (contains_key all name || (is_among (map name_of (k ∷ drop (i + 1) list)) name && contains_key names name)) ≡ aim name
-  here name =
-      ap (λ r. contains_key all name || (is_among (map name_of r) name && contains_key names name)) (sym (stands_at list i d k within is)) ∙ inv name
-
-  pub one_held : (next : Names) → contains_key names named ≡ true → next ≡ with_name all named → IsGrownBy names next (drop (i + 1) list) aim
-  one_held next e becomes name =
-      let rest = is_among (map name_of (drop (i + 1) list)) name in
-      ap (λ m. contains_key m name || (rest && contains_key names name)) (becomes ∙ ap (with_name all) called) ∙ ap (λ b. b || (rest && contains_key names name)) (contains_with all (name_of k) name) ∙ held (contains_key all name) (bytes_eq name (name_of k)) rest (contains_key names name) (this_one true e name) ∙ here name
-
-  pub one_not_held : contains_key names named ≡ false → IsGrownBy names all (drop (i + 1) list) aim
-  one_not_held e name =
-      let rest = is_among (map name_of (drop (i + 1) list)) name in
-      not_held (contains_key all name) (bytes_eq name (name_of k)) rest (contains_key names name) (this_one false e name) ∙ here name
-
 -- of a set, some names are still to come
 abbrev pub IsFilled : Names → List (List ℕ) → (List ℕ → Bool) → Type 0
 IsFilled set rest aim = (name : List ℕ) → (contains_key set name || is_among rest name) ≡ aim name
-
-pub or_none : (b : Bool) → (b || false) ≡ b
-or_none true = refl
-or_none false = refl
 
 joined : (set next : Names) (n : List ℕ) (rest : List (List ℕ)) (aim : List ℕ → Bool) → IsFilled set (n ∷ rest) aim → ((name : List ℕ) → contains_key next name ≡ (contains_key set name || bytes_eq name n)) → IsFilled next rest aim
 joined set next n rest aim inv has name =
     ap (λ b. b || is_among rest name) (has name) ∙ or_assoc (contains_key set name) (bytes_eq name n) (is_among rest name) ∙ inv name
 
-pub one_more : (set next : Names) (n : List ℕ) (rest : List (List ℕ)) (aim : List ℕ → Bool) → IsFilled set (n ∷ rest) aim → next ≡ insert set n tt → IsFilled next rest aim
-one_more set next n rest aim inv becomes =
-    joined set next n rest aim inv (λ name. ap (λ m. contains_key m name) becomes ∙ contains_more set n name)
+pub one_comes : (all next : Names) (taken : List Catch) (i : ℕ) (k d : Catch) (named : List ℕ) (aim : List ℕ → Bool) → IsFilled all (map name_of (drop i taken)) aim → i < length taken → k ≡ get_or taken i d → named ≡ name_of k → next ≡ insert all named tt → IsFilled next (map name_of (drop (i + 1) taken)) aim
+one_comes all next taken i k d named aim inv within is called becomes =
+    joined all next (name_of k) (map name_of (drop (i + 1) taken)) aim
+    (λ name. ap (λ r. contains_key all name || is_among (map name_of r) name) (sym (stands_at taken i d k within is)) ∙ inv name)
+    (λ name. ap (λ m. contains_key m name) (becomes ∙ ap (λ n. insert all n tt) called) ∙ contains_more all (name_of k) name)
 
 pub one_added : (set next : Names) (n : List ℕ) (rest : List (List ℕ)) (aim : List ℕ → Bool) → IsFilled set (n ∷ rest) aim → next ≡ with_name set n → IsFilled next rest aim
 one_added set next n rest aim inv becomes =
@@ -130,8 +85,3 @@ none_filled set rest is name =
 pub all_filled : (set : Names) (rest : List (List ℕ)) (aim : List ℕ → Bool) → rest ≡ [] → IsFilled set rest aim → (name : List ℕ) → is_among (keys set) name ≡ aim name
 all_filled set rest aim is inv name =
     sym (has_listed set name) ∙ sym (or_none (contains_key set name)) ∙ ap (λ r. contains_key set name || is_among r name) (sym is) ∙ inv name
-
--- the name at a place decides which is the first that is lacked
-pub first_from : (catches : List Catch) (names : List (List ℕ)) (i : ℕ) (n d : List ℕ) (b : Bool) → i < length names → n ≡ get_or names i d → has_patch catches n ≡ b → first_lacked catches (drop i names) ≡ cond b (first_lacked catches (drop (i + 1) names)) (Some n)
-first_from catches names i n d b within is has =
-    ap (first_lacked catches) (stands_at names i d n within is) ∙ ap (λ c. cond c (first_lacked catches (drop (i + 1) names)) (Some n)) has

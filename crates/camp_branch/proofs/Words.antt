@@ -1,6 +1,6 @@
 -- The words that most proofs about branches use.
 pub use Rattle.camp_branch.specs.Agreeing.{Agree}
-pub use Rattle.std.proofs.Common.{Bool, Contains, Err, List, None, Ok, Option, Result, Some, T, [], ap, arith, bytes_eq, cond, drop, false, filter, flat_map, get_or, inl, inr, is_some, length, map, not, refl, rules, slice_index_or, slice_range, subst, suc, sym, take, true, true≢false, zero, ℕ, ◌&&◌, ◌++◌, ◌+◌, ◌-◌, ◌<◌, ◌==◌, ◌||◌, ◌∙◌, ◌∷◌, ◌≡◌, ◌≤◌, ◌⊎◌}
+pub use Rattle.std.proofs.Common.{Bool, Contains, Err, List, None, Ok, Option, Result, Some, T, [], ap, arith, bytes_eq, cond, drop, false, filter, flat_map, get_or, inl, inr, is_some, length, map, not, refl, rules, slice_index_or, slice_range, subst, suc, sym, take, tests, true, true≢false, zero, ℕ, ◌&&◌, ◌++◌, ◌+◌, ◌-◌, ◌<◌, ◌==◌, ◌||◌, ◌∙◌, ◌∷◌, ◌≡◌, ◌≤◌, ◌⊎◌}
 pub use Rattle.camp_base.specs.Trees.{Files}
 pub use Rattle.camp_share.specs.Maps.{map_of}
 pub use Rattle.camp_prim.proofs.LabelOrder.{key_ties, key_total}

@@ -115,13 +115,11 @@ impl Branch {
     pub fn names(&self) -> Result<Vec<Name>, AllocError>
         ensures exact { IfOk result (λ names. names.items ≡ names_of self.now) }
     {
-        let mut names = Vec::new(self.catches.allocator());
-        for catch in self.catches.iter() {
-            if catch.place() == 1 {
-                names.push(*catch.name())?;
-            }
-        }
-        Ok(names)
+        self.catches
+            .iter()
+            .filter(|catch| catch.place() == 1)
+            .map(|catch| *catch.name())
+            .collect(self.catches.allocator())
     }
 
     /// The pairs of patches that are in conflict, each once, the lesser name first, in ascending

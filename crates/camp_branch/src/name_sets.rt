@@ -1,4 +1,4 @@
-ghost use Rattle.std.specs.Prelude.{◌≡◌, ◌&&◌, ◌||◌, ℕ, List, not, map, IfOk, OnOk};
+ghost use Rattle.std.specs.Prelude.{◌≡◌, ◌&&◌, ◌||◌, ℕ, List, not, map, IfOk};
 ghost use Rattle.camp_branch.specs.Branches.{is_among, name_of};
 ghost use Rattle.camp_branch.specs.Fields.{has_name, names_in};
 ghost use Rattle.camp_branch.specs.Inside.Fronts.{front_of};
@@ -46,29 +46,17 @@ pub(crate) fn common(
         ((is_among (map name_of list.now) name && has_name other_names.now name)
         || (is_among (map name_of others.now) name && has_name names.now name))) }
 {
-    let mut both = MapBuilder::from_map(&SharedMap::new(names.allocator()))?;
-    add_those_in(list, other_names, &mut both)?;
-    add_those_in(others, names, &mut both)?;
-    Ok(both.into_map()?)
-}
-
-/// Adds the names of the patches of catches that stand in a set to others.
-fn add_those_in(
-    list: &[Shared<Catch>],
-    names: &NameSet,
-    all: &mut MapBuilder<Name, ()>,
-) -> Result<(), AllocError>
-    ensures { OnOk result ((name : List ℕ) → has_name all.new name ≡
-        (has_name all.old name || (is_among (map name_of list.now) name && has_name names.now name))) }
-{
-    for catch in list {
-        let name = catch.name();
-        if !names.contains_key(name) {
-            continue;
-        }
-        all.insert_if_absent(*name, ())?;
-    }
-    Ok(())
+    let alloc = names.allocator();
+    let theirs = list
+        .iter()
+        .map(|catch| *catch.name())
+        .filter(|name| other_names.contains_key(name));
+    let ours = others
+        .iter()
+        .map(|catch| *catch.name())
+        .filter(|name| names.contains_key(name));
+    let both: Vec<Name> = theirs.chain(ours).collect(alloc)?;
+    Ok(set_of(alloc, &both)?)
 }
 
 /// The names, and those of the patches that catches are of.
@@ -76,18 +64,7 @@ pub(crate) fn with_taken(names: &NameSet, taken: &[Shared<Catch>]) -> Result<Nam
     ensures { IfOk result (λ all. (name : List ℕ) →
         has_name all name ≡ (has_name names.now name || is_among (map name_of taken.now) name)) }
 {
-    match taken {
-        [] => names.share(),
-        [first, others @ ..] => with_more(names.inserted(*first.name(), ())?, others),
-    }
-}
-
-/// The same of names that nobody else has.
-fn with_more(names: NameSet, taken: &[Shared<Catch>]) -> Result<NameSet, AllocError>
-    ensures { IfOk result (λ all. (name : List ℕ) →
-        has_name all name ≡ (has_name names name || is_among (map name_of taken.now) name)) }
-{
-    let mut all = names;
+    let mut all = names.share()?;
     for catch in taken {
         all = all.inserted(*catch.name(), ())?;
     }
@@ -98,13 +75,10 @@ fn with_more(names: NameSet, taken: &[Shared<Catch>]) -> Result<NameSet, AllocEr
 pub(crate) fn front(catches: &SharedList<Shared<Catch>>, names: &NameSet) -> usize
     ensures { result ≡ front_of (names_in names.now) catches.now }
 {
-    let end = catches.len();
-    let mut front = 0;
-    for catch in catches.iter() {
-        if !names.contains_key(catch.name()) {
-            return front;
-        }
-        front += 1;
-    }
-    end
+    // The proof is told that a length is a number of the machine.
+    prove!(catches.len() <= usize::MAX);
+    catches
+        .iter()
+        .take_while(|catch| names.contains_key(catch.name()))
+        .count()
 }

@@ -1,9 +1,9 @@
 -- How much of a branch stays where it is.
-use Rattle.std.specs.Prelude.{ℕ, zero, suc, List, [], ◌∷◌, if◌then◌else◌}
+use Rattle.std.specs.Prelude.{ℕ, List}
+use Rattle.std.specs.List.{prefix_len}
 use Rattle.camp_catch.specs.declared.catches.Catch.{Catch}
 use Rattle.camp_branch.specs.Branches.{is_among, name_of}
 
 -- how many catches stand before the first that is of none of these patches
 abbrev pub front_of : List (List ℕ) → List Catch → ℕ
-front_of names [] = zero
-front_of names (k ∷ list) = if is_among names (name_of k) then suc (front_of names list) else zero
+front_of names list = prefix_len (λ k. is_among names (name_of k)) list

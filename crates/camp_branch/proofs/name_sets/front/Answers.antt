@@ -1,16 +1,16 @@
-use Rattle.camp_branch.proofs.Words.{◌∙◌, ap, sym, slice_cmp, nat_cmp, map_of, name_of}
-use Rattle.camp_branch.proofs.Fronts.{fewer_behind, front_grows, front_stops}
+use Rattle.std.proofs.lemmas.Iterator.Consumers.{YieldsList-at, YieldsList-from_rest, count_from_yields_List}
+use Rattle.std.proofs.lemmas.Iterator.Search.{YieldsList-from_take_while}
+use Rattle.std.proofs.lemmas.List.Folds.{length-prefix_len}
+use Rattle.std.specs.List.{prefix_len}
+use Rattle.camp_branch.proofs.Words.{◌∙◌, ap, rules, tests, Bool, Catch, slice_cmp, nat_cmp, contains_key, map_of, name_of}
+use Rattle.camp_branch.proofs.NameSets.{has_listed}
 use Rattle.camp_branch.proofs.name_sets.front.Goals as goal
 
-pub returns-then-not-contains_key : goal.returns-then-not-contains_key
-returns-then-not-contains_key c =
-    front_stops (map_of (slice_cmp nat_cmp) c.args.names.now) c.args.catches.now c.loop-catch.catch-iterator c.next.new.self c.in-Some.catch.now c.name.result.now c.loop-catch.front c.in-Some.ensures.steps (c.name.ensures.exact ∙ ap name_of c.deref.ensures) c.loop-catch.invariant.counted (sym c.contains_key.ensures.exact ∙ c.if-not-contains_key.true)
-
-pub loop-catch-preserved : goal.loop-catch-preserved
-loop-catch-preserved c =
+pub returns : goal.returns
+returns c =
     let names = map_of (slice_cmp nat_cmp) c.args.names.now in
-    let of = c.name.ensures.exact ∙ ap name_of c.deref.ensures in
-    record {
-      counted = front_grows names c.args.catches.now c.loop-catch.catch-iterator c.next.new.self c.in-Some.catch.now c.name.result.now c.loop-catch.front c.in-Some.ensures.steps of c.loop-catch.invariant.counted (sym c.contains_key.ensures.exact ∙ c.if-not-contains_key.false);
-      behind = fewer_behind names c.args.catches.now c.loop-catch.catch-iterator c.next.new.self c.in-Some.catch.now c.name.result.now c.loop-catch.front c.in-Some.ensures.steps of c.loop-catch.invariant.counted _ c.loop-catch.invariant.behind;
-    }
+    let stays : Catch → Bool = λ k. contains_key names (name_of k) in
+    count_from_yields_List _ _ c.count.ensures.ran
+    (YieldsList-from_take_while {s = c.take_while.result} _ stays (YieldsList-at c.take_while.ensures.source (YieldsList-from_rest c.args.catches.now c.iter.ensures.rest)) c.take_while.ensures.closure c.take_while.ensures.done (λ x b q k. search (rules, tests)))
+    ∙ length-prefix_len stays c.args.catches.now
+    ∙ ap (λ p. prefix_len p c.args.catches.now) (λ i k. has_listed names (name_of k) i)

@@ -1,7 +1,8 @@
 use Rattle.std.proofs.lemmas.Result.{err_from_is_err_and}
+use Rattle.std.proofs.lemmas.List.Sums.{prefix_len-le-length}
 use Rattle.camp_catch.proofs.Making.{blocks_too}
-use Rattle.camp_branch.proofs.Words.{length, ap, drop, subst, ◌∙◌, arith, slice_cmp, nat_cmp, map_of, IsLawfulBranch, names_in, front_of}
-use Rattle.camp_branch.proofs.Fronts.{StaysInFront, front_depends, front_lawful, front_named, front_stays, front_within}
+use Rattle.camp_branch.proofs.Words.{length, ap, drop, subst, ◌∙◌, arith, slice_cmp, nat_cmp, map_of, IsLawfulBranch, names_in, front_of, is_among, name_of}
+use Rattle.camp_branch.proofs.Fronts.{StaysInFront, front_depends, front_lawful, front_named, front_stays}
 use Rattle.camp_branch.proofs.NamesKept.{stays_by}
 use Rattle.camp_branch.proofs.NewEnds.{end_arranged}
 use Rattle.camp_branch.proofs.branches.Branch.without.Goals as goal
@@ -9,12 +10,12 @@ use Rattle.camp_branch.proofs.branches.Branch.without.Goals.{After-deref}
 
 pub behind-requires : goal.behind-requires
 behind-requires c =
-    let within = front_within (names_in c.in_ok-staying.staying) c.self.inside.catches in
+    let within = prefix_len-le-length (λ k. is_among (names_in c.in_ok-staying.staying) (name_of k)) c.self.inside.catches in
     omega (c.front-start.ensures, within, arith)
 
 pub with_end-requires-clause-within : goal.with_end-requires-clause-within
 with_end-requires-clause-within c =
-    let within = front_within (names_in c.in_ok-staying.staying) c.self.inside.catches in
+    let within = prefix_len-le-length (λ k. is_among (names_in c.in_ok-staying.staying) (name_of k)) c.self.inside.catches in
     let long = ap length c.self.view_is in
     omega (c.front-start.ensures, long, within, arith)
 
