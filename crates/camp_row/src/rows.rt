@@ -122,15 +122,13 @@ impl Row {
         ensures same { pass.new ≡ pass.old }
         ensures leads { IfOk result (λ trail. Leads pass.old pass.old.seen trail) }
     {
+        let shared = &self.table.shared;
         let mut cells = Vec::new(alloc);
         let mut word = pass.head;
         while word != pass.last {
             let cell = word as usize - 1;
             cells.push(cell)?;
-            word = self
-                .table
-                .shared
-                .load::<Walk>(&mut pass.seat, parent_word(cell));
+            word = shared.load::<Walk>(&mut pass.seat, parent_word(cell));
         }
         Ok(Trail { cells })
     }
@@ -171,10 +169,8 @@ impl Row {
         ensures seat_below { result.seat < self.now.seats }
         ensures sound { IsSound pass.old }
     {
-        let place = self
-            .table
-            .shared
-            .load::<Walk>(&mut pass.seat, place_word(cell)) as usize;
+        let shared = &self.table.shared;
+        let place = shared.load::<Walk>(&mut pass.seat, place_word(cell)) as usize;
         let seat = (cell % self.seats as usize) as u32;
         Entry { seat, place }
     }
@@ -185,9 +181,8 @@ impl Row {
         requires next { ComesNext pass.old next }
         ensures exact { pass.new ≡ record pass.old { seen = pass.old.seen ++ next.entry ∷ [] } }
     {
-        self.table
-            .shared
-            .load::<Advance>(&mut pass.seat, place_word(next.cell));
+        let shared = &self.table.shared;
+        shared.load::<Advance>(&mut pass.seat, place_word(next.cell));
         pass.last = next.cell as u64 + 1;
     }
 
@@ -240,10 +235,8 @@ impl Row {
         ensures exact { MatchBool result (Won pass.old pass.new) (Lost pass.old pass.new) }
     {
         let own = self.own_cell(pass) as u64 + 1;
-        let found = self
-            .table
-            .shared
-            .compare_exchange::<Publish>(&mut pass.seat, 0, pass.last, own);
+        let shared = &self.table.shared;
+        let found = shared.compare_exchange::<Publish>(&mut pass.seat, 0, pass.last, own);
         if found != pass.last {
             pass.head = found;
             return false;
@@ -263,24 +256,11 @@ impl Row {
         ensures one_begins { OneBegins a.old b }
         ensures apart { a.old.number ≢ b.number }
     {
-        let Pass {
-            seat,
-            number,
-            turn,
-            last,
-            head: _,
-        } = b;
         let shared = &self.table.shared;
-        shared.join_seat::<Glue>(&mut a.seat, seat);
+        shared.join_seat::<Glue>(&mut a.seat, b.seat);
         let head = shared.load::<Look>(&mut a.seat, 0);
         a.head = head;
         let seat = shared.split_seat::<Cut>(&mut a.seat);
-        Pass {
-            seat,
-            number,
-            turn,
-            last,
-            head,
-        }
+        Pass { seat, head, ..b }
     }
 }
