@@ -44,7 +44,6 @@ impl Model for Branch {
 
     ghost coded = { Prim.hlevel (codes, code_of_sets) };
 
-    ghost use Rattle.camp_branch.specs.Conflicting.{AreConflicts};
     ghost use Rattle.camp_branch.specs.Fields.{IsBranch};
 
     ghost view = { λ branch. branch.catches };
