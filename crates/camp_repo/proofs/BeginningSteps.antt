@@ -1,17 +1,11 @@
 -- What is known of beginnings stays so while branches grow.
 use Rattle.camp_repo.proofs.Words.{◌≡◌, ℕ, zero, suc, List, [], ◌∷◌, ◌++◌, length, slice_get, slice_set, Some, Result, Ok, Err, IfOk, refl, sym, ap, ◌∙◌, subst, append-nil, all_append, none-some, same_Some, Catch, Agree, AgreesIn, AllHold, catches_in, placed, Branches, AllByRecursion, remove, agree_grown, agree_itself}
+use Rattle.std.proofs.lemmas.List.Elements.{All-from_recursion, All-set, recursion_from_All}
 use Rattle.camp_repo.specs.declared.beginnings.KnownBeginning.{KnownBeginning}
 
-all_but : {X : Type 0} (P : X → Type 0) (xs : List X) (i : ℕ) → AllByRecursion P xs → AllByRecursion P (remove xs i)
-all_but P [] zero all = tt
-all_but P [] (suc i) all = tt
-all_but P (x ∷ xs) zero all = all.1
-all_but P (x ∷ xs) (suc i) all = (all.0, all_but P xs i all.1)
-
-all_set : {X : Type 0} (P : X → Type 0) (xs : List X) (i : ℕ) (x : X) → AllByRecursion P xs → P x → AllByRecursion P (slice_set xs i x)
-all_set P [] i x all is = tt
-all_set P (y ∷ xs) zero x all is = (is, all.1)
-all_set P (y ∷ xs) (suc i) x all is = (all.0, all_set P xs i x all.1 is)
+all_but_first : {X : Type 0} (P : X → Type 0) (xs : List X) → AllByRecursion P xs → AllByRecursion P (remove xs 0)
+all_but_first P [] all = tt
+all_but_first P (x ∷ xs) all = all.1
 
 -- all still to come hold where all do
 abbrev pub RestHold : List KnownBeginning → List KnownBeginning → Type 0
@@ -113,11 +107,11 @@ HoldWithOne {E} known beginning result =
 
 pub replaced_hold : {E : Type 0} (known : List KnownBeginning) (i : ℕ) (beginning : KnownBeginning) (result : Result (List KnownBeginning) E) → IfOk result (λ list. list ≡ slice_set known i beginning) → HoldWithOne known beginning result
 replaced_hold known i beginning (Ok all) is = λ branches w new.
-    subst (AllByRecursion (AgreesIn branches)) (sym is) (all_set (AgreesIn branches) known i beginning w new)
+    subst (AllByRecursion (AgreesIn branches)) (sym is) (recursion_from_All (AgreesIn branches) (slice_set known i beginning) (All-set (AgreesIn branches) known i beginning new (All-from_recursion (AgreesIn branches) known w)))
 replaced_hold known i beginning (Err error) is = tt
 
-pub removed_hold : (known others : List KnownBeginning) (i : ℕ) → others ≡ remove known i → RestHold known others
-removed_hold known others i is branches w = subst (AllByRecursion (AgreesIn branches)) (sym is) (all_but (AgreesIn branches) known i w)
+pub removed_hold : (known others : List KnownBeginning) → others ≡ remove known 0 → RestHold known others
+removed_hold known others is branches w = subst (AllByRecursion (AgreesIn branches)) (sym is) (all_but_first (AgreesIn branches) known w)
 
 pub pushed_hold : {E : Type 0} (known others : List KnownBeginning) (beginning : KnownBeginning) → RestHold known others → (result : Result (List KnownBeginning) E) → IfOk result (λ list. list ≡ others ++ beginning ∷ []) → HoldWithOne known beginning result
 pushed_hold known others beginning hold (Ok all) is = λ branches w new.

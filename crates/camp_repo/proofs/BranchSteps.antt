@@ -1,5 +1,6 @@
 -- Branches by name, and other catches in one of them.
-use Rattle.camp_repo.proofs.Words.{◌≡◌, ◌≢◌, ◌||◌, ℕ, false, cond, List, [], ◌∷◌, ◌++◌, None, Some, bytes_eq, refl, sym, ap, ◌∙◌, subst, cond_both, false_from_ne_true, none-some, same_Some, AllByRecursion, Catch, AreDistinct, has_patch, is_among, names_of_branches, Branches, catches_of, stands, with_catches, distinct_append, or_parts, other_way, same_name}
+use Rattle.camp_repo.proofs.Words.{◌≡◌, ◌≢◌, ◌||◌, ℕ, false, cond, List, [], ◌∷◌, ◌++◌, None, Some, bytes_eq, refl, sym, ap, ◌∙◌, subst, cond_both, false_from_ne_true, none-some, same_Some, AllByRecursion, Catch, AreDistinct, has_patch, is_among, names_of_branches, Branches, catches_of, stands, with_catches, distinct_append, or_parts, same_name}
+use Rattle.camp_branch.proofs.BranchLabels.{none_else}
 
 -- the names of the branches stay
 pub names_stay : (branches : Branches) (name : List ℕ) (catches : List Catch) → names_of_branches (with_catches branches name catches) ≡ names_of_branches branches
@@ -48,20 +49,9 @@ absent [] name is = refl
 absent (branch ∷ rest) name is =
     cond_both (bytes_eq name branch.0) (Some branch.1) (catches_of rest name) (λ o. o ≡ None → (bytes_eq name branch.0 || is_among (names_of_branches rest) name) ≡ false) (λ e at. absurd (none-some branch.1 (sym at))) (λ e at. ap (λ b. b || is_among (names_of_branches rest) name) e ∙ absent rest name at) is
 
-none_alike : (names : List (List ℕ)) (name : List ℕ) → is_among names name ≡ false → AllByRecursion (λ other. is_among (name ∷ []) other ≡ false) names
-none_alike [] name e = tt
-none_alike (n ∷ names) name e =
-    let parts = or_parts (bytes_eq name n) (is_among names name) e in
-    (ap (λ b. b || false) (other_way name n parts.0), none_alike names name parts.1)
-
 -- names stay distinct where a new one comes last
 pub distinct_grown : (names : List (List ℕ)) (name : List ℕ) → AreDistinct names → is_among names name ≡ false → AreDistinct (names ++ name ∷ [])
-distinct_grown names name distinct e = distinct_append names (name ∷ []) distinct (refl, tt) (none_alike names name e)
-
--- the names of the branches with one more
-pub names_grown : (branches more : Branches) → names_of_branches (branches ++ more) ≡ names_of_branches branches ++ names_of_branches more
-names_grown [] more = refl
-names_grown (branch ∷ rest) more = ap (λ t. branch.0 ∷ t) (names_grown rest more)
+distinct_grown names name distinct e = distinct_append names (name ∷ []) distinct (refl, tt) (none_else name names e)
 
 -- a name that no branch has is not that of a patch of any
 pub free_of_each : (branches : Branches) (name : List ℕ) → stands branches name ≡ false → OfEach (λ catches. has_patch catches name ≡ false) branches

@@ -1,8 +1,9 @@
 -- What each accepted call does.
 use Rattle.camp_repo.proofs.Words.{◌≡◌, ℕ, ◌+◌, AreDistinct, Branches, Call, all_append, false, not, List, [], ◌∷◌, ◌++◌, Option, None, Some, Ok, is_some, length, nat_le, bytes_eq, refl, sym, ap, ◌∙◌, subst, same_Some, Files, Primitive, Catch, LeadsTo, has_patch, is_among, names_of, recorded, AreLacked, ObliterateGives, PullGives, conflicts_are_determined, among_kept, outcomes_are_determined, BranchExists, NothingToDo, PatchExists, SameBranch, TooLarge, Next, IsLawfulState, IsLawfulBy, names_of_branches, obliterated, pulled, Contents, catches_of, stands, tree_of, with_catches, accepted, is_empty, is_full_with, is_too_large, listed, shown, step, wanted, obliterates_keep_lawful, pulls_keep_lawful, pulled_by, AcceptedCallsHaveEffect, ChangesOne, Copies, Effect, Has, Obliterates, OutcomesAreDefined, Pulls, Records, and_parts, not-true}
+use Rattle.std.proofs.lemmas.List.{map-append}
 use Rattle.camp_call.specs.declared.calls.Call.TheVariants as call
 use Rattle.camp_repo.proofs.AcceptedSteps.{becomes_other, has_branch, has_tree, lacks_none, leads_on, next_is, passes}
-use Rattle.camp_repo.proofs.BranchSteps.{OfEach, absent, distinct_grown, free_of_each, has_other, names_grown, names_stay, of_each_with, of_one, others_stay}
+use Rattle.camp_repo.proofs.BranchSteps.{OfEach, absent, distinct_grown, free_of_each, has_other, names_stay, of_each_with, of_one, others_stay}
 use Rattle.camp_repo.proofs.LawfulBranches.{lawful_alone, left_lawful, pulled_lawful, recorded_lawful, still_lawful, with_number}
 use Rattle.camp_repo.proofs.SizeSteps.{sized_of}
 use Rattle.camp_repo.proofs.TreeSteps.{changes_apply, tree_found}
@@ -51,7 +52,7 @@ with_lawful state next branch catches changes_of lawful each new e = subst IsLaw
 pub copy_lawful : (state : Contents) (new from : List ℕ) (catches : List Catch) → IsLawfulState state → Has state from catches → catches_of state.branches new ≡ None → IsLawfulState (record { branches = state.branches ++ (new, catches) ∷ []; count = state.count + 1 })
 copy_lawful state new from catches lawful has fresh = record {
   distinct =
-      subst AreDistinct (sym (names_grown state.branches ((new, catches) ∷ [])))
+      subst AreDistinct (sym (map-append (λ (branch : List ℕ × List Catch). branch.0) state.branches ((new, catches) ∷ [])))
       (distinct_grown (names_of_branches state.branches) new lawful.distinct (absent state.branches new fresh));
   changes_of = lawful.changes_of;
   lawful =

@@ -1,19 +1,9 @@
 -- How the fields of a state become those of the next.
-use Rattle.camp_repo.proofs.Words.{◌≡◌, ◌+◌, ℕ, zero, suc, false, cond, List, [], ◌∷◌, ◌++◌, length, zip, slice_set, None, Ok, Err, bytes_eq, codes, refl, sym, ap, ◌∙◌, AllZip, list_any, Catch, Outcome, placed, settled, Contents, after, catches_of, initial, with_catches, accepted, becomes, length_push, firsts-zip}
+use Rattle.camp_repo.proofs.Words.{◌≡◌, ◌+◌, ℕ, false, cond, List, [], ◌∷◌, ◌++◌, length, zip, slice_set, None, Ok, Err, bytes_eq, codes, refl, sym, ap, ◌∙◌, AllZip, list_any, Catch, Outcome, placed, settled, Contents, after, catches_of, initial, with_catches, accepted, becomes, length_push, firsts-zip}
+use Rattle.std.proofs.lemmas.List.{length-set, map-id}
+use Rattle.std.proofs.lemmas.Slice.Zip.{AllZip-map}
 use Rattle.camp_repo.proofs.BranchSteps.{absent}
 use Rattle.camp_repo.proofs.PlaceSteps.{as_long, zip_grown, zip_placed}
-
-pub set_long : (branches : List (List Catch)) (i : ℕ) (b : List Catch) → length (slice_set branches i b) ≡ length branches
-set_long [] i b = refl
-set_long (c ∷ bs) zero b = refl
-set_long (c ∷ bs) (suc i) b = ap suc (set_long bs i b)
-
--- a clone of names is the same names
-pub same_clones : (names clones : List (List ℕ)) → AllZip (λ name clone. clone ≡ name) names clones → clones ≡ names
-same_clones [] [] all = refl
-same_clones [] (c ∷ clones) all = absurd all
-same_clones (n ∷ names) [] all = absurd all
-same_clones (n ∷ names) (c ∷ clones) all = λ i. all.0 i ∷ same_clones names clones all.1 i
 
 module _ (names : List (List ℕ)) (branches : List (List Catch)) (count : ℕ) (now : Contents) (view : record { branches = zip names branches; count = count } ≡ now) (long : length names ≡ length branches) where
   same_branches : zip names branches ≡ now.branches
@@ -25,7 +15,7 @@ module _ (names : List (List ℕ)) (branches : List (List Catch)) (count : ℕ) 
 
   module _ (place : ℕ) (branch : List Catch) (next_names : List (List ℕ)) (next_branches : List (List Catch)) (same : next_names ≡ names) (set : next_branches ≡ slice_set branches place branch) where
     pub placed_long : length next_names ≡ length next_branches
-    placed_long = ap length same ∙ long ∙ sym (set_long branches place branch) ∙ ap length (sym set)
+    placed_long = ap length same ∙ long ∙ sym (length-set branches place branch) ∙ ap length (sym set)
 
     pub placed_state : record { branches = zip next_names next_branches; count = count + 1 } ≡ after now (placed now.branches place branch)
     placed_state =
@@ -39,7 +29,7 @@ module _ (names : List (List ℕ)) (branches : List (List Catch)) (count : ℕ) 
 
     next_keys : next_names ≡ names ++ name ∷ []
     next_keys =
-        inserted ∙ ap (λ ns. cond (list_any (bytes_eq name) ns) ns (ns ++ name ∷ [])) (same_clones names cloned clone) ∙ ap (λ b. cond b names (names ++ name ∷ [])) not_there
+        inserted ∙ ap (λ ns. cond (list_any (bytes_eq name) ns) ns (ns ++ name ∷ [])) (AllZip-map (λ n. n) names cloned clone ∙ map-id names) ∙ ap (λ b. cond b names (names ++ name ∷ [])) not_there
 
     pub grown_as_long : length next_names ≡ length next_branches
     grown_as_long =

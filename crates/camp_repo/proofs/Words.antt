@@ -11,7 +11,7 @@ pub use Rattle.camp_base.specs.Trees.{Files, Lines}
 pub use Rattle.camp_branch.proofs.BranchFields.{Names}
 pub use Rattle.camp_branch.proofs.ConflictsDetermined.{conflicts_are_determined}
 pub use Rattle.camp_branch.proofs.NameSets.{has_listed, and_false, one_added, with_name}
-pub use Rattle.camp_branch.proofs.Names.{all_append, all_filter, distinct_append, is_among_is, name_itself, or_parts, or_true, other_way, same_name}
+pub use Rattle.camp_branch.proofs.Names.{all_append, all_filter, distinct_append, is_among_is, name_itself, or_parts, or_true, same_name}
 pub use Rattle.camp_branch.proofs.NamesKept.{among_kept, among_once}
 pub use Rattle.camp_branch.proofs.OutcomesDetermined.{outcomes_are_determined}
 pub use Rattle.camp_branch.specs.Agreeing.{Agree}

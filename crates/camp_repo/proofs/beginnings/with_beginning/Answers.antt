@@ -9,4 +9,4 @@ returns-then-len-lt-MAX_PAIRS c = pushed_hold c.args.known.now c.args.known.now 
 
 pub returns : goal.returns
 returns c =
-    pushed_hold c.args.known.now c.in_ok-others.others _ (removed_hold c.args.known.now c.in_ok-others.others 0 c.in_ok-others.ensures.exact) c.pushed-2.result c.pushed-2.ensures.exact
+    pushed_hold c.args.known.now c.in_ok-others.others _ (removed_hold c.args.known.now c.in_ok-others.others c.in_ok-others.ensures.exact) c.pushed-2.result c.pushed-2.ensures.exact
