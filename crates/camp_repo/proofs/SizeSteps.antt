@@ -1,5 +1,5 @@
 -- The size of a patch, as a test and as a fact.
-use Rattle.camp_repo.proofs.Words.{◌≡◌, ℕ, ◌≤◌, ◌+◌, ◌∙◌, false, Bool, not, List, [], length, drop, Option, nat_le, nat_lt, refl, sym, ap, arith, list_any, option_map_or, Files, Primitive, Catch, Agree, AreLacked, is_among, name_of, path_of, has_long_file, is_full_with, ◌-◌, leb-true, length-drop, Lines, Applies, has_long_side, is_patch_sized, is_too_large, longest_file, most_catches, and_parts, not-false, or_parts}
+use Rattle.camp_repo.proofs.Words.{◌≡◌, ℕ, ◌≤◌, ◌+◌, ◌∙◌, false, Bool, List, [], length, drop, Option, nat_le, nat_lt, refl, sym, ap, arith, list_any, option_map_or, Files, Primitive, Catch, Agree, AreLacked, is_among, name_of, path_of, has_long_file, is_full_with, ◌-◌, leb-true, length-drop, Lines, Applies, has_long_side, is_patch_sized, is_too_large, longest_file, most_catches, and_parts, not-false, or_parts}
 use Rattle.std.proofs.lemmas.Bool.Decides.{nat_tests}
 use Rattle.std.proofs.lemmas.List.Sums.{count_by-le-length, length-filter}
 use Rattle.camp_prim.proofs.Maps.{get_inserted, get_removed}

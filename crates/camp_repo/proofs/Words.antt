@@ -1,6 +1,5 @@
 -- Words that the proofs of this crate have in common: of the standard library, of definitions, and of crates below.
-pub use Rattle.std.proofs.Common.{◌&&◌, ◌++◌, ◌+◌, ◌<◌, ◌||◌, ◌∙◌, ◌∷◌, ◌≡◌, ◌≤◌, Bool, Err, List, None, Ok, Option, Result, Some, [], ap, arith, bytes_eq, cond, drop, false, get_or, is_some, length, map, nat_le, nat_lt, not, position, pred, refl, slice_get, slice_set, subst, suc, sym, true, zero, zip, ℕ, IfOk, MatchOption, append-nil, codes, filter, if◌then◌else◌, inl, inr, option_copied, rules, take, true≢false, ◌==◌, ◌≢◌}
-pub use Rattle.std.proofs.Math.ListN.{drop_of_length-le}
+pub use Rattle.std.proofs.Common.{◌&&◌, ◌++◌, ◌+◌, ◌<◌, ◌||◌, ◌∙◌, ◌∷◌, ◌≡◌, ◌≤◌, Bool, Err, List, None, Ok, Option, Result, Some, [], ap, arith, bytes_eq, cond, drop, false, get_or, is_some, length, map, nat_le, nat_lt, not, position, pred, refl, slice_get, slice_set, subst, suc, sym, true, zero, zip, ℕ, IfOk, append-nil, codes, filter, if◌then◌else◌, inl, inr, option_copied, rules, take, true≢false, ◌==◌, ◌≢◌, tests}
 pub use Rattle.std.proofs.lemmas.Option.{none-some, same_Some}
 pub use Rattle.std.specs.Cmp.Lexicographic.{slice_cmp}
 pub use Rattle.std.specs.FinMap.{contains_key, empty, entries, keys, len, len-entries}
@@ -10,7 +9,7 @@ pub use Rattle.std.specs.Ordering.{nat_cmp}
 pub use Rattle.camp_base.specs.Trees.{Files, Lines}
 pub use Rattle.camp_branch.proofs.BranchFields.{Names}
 pub use Rattle.camp_branch.proofs.ConflictsDetermined.{conflicts_are_determined}
-pub use Rattle.camp_branch.proofs.NameSets.{has_listed, and_false, one_added, with_name}
+pub use Rattle.camp_branch.proofs.NameSets.{has_listed, and_false}
 pub use Rattle.camp_branch.proofs.Names.{all_append, all_filter, distinct_append, is_among_is, name_itself, or_parts, or_true, same_name}
 pub use Rattle.camp_branch.proofs.NamesKept.{among_kept, among_once}
 pub use Rattle.camp_branch.proofs.OutcomesDetermined.{outcomes_are_determined}
@@ -45,6 +44,6 @@ pub use Rattle.camp_branch.proofs.Steps.{pulled_by, pulls_begin_with_own}
 pub use Rattle.camp_prim.proofs.Applied.{Applies-from_applied, applied-from_Applies, applied-none}
 pub use Rattle.camp_prim.specs.Effect.{Applies}
 pub use Rattle.std.proofs.lemmas.Bool.{and_parts, cond_both, false_from_ne_true, leb-true, not-false, not-true}
-pub use Rattle.std.proofs.lemmas.List.{length-append, length-drop, length-map, length_push, take-append-drop}
+pub use Rattle.std.proofs.lemmas.List.{length-drop, length-map, length_push, take-append-drop}
 pub use Rattle.std.proofs.lemmas.Slice.Zip.{firsts-zip, seconds-zip}
 pub use Rattle.std.specs.Prelude.{Contains, ◌-◌, ◌↔◌}

@@ -8,8 +8,7 @@ ghost use Rattle.camp_repo.specs.Steps.{catches_named, is_full_with, listed, wan
 
 use crate::{Branch, MAX_CATCHES, Names};
 use camp_base::Name;
-use camp_branch::NameSet;
-use camp_share::{MapBuilder, SharedMap};
+use camp_branch::{NameSet, set_of};
 use std::alloc::AllocError;
 
 /// The first listed name of which a branch has no patch. Where there is no list, no name is lacked.
@@ -56,15 +55,14 @@ fn wanted_behind(ours: &Branch, theirs: &Branch, long: usize) -> Result<NameSet,
     ensures { IfOk result (λ set. (name : List ℕ) →
         is_among (names_in set) name ≡ is_among (wanted ours.now (names_of theirs.now)) name) }
 {
-    let mut set = MapBuilder::from_map(&SharedMap::new(ours.catches().allocator()))?;
-    for catch in theirs.catches().iter_from(long) {
-        let name = catch.name();
-        if ours.has_patch(name) {
-            continue;
-        }
-        set.insert_if_absent(*name, ())?;
-    }
-    Ok(set.into_map()?)
+    let alloc = ours.catches().allocator();
+    let lacked: Vec<Name> = theirs
+        .catches()
+        .iter_from(long)
+        .map(|catch| *catch.name())
+        .filter(|name| !ours.has_patch(name))
+        .collect(alloc)?;
+    Ok(set_of(alloc, &lacked)?)
 }
 
 /// The names of which a branch has no patch.
@@ -72,14 +70,13 @@ fn wanted_of(branch: &Branch, names: &[Name]) -> Result<NameSet, AllocError>
     ensures { IfOk result (λ set. (name : List ℕ) →
         is_among (names_in set) name ≡ is_among (wanted branch.now names.now) name) }
 {
-    let mut set = MapBuilder::from_map(&SharedMap::new(branch.catches().allocator()))?;
-    for name in names {
-        if branch.has_patch(name) {
-            continue;
-        }
-        set.insert_if_absent(*name, ())?;
-    }
-    Ok(set.into_map()?)
+    let alloc = branch.catches().allocator();
+    let lacked: Vec<Name> = names
+        .iter()
+        .copied()
+        .filter(|name| !branch.has_patch(name))
+        .collect(alloc)?;
+    Ok(set_of(alloc, &lacked)?)
 }
 
 /// Whether a branch would be too long with the catches that another one has of these names. The
@@ -118,11 +115,8 @@ fn count_behind(branch: &Branch, names: &NameSet, from: usize) -> usize
     let catches = branch.catches();
     // The proof is told that a length is a number of the machine.
     prove!(catches.len() <= usize::MAX);
-    let mut count = 0;
-    for catch in catches.iter_from(from) {
-        if names.contains_key(catch.name()) {
-            count += 1;
-        }
-    }
-    count
+    catches
+        .iter_from(from)
+        .filter(|catch| names.contains_key(catch.name()))
+        .count()
 }

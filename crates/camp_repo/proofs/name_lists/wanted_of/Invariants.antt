@@ -1,6 +1,0 @@
-use Rattle.camp_repo.proofs.Words.{drop, slice_cmp, nat_cmp, map_of, is_among, wanted}
-use Rattle.camp_repo.proofs.NameSteps.{IsFilled}
-use Rattle.camp_repo.proofs.name_lists.wanted_of.Given as goal
-
-abbrev pub invariant-loop-name : goal.invariant-loop-name
-invariant-loop-name l = IsFilled (map_of (slice_cmp nat_cmp) l.set) (wanted l.branch (drop l.name-index l.names)) (is_among (wanted l.branch l.names))
