@@ -1,21 +1,11 @@
 -- Branches in which each name goes with its number of changes.
-use Rattle.camp_repo.proofs.Words.{◌≡◌, ◌≤◌, ℕ, false, not, if◌then◌else◌, cond, List, [], ◌∷◌, ◌++◌, Ok, length, bytes_eq, refl, sym, ap, ◌∙◌, empty, AllByRecursion, Files, Primitive, Catch, ObliterateGives, PullGives, IsLawfulBy, AppliesEach, AreLacked, others_of, those_of, left_tree, pulled_tree, recorded_tree, all_append, all_filter, name_itself, or_parts}
+use Rattle.camp_repo.proofs.Words.{◌≡◌, ◌≤◌, ℕ, false, not, if◌then◌else◌, cond, List, [], ◌∷◌, ◌++◌, Ok, length, bytes_eq, sym, ap, ◌∙◌, AllByRecursion, Files, Primitive, Catch, ObliterateGives, PullGives, IsLawfulBy, AppliesEach, AreLacked, others_of, those_of, left_tree, pulled_tree, recorded_tree, all_append, all_filter, name_itself, or_parts}
 use Rattle.camp_branch.specs.Branches.{IsLawfulBranch as IsLawfulBranch, LeadsTo, Patch, has_patch, is_among, patch_names, recorded}
 use Rattle.camp_branch.proofs.BranchLabels.{left_patches, not_a_patch, pulled_patches, recorded_patches}
 
 -- a branch that is lawful by some numbers is lawful
 pub lawful_alone : (changes_of : List ℕ → ℕ) (catches : List Catch) → IsLawfulBy changes_of catches → IsLawfulBranch catches
 lawful_alone changes_of catches v = record { patches = v.patches; has = v.has; tree = v.tree; leads = v.leads }
-
--- the branch without a catch
-pub none_lawful : (changes_of : List ℕ → ℕ) → IsLawfulBy changes_of []
-none_lawful changes_of = record {
-  patches = [];
-  has = record { distinct = tt; sized = tt; labels = refl };
-  agree = tt;
-  tree = empty;
-  leads = refl;
-}
 
 -- what a pull gives
 pub pulled_lawful : (changes_of : List ℕ → ℕ) (from to pulled : List Catch) (wanted : List (List ℕ)) → PullGives from to wanted (Ok pulled) → IsLawfulBy changes_of from → IsLawfulBy changes_of to → AreLacked to wanted → IsLawfulBy changes_of pulled

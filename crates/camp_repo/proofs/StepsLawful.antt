@@ -1,14 +1,13 @@
 -- From lawful states accepted calls lead to lawful ones.
-use Rattle.camp_repo.proofs.Words.{refl, ap, ◌∙◌, option_map_or, NoBranch, tree_of, refused, shown, InitialIsLawful, StepsKeepLawful, TreesAreAnswered}
+use Rattle.camp_repo.proofs.Words.{[], empty, refl, ap, ◌∙◌, option_map_or, NoBranch, tree_of, refused, shown, InitialIsLawful, StepsKeepLawful, TreesAreAnswered}
 use Rattle.camp_repo.proofs.Effects.{called, lawful_branch}
-use Rattle.camp_repo.proofs.LawfulBranches.{none_lawful}
 use Rattle.camp_repo.proofs.TreeSteps.{tree_found}
 
 pub initial_lawful : InitialIsLawful
 initial_lawful = record {
   distinct = (refl, tt);
   changes_of = λ name. 1;
-  lawful = (none_lawful (λ name. 1), tt);
+  lawful = (record { patches = []; has = record { distinct = tt; sized = tt; labels = refl }; agree = tt; tree = empty; leads = refl }, tt);
 }
 
 pub steps_lawful : StepsKeepLawful
