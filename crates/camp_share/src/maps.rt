@@ -6,10 +6,11 @@ ghost use Rattle.std.specs.FinMap.Entries.{find};
 ghost use Rattle.std.specs.Map.Iter.{ShowsInOrder, deref};
 ghost use Rattle.std.specs.Cmp.Lexicographic.{pointwise, lists_per};
 ghost use Rattle.std.specs.Cmp.{on_per, and_per};
+ghost use Rattle.camp_share.specs.Inside.EntryFields.{entries_of, IsForm};
 ghost use Rattle.camp_share.specs.Maps.{map_of};
 
 use crate::changes::{inserted_at, removed_at, replaced_at};
-use crate::few_or_many::{Entries, Form};
+use crate::few_or_many::Entries;
 use crate::iters::are_equal;
 use crate::part_lists::PartList;
 use crate::pieces::OnePart;
@@ -34,12 +35,13 @@ pub struct SharedMap<K: Key, V> {
 impl<K: Key, V> Model for SharedMap<K, V> {
     ghost use Rattle.std.specs.Prelude.{List, T as Holds};
     ghost use Rattle.std.specs.FinMap.{is_sorted};
+    ghost use Rattle.camp_share.specs.Inside.EntryFields.{entries_of, IsForm};
 
     ghost Value = { List (K × V) };
 
-    ghost view = { λ map. map.entries };
+    ghost view = { λ map. entries_of map.entries };
 
-    ghost invariant = { λ map. Holds (is_sorted K.cmp map.entries) };
+    ghost invariant = { λ map. Holds (is_sorted K.cmp (entries_of map.entries)) × IsForm map.entries };
 }
 
 impl<K: Key, V> SharedMap<K, V> {
@@ -48,7 +50,7 @@ impl<K: Key, V> SharedMap<K, V> {
         ensures exact { map_of K.cmp result ≡ map.empty }
     {
         SharedMap {
-            entries: Entries::none(),
+            entries: Entries::OnePart(OnePart::empty()),
             alloc,
         }
     }
@@ -87,9 +89,9 @@ impl<K: Key, V> SharedMap<K, V> {
     pub fn get(&self, key: &K) -> Option<&V>
         ensures exact { option_copied result ≡ map.get (map_of K.cmp self.now) key.now }
     {
-        match self.entries.form() {
-            Form::OnePart(part) => value_in_part(part.items(), key),
-            Form::Parts(list) => value_in_parts(list, key),
+        match &self.entries {
+            Entries::OnePart(part) => value_in_part(part.items(), key),
+            Entries::Parts(list) => value_in_parts(list, key),
         }
     }
 
@@ -107,8 +109,8 @@ impl<K: Key, V> SharedMap<K, V> {
 
     // The map of these entries.
     fn of(alloc: Global, entries: Entries<(K, V)>) -> SharedMap<K, V>
-        requires { Holds (is_sorted K.cmp entries) }
-        ensures { result ≡ entries }
+        requires { Holds (is_sorted K.cmp (entries_of entries)) × IsForm entries }
+        ensures { result ≡ entries_of entries }
     {
         SharedMap { entries, alloc }
     }
@@ -139,9 +141,9 @@ impl<K: Key, V: Share + Drop> SharedMap<K, V> {
     pub fn inserted(&self, key: K, value: V) -> Result<SharedMap<K, V>, AllocError>
         ensures exact { IfOk result (λ new. map_of K.cmp new ≡ map.insert (map_of K.cmp self.now) key value) }
     {
-        let entries = match self.entries.form() {
-            Form::OnePart(part) => inserted_in_part(self.alloc, part, key, value)?,
-            Form::Parts(list) => Entries::in_parts(inserted_in_parts(list, key, value)?),
+        let entries = match &self.entries {
+            Entries::OnePart(part) => inserted_in_part(self.alloc, part, key, value)?,
+            Entries::Parts(list) => Entries::Parts(inserted_in_parts(list, key, value)?),
         };
         Ok(SharedMap::of(self.alloc, entries))
     }
@@ -161,9 +163,9 @@ impl<K: Key, V: Share + Drop> SharedMap<K, V> {
     pub fn without(&self, key: &K) -> Result<SharedMap<K, V>, AllocError>
         ensures exact { IfOk result (λ new. map_of K.cmp new ≡ map.remove (map_of K.cmp self.now) key.now) }
     {
-        let entries = match self.entries.form() {
-            Form::OnePart(part) => removed_in_part(self.alloc, part, key)?,
-            Form::Parts(list) => Entries::in_parts(removed_in_parts(list, key)?),
+        let entries = match &self.entries {
+            Entries::OnePart(part) => removed_in_part(self.alloc, part, key)?,
+            Entries::Parts(list) => Entries::Parts(removed_in_parts(list, key)?),
         };
         Ok(SharedMap::of(self.alloc, entries))
     }
@@ -177,8 +179,9 @@ fn inserted_in_part<K: Key, V: Share + Drop>(
     value: V,
 ) -> Result<Entries<(K, V)>, AllocError>
     requires { Holds (is_sorted K.cmp part.now) }
-    ensures { IfOk result (λ new. Holds (is_sorted K.cmp new)
-        × (map_of K.cmp new ≡ map.insert (map_of K.cmp part.now) key value)) }
+    ensures map { IfOk result (λ new. Holds (is_sorted K.cmp (entries_of new))
+        × (map_of K.cmp (entries_of new) ≡ map.insert (map_of K.cmp part.now) key value)) }
+    ensures form { IfOk result IsForm }
 {
     let new = match place_in(part.items(), &key) {
         Ok(place) => part.with_one(alloc, place, place + 1, (key, value))?,
@@ -221,8 +224,9 @@ fn removed_in_part<K: Key, V: Share + Drop>(
     key: &K,
 ) -> Result<Entries<(K, V)>, AllocError>
     requires { Holds (is_sorted K.cmp part.now) }
-    ensures { IfOk result (λ new. Holds (is_sorted K.cmp new)
-        × (map_of K.cmp new ≡ map.remove (map_of K.cmp part.now) key.now)) }
+    ensures map { IfOk result (λ new. Holds (is_sorted K.cmp (entries_of new))
+        × (map_of K.cmp (entries_of new) ≡ map.remove (map_of K.cmp part.now) key.now)) }
+    ensures form { IfOk result IsForm }
 {
     let new = match place_in(part.items(), key) {
         Ok(place) => part.without(alloc, place)?,

@@ -6,13 +6,13 @@ use Rattle.camp_share.proofs.maps.SharedMap.get.Goals as goal
 pub returns-in-OnePart : goal.returns-in-OnePart
 returns-in-OnePart g c = record {
   exact =
-      c.value_in_part.ensures ∙ ap (find g.K.Ord.cmp c.args.key.now) (c.items.ensures ∙ ap entries_of (sym c.in-OnePart.is) ∙ c.form.ensures)
-      ∙ sym (get_is _ g.met.K.Ord.total _ _ c.self.view_is c.self.invariant c.args.key.now);
+      c.value_in_part.ensures ∙ ap (find g.K.Ord.cmp c.args.key.now) (c.items.ensures ∙ ap entries_of (sym c.in-OnePart.is))
+      ∙ sym (get_is _ g.met.K.Ord.total _ _ c.self.view_is c.self.invariant.0 c.args.key.now);
 }
 
 pub returns-in-Parts : goal.returns-in-Parts
 returns-in-Parts g c = record {
   exact =
-      c.value_in_parts.ensures ∙ ap (find g.K.Ord.cmp c.args.key.now) (ap entries_of (sym c.in-Parts.is) ∙ c.form.ensures)
-      ∙ sym (get_is _ g.met.K.Ord.total _ _ c.self.view_is c.self.invariant c.args.key.now);
+      c.value_in_parts.ensures ∙ ap (find g.K.Ord.cmp c.args.key.now) (ap entries_of (sym c.in-Parts.is))
+      ∙ sym (get_is _ g.met.K.Ord.total _ _ c.self.view_is c.self.invariant.0 c.args.key.now);
 }
