@@ -6,7 +6,7 @@ ghost use Rattle.std.specs.Cmp.Lexicographic.{pointwise, lists_per, lists_equiv}
 ghost use Rattle.std.specs.Map.Iter.{ShowsInOrder, deref};
 
 use crate::iters::are_equal;
-use crate::pieces::{Front, OnePart, spliced, with_one};
+use crate::pieces::{Front, OnePart, has_room, spliced};
 use crate::{Iter, Share};
 use std::alloc::{AllocError, Global};
 use std::borrow::CowSlice;
@@ -152,10 +152,28 @@ impl<T: Share + Drop> SharedList<T> {
         requires { index ≤ length self.now }
         ensures exact { IfOk result (λ list. list ≡ insert self.now index item) }
     {
-        let Some(len) = self.len.checked_add(1) else {
+        self.with_one(index, index, item)
+    }
+
+    // The list with one element in place of those from one place up to another.
+    fn with_one(&self, from: usize, to: usize, item: T) -> Result<SharedList<T>, AllocError>
+        requires range { from ≤ to }
+        requires within { to ≤ length self.now }
+        ensures { IfOk result (λ list. list ≡ splice self.now from to (item ∷ [])) }
+    {
+        let border = self.front.len();
+        if from < border || !has_room(border, &self.last, to - from, 1) {
+            let mut one = Vec::with_capacity(self.alloc, 1)?;
+            one.push(item)?;
+            return self.spliced(from, to, &one);
+        }
+        let Some(len) = (self.len - (to - from)).checked_add(1) else {
             return Err(AllocError);
         };
-        let (front, last) = with_one(&self.front, &self.last, self.alloc, index, index, item)?;
+        let last = self
+            .last
+            .with_one(self.alloc, from - border, to - border, item)?;
+        let front = self.front.share()?;
         Ok(SharedList {
             front,
             last,
@@ -188,14 +206,7 @@ impl<T: Share + Drop> SharedList<T> {
         ensures exact { IfOk result (λ list. list ≡ slice_set self.now index item) }
     {
         prove!(index < self.len);
-        let end = index + 1;
-        let (front, last) = with_one(&self.front, &self.last, self.alloc, index, end, item)?;
-        Ok(SharedList {
-            front,
-            last,
-            len: self.len,
-            alloc: self.alloc,
-        })
+        self.with_one(index, index + 1, item)
     }
 
     /// The list without the element at a place.

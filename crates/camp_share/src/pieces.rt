@@ -242,33 +242,9 @@ pub(crate) fn spliced<T: Share + Drop>(
     Ok((Front::of(alloc, list)?, OnePart::empty()))
 }
 
-// A front and a last part with one element in place of those from one place up to another.
-pub(crate) fn with_one<T: Share + Drop>(
-    front: &Front<T>,
-    last: &OnePart<T>,
-    alloc: Global,
-    from: usize,
-    to: usize,
-    item: T,
-) -> Result<(Front<T>, OnePart<T>), AllocError>
-    requires range { from ≤ to }
-    requires within { to ≤ length (front.now ++ last.now) }
-    ensures { IfOk result (λ new. new.0 ++ new.1 ≡ splice (front.now ++ last.now) from to (item ∷ [])) }
-{
-    let border = front.len();
-    if from >= border && has_room(border, last, to - from, 1) {
-        let changed = last.with_one(alloc, from - border, to - border, item)?;
-        let same = front.share()?;
-        return Ok((same, changed));
-    }
-    let mut one = Vec::with_capacity(alloc, 1)?;
-    one.push(item)?;
-    spliced(front, last, alloc, from, to, &one)
-}
-
 // Whether a last part may have so many elements in place of as many that go. It may have those of a
 // whole part where nothing stands before it.
-fn has_room<T>(border: usize, last: &OnePart<T>, gone: usize, new: usize) -> bool {
+pub(crate) fn has_room<T>(border: usize, last: &OnePart<T>, gone: usize, new: usize) -> bool {
     let most = if border == 0 { MAX_PART_LENGTH } else { FEW };
     let kept = last.items().len().saturating_sub(gone);
     new <= most.saturating_sub(kept)
