@@ -7,9 +7,10 @@ ghost use Rattle.camp_row.specs.Known.{most_cells, most_seats};
 
 use crate::faults::HeadFault;
 use crate::kept::{Kept, Place};
-use crate::origins::{OriginSlot, origins_of};
+use crate::origins::{OriginSlot, SlotIds};
 use crate::seats::Seat;
-use crate::versions::{Slot, slots_of};
+use crate::versions::{Slot, StoreIds, slots_under};
+use boxcar::tag::Tag;
 use camp_object::{Fault, Object};
 use camp_row::{Pass, Row};
 use camp_share::{Shared, SharedList};
@@ -131,8 +132,10 @@ impl<State: Object> Head<State> {
         let calls = boxcar::Vec::new(alloc)?;
         let count = slot_count(row.seats(), row.per_seat(), every)
             + handing_count(row.seats(), every);
-        let versions = slots_of(alloc, &calls, count)?;
-        let origins = origins_of(alloc, &versions)?;
+        let store = Tag::of::<boxcar::Vec<State::Call>, StoreIds>(&calls);
+        let versions = slots_under(alloc, &store, count)?;
+        let slots = Tag::of::<Vec<Slot<State>>, SlotIds>(&versions);
+        let origins = slots_under(alloc, &slots, count)?;
         Ok(Head {
             row,
             calls,

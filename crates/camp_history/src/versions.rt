@@ -71,19 +71,18 @@ impl<Call> Names<boxcar::Vec<Call>> for StoreIds {
 /// Where a version is put, once.
 pub type Slot<State> = OnceSlot<Version<State>, OfStore>;
 
-/// So many slots without a version, for a store.
-pub(crate) fn slots_of<State: Object>(
+/// So many slots in which nothing lies, under a tag.
+pub(crate) fn slots_under<X: Drop, Rule: SlotRule<X>>(
     alloc: Global,
-    calls: &boxcar::Vec<State::Call>,
+    tag: &Tag,
     count: usize,
-) -> Result<Vec<Slot<State>>, AllocError>
-    ensures of { IfOk result (λ slots. All (λ slot. slot.tag ≡ ids calls.now) slots.items) }
+) -> Result<Vec<OnceSlot<X, Rule>>, AllocError>
+    ensures of { IfOk result (λ slots. All (λ slot. slot.tag ≡ tag.now.numbers) slots.items) }
     ensures count { IfOk result (λ slots. length slots.items ≡ count) }
 {
     let mut slots = Vec::with_capacity(alloc, count)?;
     for _ in 0..count {
-        let tag = Tag::of::<boxcar::Vec<State::Call>, StoreIds>(calls);
-        slots.push_reserved(OnceSlot::new(&tag));
+        slots.push_reserved(OnceSlot::new(tag));
     }
     Ok(slots)
 }
