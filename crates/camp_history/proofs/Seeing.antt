@@ -1,19 +1,27 @@
 -- Lemmas on what a seat sees.
-use Rattle.camp_history.proofs.Words.{◌≡◌, ℕ, ◌<◌, ◌≤◌, List, [], ◌∷◌, ◌++◌, length, map, All, Some, refl, sym, ◌∙◌, ap, subst, arith, length-append, All-push, All-same, append_assoc, length-map, Sequential, IsLawfulObject, IsBeginning, replay, own, Entry, Seated, asked, told, Begins, most_listed, history_of, Mark, entry_of, GetsOn, SeesMore, with_mark, HeadId, IsSeatOf, Shows, Where, Ok, Err, OnOk, OnErr, Result, entries_of, own_other, count-replay, begins_self, begins_through, Based, All-weaker, Known, Leads, ComesNext}
+use Rattle.camp_history.proofs.Words.{◌≡◌, ℕ, ◌<◌, ◌≤◌, List, [], ◌∷◌, ◌++◌, length, map, All, Some, refl, sym, ◌∙◌, ap, subst, arith, ◌==◌, if◌then◌else◌, cond, filter, false, suc, true, turns, map_push, length-append, All-push, All-same, append_assoc, length-map, Sequential, IsLawfulObject, IsBeginning, replay, own, Entry, Seated, asked, told, Begins, most_listed, history_of, Mark, entry_of, GetsOn, SeesMore, with_mark, HeadId, IsSeatOf, Shows, Where, Ok, Err, OnOk, OnErr, Result, entries_of, own_other, count-replay, begins_self, begins_through, Based, All-weaker, Known, Leads, ComesNext}
 use Rattle.camp_row.specs.declared.trails.Next.{Next}
-pub use Rattle.camp_history.proofs.Marked.{length-own, map_more}
+
+-- a seat has as many calls as it has entries
+pub length-own : {Call : Type 0} (seat : ℕ) (marks : List (Mark Call)) → length (own seat (map asked marks)) ≡ turns seat (map entry_of marks)
+length-own seat [] = refl
+length-own seat (mark ∷ marks) =
+    elim (mark.seat == seat) as (λ b. length (if b then mark.call.value ∷ own seat (map asked marks) else own seat (map asked marks)) ≡ length (cond b (entry_of mark ∷ filter (λ entry. entry.seat == seat) (map entry_of marks)) (filter (λ entry. entry.seat == seat) (map entry_of marks)))) [
+      | true ↦ ap (λ n. suc n) (length-own seat marks)
+      | false ↦ length-own seat marks
+    ]
 
 -- a list of marks with one more
 module _ {Call : Type 0} (marks now : List (Mark Call)) (mark : Mark Call) (grows : now ≡ marks ++ mark ∷ []) where
   pub entries_more : (seen seen' : List Entry) → map entry_of marks ≡ seen → seen' ≡ seen ++ entry_of mark ∷ [] → map entry_of now ≡ seen'
   entries_more seen seen' places more =
-      ap (map entry_of) grows ∙ map_more entry_of marks mark ∙ ap (λ list. list ++ entry_of mark ∷ []) places ∙ sym more
+      ap (map entry_of) grows ∙ map_push entry_of marks mark ∙ ap (λ list. list ++ entry_of mark ∷ []) places ∙ sym more
 
   pub history_more : map asked now ≡ map asked marks ++ asked mark ∷ []
-  history_more = ap (map asked) grows ∙ map_more asked marks mark
+  history_more = ap (map asked) grows ∙ map_push asked marks mark
 
   pub begins_more : Begins marks now
-  begins_more = record { rest = told mark ∷ []; makes = sym (ap (map told) grows ∙ map_more told marks mark) }
+  begins_more = record { rest = told mark ∷ []; makes = sym (ap (map told) grows ∙ map_push told marks mark) }
 
   pub all_more : (P : Mark Call → Type 0) → All P marks → P mark → All P now
   all_more P all here = All-same P now (marks ++ mark ∷ []) grows (All-push P marks mark all here)
@@ -52,7 +60,7 @@ pub got_on : {Call E : Type 0} (head : HeadId) (old new : Seated Call) (next : N
 got_on head old new next call (Err fault) of comes shows ok err = subst (GetsOn head old) (sym err) (gets_on_self head old of)
 got_on {Call} head old new next call (Ok done) of comes shows ok err =
     let mark : Mark Call = record { seat = next.entry.seat; call = call } in
-    let grows : map asked (old.marks ++ mark ∷ []) ≡ history_of old ++ asked mark ∷ [] = map_more asked old.marks mark in
+    let grows : map asked (old.marks ++ mark ∷ []) ≡ history_of old ++ asked mark ∷ [] = map_push asked old.marks mark in
     let on : GetsOn head old (with_mark old mark) = record {
       of = record { row = of.row; stored = All-push (λ mark. Shows head.store mark.call) old.marks mark of.stored shows; bases = of.bases };
       more = record {

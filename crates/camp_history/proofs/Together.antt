@@ -1,17 +1,8 @@
 -- Lemmas on seats that meet.
-use Rattle.camp_history.proofs.Words.{IsBeginning, own, Fault, Memory, Seated, asked, history_of, entry_of, entries_of, SeesMore, ◌≡◌, ℕ, zero, suc, ◌≤◌, ◌⊎◌, inl, inr, List, [], ◌++◌, length, map, Result, OnOk, IfErr, sym, ◌∙◌, ap, subst, arith, length-map, length-append, append-nil, nil_from_length, own-append, begins_through, begins_shorter, FindsChain}
+use Rattle.camp_history.proofs.Words.{IsBeginning, own, Fault, Memory, Seated, asked, history_of, entry_of, entries_of, SeesMore, ◌≡◌, ℕ, ◌≤◌, ◌⊎◌, cases_lt, inl, inr, List, [], ◌++◌, length, map, Result, OnOk, IfErr, sym, ◌∙◌, ap, subst, arith, length-map, length-append, append-nil, nil_from_length, own-append, begins_through, begins_shorter, FindsChain}
 use Rattle.camp_row.specs.Chains as chain
 use Rattle.camp_history.specs.Meeting.{Meets}
 use Rattle.camp_history.proofs.Seeing.{length-own}
-
--- of two lists one is not longer than the other
-shorter : (m n : ℕ) → (m ≤ n) ⊎ (n ≤ m)
-shorter zero n = inl (omega arith)
-shorter (suc m) zero = inr (omega arith)
-shorter (suc m) (suc n) = elim (shorter m n) [
-  | inl less ↦ inl (omega arith)
-  | inr less ↦ inr (omega arith)
-]
 
 -- a history that has as many calls of a seat as its front has no others
 pub own_front : {Call : Type 0} (seat : ℕ) (front whole : List (ℕ × Call)) → IsBeginning front whole → length (own seat whole) ≡ length (own seat front) → own seat whole ≡ own seat front
@@ -37,12 +28,12 @@ module _ {Call : Type 0} (a b met a' b' : Seated Call) (a_finds : FindsChain a.k
   one_begins =
       let Begins : List (ℕ × Call) → Type 0 = λ list. IsBeginning (history_of a) list in
       let Ends : List (ℕ × Call) → Type 0 = λ list. IsBeginning list (history_of a') in
-      elim (shorter (length a'.marks) (length b'.marks)) [
-        | inl short ↦ inl (subst Begins b_stays (begins_through grows (a_shorter short)))
+      elim (cases_lt (length a'.marks) (length b'.marks)) [
+        | inl short ↦ inl (subst Begins b_stays (begins_through grows (a_shorter (omega arith))))
         | inr short ↦
             let b_begins : IsBeginning (history_of b) (history_of a') = subst Ends b_stays (b_shorter short) in
-            elim (shorter (length (history_of a)) (length (history_of b))) [
-              | inl less ↦ inl (begins_shorter (history_of a) (history_of b) (history_of a') grows b_begins less)
+            elim (cases_lt (length (history_of a)) (length (history_of b))) [
+              | inl less ↦ inl (begins_shorter (history_of a) (history_of b) (history_of a') grows b_begins (omega arith))
               | inr less ↦ inr (begins_shorter (history_of b) (history_of a) (history_of a') b_begins grows less)
             ]
       ]

@@ -1,5 +1,5 @@
 -- Lemmas on versions: how they are tied to a store, and how one goes on from what a seat has seen.
-use Rattle.camp_history.proofs.Words.{Entry, HeadId, IsBeginning, IsIn, IsSeatOf, IsSound, Known, Leads, Seated, asked, entry_of, entries_of, begins_shorter, history_of, ids, ids_of, length-beginning, own, told, news, based, bases_in, Begins, Based, IsBaseAt, Share, GoesOn, Adopts, Mark, SeesMore, ◌≡◌, ℕ, zero, suc, ◌+◌, ◌-◌, ◌<◌, ◌≤◌, List, [], ◌∷◌, ◌++◌, length, map, take, drop, splice, slice_get, slice_index_or, All, Option, None, Some, IfSome, MatchOption, refl, sym, ◌∙◌, ap, subst, arith, append-nil, append_assoc, length-append, length-map, map-append, take-append-drop, take_at, take_rest, drop_at, drop-drop, drop-map, same_Some, take_all, drop_all, begins_self, Bool, true, false, if◌then◌else◌, All-append, All-drop, All-map, All-push, All-same, All-weaker, Shelves, Shows, turns}
+use Rattle.camp_history.proofs.Words.{Entry, HeadId, IsBeginning, IsIn, IsSeatOf, IsSound, Known, Leads, Seated, asked, entry_of, entries_of, begins_shorter, history_of, ids, ids_of, length-beginning, own, told, news, based, bases_in, Begins, Based, IsBaseAt, Share, GoesOn, Adopts, Mark, SeesMore, ◌≡◌, ℕ, zero, suc, ◌+◌, ◌-◌, ◌<◌, ◌≤◌, List, [], ◌∷◌, ◌++◌, length, map, take, drop, splice, get_or, slice_get, slice_index_or, All, Option, None, Some, IfSome, MatchOption, refl, sym, ◌∙◌, ap, subst, arith, append-nil, append_assoc, length-append, length-map, map-append, take-append-drop, take_at, take_more, take_rest, drop_at, drop_more, drop-map, length-drop, length-take-le, map_push, same_Some, take_all, drop_all, begins_self, Bool, true, false, if◌then◌else◌, All-append, All-drop, All-map, All-push, All-same, All-weaker, Shelves, Shows, turns}
 use Rattle.std.proofs.lemmas.List.{get_or-map}
 use Rattle.std.proofs.Math.Seq.{drop-append-add}
 use Rattle.std.proofs.lemmas.Simd.{map-map}
@@ -7,9 +7,8 @@ use Rattle.boxcar.specs.Slot.{Named}
 use Rattle.camp_row.specs.Chains as chain
 use Rattle.camp_row.proofs.Cells.{turns_front}
 use Rattle.camp_row.proofs.TrailSteps.{length-cells_back}
-use Rattle.camp_history.proofs.Seeing.{length-own, map_more}
+use Rattle.camp_history.proofs.Seeing.{length-own}
 use Rattle.camp_history.proofs.Together.{own_front}
-use Rattle.camp_history.proofs.Compared.{get_append}
 use Rattle.camp_history.specs.declared.versions.Base.{Base}
 
 -- the number of a bucket, among those of its store
@@ -30,28 +29,12 @@ module _ {Call : Type 0} (store : Shelves) where
       let In : List ℕ → Type 0 = λ tag. All (λ (mark : Mark Call). IsIn tag mark.call) marks in
       All-weaker (λ (mark : Mark Call). IsIn (ids store) mark.call) (λ (mark : Mark Call). Shows store mark.call) (λ mark is_in. is_in ∙ id_among store.buckets mark.call.bucket) marks (subst In is all)
 
-pub some_weaker : {X : Type 0} (P Q : X → Type 0) → ((x : X) → P x → Q x) → (found : Option X) → IfSome found P → IfSome found Q
-some_weaker P Q weaker None holds = tt
-some_weaker P Q weaker (Some x) holds = weaker x holds
-
--- what is left behind the first element of the rest
-pub drop_step : {X : Type 0} (list rest : List X) (i : ℕ) (x : X) → drop i list ≡ x ∷ rest → drop (i + 1) list ≡ rest
-drop_step list rest i x left = sym (drop-drop 1 i list) ∙ ap (drop 1) left
-
-take_one : {X : Type 0} (list rest : List X) (i : ℕ) (x : X) → drop i list ≡ x ∷ rest → take (suc i) list ≡ take i list ++ x ∷ []
-take_one [] rest zero x left = cc
-take_one [] rest (suc i) x left = cc
-take_one (y ∷ list) rest zero x left = cc
-take_one (y ∷ list) rest (suc i) x left = ap (λ l. y ∷ l) (take_one list rest i x left)
-
-pub take_step : {X : Type 0} (list rest : List X) (i : ℕ) (x : X) → drop i list ≡ x ∷ rest → take (i + 1) list ≡ take i list ++ x ∷ []
-take_step list rest i x left = let more : i + 1 ≡ suc i = omega arith in ap (λ n. take n list) more ∙ take_one list rest i x left
-
-pub length_before : {X : Type 0} (list rest : List X) (i : ℕ) (x : X) → drop i list ≡ x ∷ rest → length (take i list) ≡ i
-length_before [] rest zero x left = refl
-length_before [] rest (suc i) x left = cc
-length_before (y ∷ list) rest zero x left = refl
-length_before (y ∷ list) rest (suc i) x left = ap (λ n. suc n) (length_before list rest i x left)
+-- the first element of the rest, which is taken next, and what is left behind it
+pub step : {X : Type 0} (list rest : List X) (i : ℕ) (x : X) → drop i list ≡ x ∷ rest → (i < length list) × (take (i + 1) list ≡ take i list ++ x ∷ []) × (drop (i + 1) list ≡ rest)
+step list rest i x left =
+    let below : i < length list = omega (arith, ap length left, length-drop i list) in
+    let both = sym (drop_more list i x below) ∙ left in
+    (below, take_more list i x below ∙ ap (λ y. take i list ++ y ∷ []) (ap (λ l. get_or l 0 x) both), ap (drop 1) both)
 
 -- where nothing is left, all was taken
 pub all_taken : {X : Type 0} (list : List X) (i : ℕ) → drop i list ≡ [] → take i list ≡ list
@@ -73,15 +56,16 @@ pub one_more_comes : {Call : Type 0} (seen ahead : List Entry) (list rest : List
     → drop i list ≡ mark ∷ rest → chain.IsBeginning (seen ++ map entry_of (take i list)) ahead → slice_get ahead (length seen + i) ≡ Some entry → entry ≡ entry_of mark
     → chain.IsBeginning (seen ++ map entry_of (take (i + 1) list)) ahead
 one_more_comes seen ahead list rest i mark entry left begins at is =
+    let next = step list rest i mark left in
     let before = take i list in
     let len : length (seen ++ map entry_of before) ≡ length seen + i =
-    length-append seen (map entry_of before) ∙ ap (λ n. length seen + n) (length-map before entry_of ∙ length_before list rest i mark left)
+    length-append seen (map entry_of before) ∙ ap (λ n. length seen + n) (length-map before entry_of ∙ length-take-le i list (omega (arith, next.0)))
     in
     let Stands : ℕ → Type 0 = λ n. slice_get ahead n ≡ Some (entry_of mark) in
     let here : slice_get ahead (length (seen ++ map entry_of before)) ≡ Some (entry_of mark) = subst Stands (sym len) (at ∙ ap Some is) in
     let on = front_step (seen ++ map entry_of before) ahead (entry_of mark) begins here in
     let Begins : List Entry → Type 0 = λ list. chain.IsBeginning list ahead in
-    subst Begins (append_assoc seen (map entry_of before) (entry_of mark ∷ []) ∙ ap (λ l. seen ++ l) (sym (map_more entry_of before mark) ∙ ap (map entry_of) (sym (take_step list rest i mark left)))) on
+    subst Begins (append_assoc seen (map entry_of before) (entry_of mark ∷ []) ∙ ap (λ l. seen ++ l) (sym (map_push entry_of before mark) ∙ ap (map entry_of) (sym next.1))) on
 
 -- what holds of what is made of each holds of each, as it is made
 pub all_unmap : {A B : Type 0} (P : B → Type 0) (f : A → B) (list : List A) → All P (map f list) → All (λ x. P (f x)) list
@@ -97,19 +81,14 @@ front_rest front whole begins =
 
 -- marks that begin others
 module _ {Call : Type 0} (front whole : List (Mark Call)) (begins : Begins front whole) where
+  begins_by : {B : Type 0} (f : Entry × Call → B) → IsBeginning (map (λ mark. f (told mark)) front) (map (λ mark. f (told mark)) whole)
+  begins_by f = subst (λ list. IsBeginning list (map (λ mark. f (told mark)) whole)) (map-map f told front) (subst (IsBeginning (map f (map told front))) (map-map f told whole) (front_map f begins))
+
   pub begins_asked : IsBeginning (map asked front) (map asked whole)
-  begins_asked =
-      let f : Entry × Call → ℕ × Call = λ t. (t.0.seat, t.1) in
-      let made : IsBeginning (map f (map told front)) (map f (map told whole)) = front_map f begins in
-      let left : IsBeginning (map asked front) (map f (map told whole)) = subst (λ list. IsBeginning list (map f (map told whole))) (map-map f told front) made in
-      subst (λ list. IsBeginning (map asked front) list) (map-map f told whole) left
+  begins_asked = begins_by (λ t. (t.0.seat, t.1))
 
   pub begins_entries : IsBeginning (map entry_of front) (map entry_of whole)
-  begins_entries =
-      let f : Entry × Call → Entry = λ t. t.0 in
-      let made : IsBeginning (map f (map told front)) (map f (map told whole)) = front_map f begins in
-      let left : IsBeginning (map entry_of front) (map f (map told whole)) = subst (λ list. IsBeginning list (map f (map told whole))) (map-map f told front) made in
-      subst (λ list. IsBeginning (map entry_of front) list) (map-map f told whole) left
+  begins_entries = begins_by (λ t. t.0)
 
   pub begins_within : length front ≤ length whole
   begins_within = omega (arith, length-beginning begins, length-map front told, length-map whole told)
@@ -246,6 +225,11 @@ pub noted_all : {B : Type 0} (P : B → Type 0) (old room new : List B) (base : 
 noted_all P old room new base gone true left is all here = All-same P new (room ++ base ∷ []) is (All-push P room base (All-same P room (drop gone old) left (All-drop P gone old all)) here)
 noted_all P old room new base gone false left is all here = All-same P new room is (All-same P room (drop gone old) left (All-drop P gone old all))
 
+get_append : {X : Type 0} (list rest : List X) (i : ℕ) (x : X) → slice_get list i ≡ Some x → slice_get (list ++ rest) i ≡ Some x
+get_append [] rest i x at = cc
+get_append (y ∷ list) rest zero x at = at
+get_append (y ∷ list) rest (suc i) x at = get_append list rest i x at
+
 -- the element behind a beginning
 at_length : {X : Type 0} (front rest : List X) (x : X) → slice_get (front ++ x ∷ rest) (length front) ≡ Some x
 at_length [] rest x = refl
@@ -280,9 +264,10 @@ pub begins_either : {Call : Type 0} (one other : List (Mark Call)) → Begins on
 begins_either one other begins short =
     begins_shorter (map asked other) (map asked one) (map asked other) (begins_self (map asked other)) (begins_asked one other begins) (omega (arith, short, length-map one asked, length-map other asked))
 
--- what was noted holds as it was seen, and as it lies in its slots
-pub all_based : {State Call Reply : Type 0} (P : Based Call → Type 0) (bases : List (Base State Call Reply)) → All P (bases_in bases) → All (λ base. P (based base)) bases
-all_based P bases all = all_unmap P based bases all
+-- what holds of all that was noted holds of each, as it lies in its slot
+pub noted_at : {State Call Reply : Type 0} (P : Based Call → Type 0) (items : List (Base State Call Reply)) (bases : List (Based Call)) → bases_in items ≡ bases → All P bases
+    → (i : ℕ) (base : Base State Call Reply) → i < length items → base ≡ slice_index_or items i base → P (based base)
+noted_at P items bases is all i base below at = subst (λ base. P (based base)) (sym at) (all_unmap P based items (All-same P (bases_in items) bases is all) i base below)
 
 pub noted_based : {State Call Reply : Type 0} (P : Based Call → Type 0) (old room new : List (Base State Call Reply)) (base : Base State Call Reply) (gone : ℕ) (is_ok : Bool) → room ≡ drop gone old → new ≡ (if is_ok then room ++ base ∷ [] else room)
     → All P (bases_in old) → P (based base) → All P (bases_in new)

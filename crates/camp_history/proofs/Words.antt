@@ -1,11 +1,12 @@
 -- Words that the proofs of this crate have in common: of the standard library, of definitions, and of crates below.
-pub use Rattle.std.proofs.Common.{All, Bool, Err, IfErr, IfSome, IsErrAnd, IsOk, List, MatchOption, None, Ok, OnErr, OnOk, Option, Result, Some, [], add-one, ap, arith, below_more, cond, drop, false, filter, if◌then◌else◌, inl, inr, is_ok, length, map, option_map, refl, slice_get, slice_index_or, slice_range, subst, suc, sym, take, true, vec_capacity, vec_len, zero, ℕ, ◌++◌, ◌+◌, ◌-◌, ◌<◌, ◌==◌, ◌∙◌, ◌∷◌, ◌≡◌, ◌≢◌, ◌≤◌, ◌⊎◌}
+pub use Rattle.std.proofs.Common.{All, Bool, Err, IfErr, IfSome, IsErrAnd, IsOk, List, MatchOption, None, Ok, OnErr, OnOk, Option, Result, Some, [], add-one, ap, arith, below_more, cond, drop, false, filter, get_or, if◌then◌else◌, inl, inr, is_ok, length, map, option_map, refl, slice_get, slice_index_or, slice_range, subst, suc, sym, take, true, vec_capacity, vec_len, zero, ℕ, ◌++◌, ◌+◌, ◌-◌, ◌<◌, ◌==◌, ◌∙◌, ◌∷◌, ◌≡◌, ◌≢◌, ◌≤◌, ◌⊎◌}
+pub use Rattle.std.proofs.lemmas.Bool.{cases_lt}
 -- goals that `search` fails at and `grind` proves have `grind` as their answer where the search takes long
 pub use Rattle.std.proofs.lemmas.Grind.{common_steps, elements}
-pub use Rattle.std.proofs.lemmas.List.{append-nil, append_assoc, drop-drop, drop-map, drop_all, drop_at, length-append, length-map, map-append, nil_from_length, take-append-drop, take_all, take_at, take_more, take_rest}
+pub use Rattle.std.proofs.lemmas.List.{append-nil, append_assoc, drop-map, drop_all, drop_at, drop_more, length-append, length-drop, length-map, length-take-le, map-append, map_push, nil_from_length, take-append-drop, take_all, take_at, take_more, take_rest}
 pub use Rattle.std.proofs.lemmas.List.Elements.{All-append, All-drop, All-map, All-push, All-rest, All-same, All-weaker}
 pub use Rattle.std.proofs.lemmas.Result.{IfOk-weaker}
-pub use Rattle.std.proofs.lemmas.Option.{get_or_from_slice_get, same_Some, slice_get-map, slice_get_within}
+pub use Rattle.std.proofs.lemmas.Option.{IfSome_then, get_or_from_slice_get, same_Some, slice_get-map, slice_get_within}
 pub use Rattle.std.specs.List.{range_with_len, splice}
 pub use Rattle.boxcar.specs.Table.{Shelves, Shows, Where}
 pub use Rattle.camp_history.specs.Inside.SeatFields.{marks_in, seated}

@@ -1,6 +1,6 @@
 use Rattle.camp_history.proofs.Words.{◌≡◌, ◌≢◌, ◌<◌, ◌+◌, [], ◌∷◌, ◌++◌, sym, ◌∙◌, subst, length, map, take, All, List, arith, All-same, All-push, news, entry_of, Mark}
 use Rattle.camp_row.specs.Chains as chain
-use Rattle.camp_history.proofs.Versioned.{drop_step, take_step, all_taken, one_more_comes}
+use Rattle.camp_history.proofs.Versioned.{step, all_taken, one_more_comes}
 use Rattle.camp_history.proofs.heads.Head.leads_on.Goals as goal
 
 pub loop-mark-preserved : goal.loop-mark-preserved
@@ -14,6 +14,7 @@ loop-mark-preserved g c =
     let entry = c.entry_at-entry.result in
     let at = c.entry_at-entry.ensures in
     let first = sym past.rest ∙ c.in-Some.ensures in
+    let next = step list left i mark first in
     let place : entry.place ≡ mark.call.index = c.if-entry-index.false ∙ c.index.ensures in
     let is : entry ≡ entry_of mark = λ k. record { seat = c.if-entry-mark.false k; place = place k } in
     let index = c.if-index-len.false in
@@ -23,10 +24,10 @@ loop-mark-preserved g c =
     let Below : Mark g.row.State-Call.Denot → Type 0 = λ mark. mark.seat < seat.known.row.seats in
     record {
       same = at.same ∙ past.same;
-      rest = sym (drop_step list left i mark first);
+      rest = sym next.2;
       within = omega (arith, other);
       ahead = one_more_comes seat.known.seen seat.known.ahead list left i mark entry first past.ahead (rw (← past.same) at.entry) is;
-      below = All-same Below (take (i + 1) list) (take i list ++ mark ∷ []) (take_step list left i mark first) (All-push Below (take i list) mark past.below (rw (← past.same, ← c.if-entry-mark.false) at.below));
+      below = All-same Below (take (i + 1) list) (take i list ++ mark ∷ []) next.1 (All-push Below (take i list) mark past.below (rw (← past.same, ← c.if-entry-mark.false) at.below));
     }
 
 pub returns-clause-goes_on : goal.returns-clause-goes_on

@@ -1,5 +1,5 @@
 use Rattle.camp_history.proofs.Words.{marks_in, sym, ap, ◌∙◌, turns}
-use Rattle.camp_history.proofs.Marked.{length-own}
+use Rattle.camp_history.proofs.Seeing.{length-own}
 use Rattle.camp_history.proofs.seats.Seat.accepted.Goals as goal
 
 pub returns-clause-accepted : goal.returns-clause-accepted

@@ -1,5 +1,5 @@
-use Rattle.camp_history.proofs.Words.{◌≡◌, ◌++◌, ◌∷◌, [], ◌≤◌, Some, map, length, ap, sym, ◌∙◌, subst, replay, asked, history_of, most_listed, marks_in, Mark}
-use Rattle.camp_history.proofs.Seeing.{one_more, map_more}
+use Rattle.camp_history.proofs.Words.{◌≡◌, ◌++◌, ◌∷◌, [], ◌≤◌, Some, map, length, ap, sym, ◌∙◌, subst, replay, asked, history_of, most_listed, map_push, marks_in, Mark}
+use Rattle.camp_history.proofs.Seeing.{one_more}
 use Rattle.camp_history.proofs.seats.Seat.version_with.Goals as goal
 
 pub invariant_of-result : goal.invariant_of-result
@@ -16,7 +16,7 @@ invariant_of-result g c =
     let number : c.number.result ≡ c.args.self.now.known.number = c.number.ensures.number ∙ ap (λ seat. seat.known.number) c.self.view_is in
     let call : c.again.result ≡ c.args.call.now = c.again.ensures in
     let asks : map asked (c.in_ok-earlier.earlier ++ c.push.new.self.items) ≡ history_of c.args.self.now ++ (c.args.self.now.known.number, c.args.call.now.value) ∷ [] =
-    ap (map asked) made ∙ map_more asked (marks_in inside) mark ∙ ap (λ seat. history_of seat ++ asked mark ∷ []) c.self.view_is ∙ (λ k. history_of c.args.self.now ++ (number k, (call k).value) ∷ [])
+    ap (map asked) made ∙ map_push asked (marks_in inside) mark ∙ ap (λ seat. history_of seat ++ asked mark ∷ []) c.self.view_is ∙ (λ k. history_of c.args.self.now ++ (number k, (call k).value) ∷ [])
     in (
       subst (λ list. length list ≤ most_listed) (sym earlier) c.self.invariant.few,
       ap (replay object) asks ∙ c.requires ∙ ap Some (sym c.in_ok-state.ensures),
