@@ -8,12 +8,14 @@ pub fn shared_is_serial<State: Object>()
 {}
 
 /// A single section over a lock has answers and a history of a run one after the other.
+#[tactic(auto, using(crate::proofs::Single::locked_is_serial))]
 pub fn locked_is_serial<State: Object>()
     ensures law { LockedIsSerial State.object }
 {}
 
 /// In a run one after the other whose history is legal, each call that is done was accepted after
 /// what stood before it.
+#[tactic(auto, using(crate::proofs::Single::done_was_accepted))]
 pub fn done_was_accepted<State: Object>()
     ensures law { DoneWasAccepted State.object }
 {}
