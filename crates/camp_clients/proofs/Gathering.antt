@@ -1,24 +1,12 @@
 -- Lemmas on lists that go side by side.
 use Rattle.std.proofs.lemmas.List.{take_more, get_or-map, map_push, append_assoc}
-use Rattle.camp_clients.proofs.Words.{Vec, vec_items, ArePutApart, Gathers, lists_of, section_of, ◌≡◌, ℕ, ◌+◌, ◌<◌, suc, zero, List, [], ◌∷◌, ◌++◌, length, take, get_or, Result, Ok, IfOk, refl, sym, ◌∙◌, ap, subst, add-one, arith, All, AllZip, remove, OnOk, is_err, false, Err}
+use Rattle.camp_clients.proofs.Words.{AllZip-long, all_zipped_more, Vec, vec_items, ArePutApart, Gathers, lists_of, section_of, ◌≡◌, ℕ, ◌+◌, ◌<◌, suc, zero, List, [], ◌∷◌, ◌++◌, length, take, get_or, Result, Ok, IfOk, refl, sym, ◌∙◌, ap, subst, add-one, arith, All, AllZip, remove, OnOk, is_err, false, Err}
 
 module _ {A B : Type 0} (R : A → B → Type 0) where
-  pub zip_push : (xs : List A) (ys : List B) (x : A) (y : B) → AllZip R xs ys → R x y → AllZip R (xs ++ x ∷ []) (ys ++ y ∷ [])
-  zip_push [] [] x y all one = (one, tt)
-  zip_push [] (b ∷ ys) x y all one = absurd all
-  zip_push (a ∷ xs) [] x y all one = absurd all
-  zip_push (a ∷ xs) (b ∷ ys) x y all one = (all.0, zip_push xs ys x y all.1 one)
-
   -- one element more, at place i
   pub zip_more : (xs : List A) (i : ℕ) (x : A) → i < length xs → x ≡ get_or xs i x → (ys : List B) (y : B) → AllZip R (take i xs) ys → R x y
       → AllZip R (take (i + 1) xs) (ys ++ y ∷ [])
-  zip_more xs i x below at ys y all one = rw (take_more xs i x below, ← at) (zip_push (take i xs) ys x y all one)
-
-  pub zip_length : (xs : List A) (ys : List B) → AllZip R xs ys → length xs ≡ length ys
-  zip_length [] [] all = refl
-  zip_length [] (b ∷ ys) all = absurd all
-  zip_length (a ∷ xs) [] all = absurd all
-  zip_length (a ∷ xs) (b ∷ ys) all = ap suc (zip_length xs ys all.1)
+  zip_more xs i x below at ys y all one = rw (take_more xs i x below, ← at) (all_zipped_more R (take i xs) ys x y all one)
 
   pub zip_at : (xs : List A) (ys : List B) (i : ℕ) (d : A) (e : B) → i < length xs → AllZip R xs ys → R (get_or xs i d) (get_or ys i e)
   zip_at [] ys i d e below all = absurd (omega arith)
@@ -37,7 +25,7 @@ pub gathers_push : {Own Fault : Type 0} (first : List Own) (made : List (Result 
 gathers_push first made all one own so_far is = record {
   others = so_far.others ++ own ∷ [];
   begins = ap (λ x. x ++ own ∷ []) so_far.begins ∙ append_assoc first so_far.others (own ∷ []);
-  brought = zip_push (λ one own. one ≡ Ok own) made so_far.others one own so_far.brought is;
+  brought = all_zipped_more (λ one own. one ≡ Ok own) made so_far.others one own so_far.brought is;
 }
 
 -- one thread more brought a seat and answers
@@ -46,7 +34,7 @@ pub apart_push : {Seat Own Fault : Type 0} (opening : Own) (made : List (Result 
     → ArePutApart opening made seats all → one ≡ Ok (seat, own) → ArePutApart opening (made ++ one ∷ []) (seats ++ seat ∷ []) (all ++ own ∷ [])
 apart_push opening made seats all one seat own so_far is = record {
   pairs = so_far.pairs ++ (seat, own) ∷ [];
-  brought = zip_push (λ one pair. one ≡ Ok pair) made so_far.pairs one (seat, own) so_far.brought is;
+  brought = all_zipped_more (λ one pair. one ≡ Ok pair) made so_far.pairs one (seat, own) so_far.brought is;
   firsts = ap (λ xs. xs ++ seat ∷ []) so_far.firsts ∙ sym (map_push (λ pair. pair.0) so_far.pairs (seat, own));
   seconds = ap (λ xs. xs ++ own ∷ []) so_far.seconds ∙ ap (λ xs. opening ∷ xs) (sym (map_push (λ pair. pair.1) so_far.pairs (seat, own)));
 }
@@ -54,7 +42,7 @@ apart_push opening made seats all one seat own so_far is = record {
 -- the first answers come first, and what holds of each that a thread brought holds of all others
 module _ {X Z Fault : Type 0} (first : Vec X Z) (made : List (Result (Vec X Z) Fault)) (all : List (Vec X Z)) (gathers : Gathers (first ∷ []) made all) where
   pub gathered_length : length all ≡ length made + 1
-  gathered_length = ap length gathers.begins ∙ omega (arith, zip_length (λ one own. one ≡ Ok own) made gathers.others gathers.brought)
+  gathered_length = ap length gathers.begins ∙ omega (arith, AllZip-long (λ one own. one ≡ Ok own) made gathers.others gathers.brought)
 
   pub gathered_first : section_of (lists_of all) 0 ≡ first.items
   gathered_first = rw gathers.begins refl
@@ -65,28 +53,16 @@ module _ {X Z Fault : Type 0} (first : Vec X Z) (made : List (Result (Vec X Z) F
   gathered P each zero some below = absurd (omega arith)
   gathered P each (suc k) some below =
       let in_made : k < length made = omega arith in
-      let in_others : k < length gathers.others = omega (arith, zip_length (λ one own. one ≡ Ok own) made gathers.others gathers.brought) in
+      let in_others : k < length gathers.others = omega (arith, AllZip-long (λ one own. one ≡ Ok own) made gathers.others gathers.brought) in
       let own = get_or gathers.others k first in
       let is = zip_at (λ one own. one ≡ Ok own) made gathers.others k (Ok first) first in_made gathers.brought in
       let holds = subst (λ r. IfOk r (λ own. P (k + 1) own.items)) is (each k (Ok first) in_made) in
       rw (gathers.begins, get_or-map vec_items gathers.others k first [] in_others, ← add-one k) holds
 
--- what holds of all elements holds of the first, and of the others
-module _ {X : Type 0} (P : X → Type 0) where
-  pub all_first : (xs : List X) (x : X) (rest : List X) → xs ≡ x ∷ rest → All P xs → P x
-  all_first xs x rest is all = let here : All P (x ∷ rest) = subst (All P) is all in here 0 x (omega arith)
-
-  pub all_rest : (xs : List X) (x : X) (rest : List X) → xs ≡ x ∷ rest → All P xs → All P rest
-  all_rest xs x rest is all k d below = let here : All P (x ∷ rest) = subst (All P) is all in here (suc k) d (omega arith)
-
 -- what an Ok promises
 pub ok_holds : {T E : Type 0} (P : Type 0) (r : Result T E) → OnOk r P → is_err r ≡ false → P
 ok_holds P (Ok x) holds none = holds
 ok_holds P (Err e) holds none = absurd (cc none)
-
-pub ok_map : {T E : Type 0} (P Q : T → Type 0) → ((x : T) → P x → Q x) → (r : Result T E) → IfOk r P → IfOk r Q
-ok_map P Q each (Ok x) holds = each x holds
-ok_map P Q each (Err e) holds = tt
 
 -- what each of the second list has by its neighbour in the first
 module _ {A B : Type 0} (R : A → B → Type 0) (P : B → Type 0) (each : (x : A) (y : B) → R x y → P y) where

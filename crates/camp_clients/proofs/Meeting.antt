@@ -1,8 +1,8 @@
 -- Lemmas on seats that meet the opening's seat, before and after their threads.
-use Rattle.camp_clients.proofs.Words.{◌≡◌, ◌⊎◌, ℕ, ◌+◌, ◌<◌, ◌≤◌, suc, zero, false, IfOk, List, [], ◌∷◌, ◌++◌, length, get_or, map, Option, None, Some, MatchOption, append_assoc, Result, Ok, Err, Vec, refl, sym, ◌∙◌, ap, subst, add-one, inl, inr, arith, All, AllZip, IsBeginning, IsAnswered, IsLegal, own, Sequential, Fault, Memory, Busy, Full, Asks, SaysAmongThreads, IsDone, told, HeadId, Seated, IsSeatOf, history_of, number_of, calls_per_seat, Caller, AreNew, HasMet, IsMet, WasMet, Ran, own_at, done_at, HasBeginnings, IsShared, OwnDone, section_of, Section, begins_through, begins_whole, own-append}
+use Rattle.camp_clients.proofs.Words.{◌≡◌, ◌⊎◌, ℕ, ◌+◌, ◌<◌, ◌≤◌, suc, zero, false, IfOk, List, [], ◌∷◌, ◌++◌, length, get_or, map, append_assoc, Result, Ok, Err, Vec, refl, sym, ◌∙◌, ap, subst, add-one, inl, inr, arith, All, AllZip, IsBeginning, IsLegal, own, Sequential, Fault, Memory, Busy, Full, Asks, SaysAmongThreads, told, HeadId, Seated, history_of, number_of, calls_per_seat, Caller, AllZip-long, all_zipped_more, AreNew, HasMet, IsMet, IsReady, WasMet, Ran, own_at, done_at, HasBeginnings, IsShared, OwnDone, section_of, Section, begins_through, begins_whole, own-append}
 use Rattle.std.proofs.lemmas.List.{append-nil, length-append, length-map, get_or-map, nil_from_length}
-use Rattle.camp_clients.proofs.SectionSteps.{section_grows, section_map, section_own_at, says, own_at_front, own_at_none}
-pub use Rattle.camp_clients.proofs.Gathering.{all_first, all_rest, ok_holds, ok_map, zip_all, zip_at, zip_length, zip_push}
+use Rattle.camp_clients.proofs.SectionSteps.{either, section_grows, section_map, section_own_at, says, own_at_front, own_at_none}
+pub use Rattle.camp_clients.proofs.Gathering.{ok_holds, zip_all, zip_at}
 use Rattle.camp_clients.proofs.Histories.{append_nil_right}
 
 module _ {A B : Type 0} (R S : A → B → Type 0) (each : (x : A) (y : B) → R x y → S x y) where
@@ -12,35 +12,12 @@ module _ {A B : Type 0} (R S : A → B → Type 0) (each : (x : A) (y : B) → R
   zip_map (a ∷ xs) [] all = absurd all
   zip_map (a ∷ xs) (b ∷ ys) all = (each a b all.0, zip_map xs ys all.1)
 
--- first this, and then that
-abbrev pub Then : {A B C : Type 0} → (A → B → Type 0) → (B → C → Type 0) → A → C → Type 0
-Then {B = B} R S x z = (y : B) × R x y × S y z
-
-module _ {A B C : Type 0} (R : A → B → Type 0) (S : B → C → Type 0) where
-  pub zip_then : (xs : List A) (ys : List B) (zs : List C) → AllZip R xs ys → AllZip S ys zs → AllZip (Then R S) xs zs
-  zip_then [] [] [] one two = tt
-  zip_then [] [] (c ∷ zs) one two = absurd two
-  zip_then [] (b ∷ ys) zs one two = absurd one
-  zip_then (a ∷ xs) [] zs one two = absurd one
-  zip_then (a ∷ xs) (b ∷ ys) [] one two = absurd two
-  zip_then (a ∷ xs) (b ∷ ys) (c ∷ zs) one two = ((b, one.0, two.0), zip_then xs ys zs one.1 two.1)
-
 -- a section's first beginning can be moved back over calls of others
 module _ {State Call Reply : Type 0} (object : Sequential State Call Reply) (seat tries : ℕ)
     (earlier first : List (ℕ × Call)) (beginning : IsBeginning earlier first) (none : own seat beginning.rest ≡ []) where
-  earlier_reply : (call : Call) (at : Option ℕ) (reply : Reply) (next : List (ℕ × Call))
-      → MatchOption at (IsBeginning first next × IsAnswered object next call reply) (λ at. IsDone seat first call at next)
-      → MatchOption at (IsBeginning earlier next × IsAnswered object next call reply) (λ at. IsDone seat earlier call at next)
-  earlier_reply call None reply next said = (begins_through beginning said.0, said.1)
-  earlier_reply call (Some at) reply next said = record {
-    stood = said.stood;
-    since = begins_through beginning said.since;
-    ends = said.ends;
-    position = said.position;
-  }
-
   says_earlier : (call : Call) (answer : Result Reply Fault) (next : List (ℕ × Call)) → SaysAmongThreads object seat tries first call answer next → SaysAmongThreads object seat tries earlier call answer next
-  says_earlier call (Ok reply) next said = earlier_reply call (object.done_at reply) reply next said
+  says_earlier call (Ok reply) next said = either (object.done_at reply) (λ since. (begins_through beginning since.0, since.1))
+      (λ at done. record { stood = done.stood; since = begins_through beginning done.since; ends = done.ends; position = done.position }) said
   says_earlier call (Err Memory) next said = said
   says_earlier call (Err (Busy lost)) next said = record {
     others = beginning.rest ++ said.others;
@@ -112,22 +89,12 @@ module _ {State Call Reply : Type 0} (object : Sequential State Call Reply) (hea
         → (k : ℕ) (d : Seated Call × Vec (Result Reply Fault) Z) → k < length l0 → Holds (k + 1) (get_or l2 k d).1.items
     clients_hold l0 l1 l2 fresh one two met k d below =
         let R : Seated Call → Seated Call × Vec (Result Reply Fault) Z → Type 0 = λ seat one. Ran object head sections seat one.0 one.1.items in
-        let zip = zip_then (HasMet head opened) R l0 l1 l2 one two in
-        let at = zip_at (Then (HasMet head opened) R) l0 l2 k d.0 d below zip in
+        let in_l1 : k < length l1 = omega (arith, below, AllZip-long (HasMet head opened) l0 l1 one) in
         let new = fresh k d.0 below in
         let s2 = get_or l2 k d in
-        let long = zip_length (Then (HasMet head opened) R) l0 l2 zip in
         subst (λ n. Holds n s2.1.items) new.1
-        (client_holds (get_or l0 k d.0) at.0 s2.0 s2.1.items new.2 at.1 at.2 (met k d (omega (arith, long))))
-
-module _ {A B : Type 0} (f : A → B) (P : B → Type 0) where
-  pub all_map : (xs : List A) → All (λ x. P (f x)) xs → All P (map f xs)
-  all_map [] all k d below = absurd (omega arith)
-  all_map (x ∷ xs) all zero d below = all 0 x (omega arith)
-  all_map (x ∷ xs) all (suc k) d below = all_map xs (λ k d below. all (suc k) d (omega arith)) k d (omega arith)
-
-  pub all_mapped : (xs : List A) → All P (map f xs) → All (λ x. P (f x)) xs
-  all_mapped xs all k d below = subst P (get_or-map f xs k d (f d) below) (all k (f d) (omega (arith, length-map xs f)))
+        (client_holds (get_or l0 k d.0) (get_or l1 k d.0) s2.0 s2.1.items new.2 (zip_at (HasMet head opened) l0 l1 k d.0 d.0 below one)
+        (zip_at R l1 l2 k d.0 d in_l1 two) (met k d (omega (arith, in_l1, AllZip-long R l1 l2 two))))
 
 -- where the history grows, all of a seat was known still
 pub still_met : {Call : Type 0} (head : HeadId) (least : ℕ) (h more : List (ℕ × Call)) → IsBeginning h more
@@ -149,25 +116,18 @@ pub one_met : {Call : Type 0} (head : HeadId) (least now : ℕ) (h more : List (
     → IsBeginning h more → AllZip (WasMet head least h) before after → (length after ≡ 0) ⊎ (now ≡ least) → WasMet head now more b a
     → AllZip (WasMet head now more) (before ++ b ∷ []) (after ++ a ∷ [])
 one_met head least now h more before after b a grows met (inr same) one =
-    zip_push (WasMet head now more) before after b a
+    all_zipped_more (WasMet head now more) before after b a
     (subst (λ n. AllZip (WasMet head n more) before after) (sym same) (still_met head least h more grows before after met)) one
 one_met head least now h more [] [] b a grows met (inl none) one = (one, tt)
 one_met head least now h more (x ∷ before) [] b a grows met (inl none) one = absurd met
 one_met head least now h more before (y ∷ after) b a grows met (inl none) one = absurd (omega (arith, none))
 
-module _ {A B : Type 0} (R : A → B → Type 0) (P : A → Type 0) (each : (x : A) (y : B) → R x y → P x) where
-  pub zip_firsts : (xs : List A) (ys : List B) → AllZip R xs ys → All P xs
-  zip_firsts [] ys all k d below = absurd (omega arith)
-  zip_firsts (a ∷ xs) [] all k d below = absurd all
-  zip_firsts (a ∷ xs) (b ∷ ys) all zero d below = each a b all.0
-  zip_firsts (a ∷ xs) (b ∷ ys) all (suc k) d below = zip_firsts xs ys all.1 k d (omega arith)
-
 module _ {Call : Type 0} (head : HeadId) (least : ℕ) (history : List (ℕ × Call)) where
   -- where the history is no longer than it was then, all of each seat is known
   pub all_met : (before after : List (Seated Call)) → length history ≤ least → AllZip (WasMet head least history) before after → All (IsMet history) before
-  all_met before after short met =
-      zip_firsts (WasMet head least history) (IsMet history)
-      (λ b a was. subst (λ h. IsMet h b) (begins_whole was.earlier history was.since (omega (arith, was.long, short))) was.met) before after met
+  all_met before after short met k d below =
+      let was = zip_at (WasMet head least history) before after k d d below met in
+      subst (λ h. IsMet h (get_or before k d)) (begins_whole was.earlier history was.since (omega (arith, was.long, short))) was.met
 
   -- a seat that meets the opening's once more, and sees no further call of its own, has none in the history beyond
   -- those that it had seen
@@ -191,9 +151,9 @@ module _ {Call : Type 0} (head : HeadId) (least : ℕ) (history : List (ℕ × C
       }
 
   pub all_met_again : (before mid after : List (Seated Call)) → AllZip (WasMet head least history) before mid → AllZip (HasMet head history) mid after → All (IsMet history) before
-  all_met_again before mid after first last =
-      zip_firsts (Then (WasMet head least history) (HasMet head history)) (IsMet history) (λ b a both. met_again b both.0 a both.1 both.2) before after
-      (zip_then (WasMet head least history) (HasMet head history) before mid after first last)
+  all_met_again before mid after first last k d below =
+      met_again (get_or before k d) (get_or mid k d) (get_or after k d) (zip_at (WasMet head least history) before mid k d d below first)
+      (zip_at (HasMet head history) mid after k d d (omega (arith, below, AllZip-long (WasMet head least history) before mid first)) last)
 
 -- the results of calls that were granted
 module _ {X Y E : Type 0} (R : X → Y → Type 0) where
@@ -211,12 +171,6 @@ module _ {X Y E : Type 0} (R : X → Y → Type 0) where
         subst (λ job. R job y) (sym (first.1.0 x)) holds,
         zip_granted jobs made all (omega arith) (λ i d below. each (suc i) d (omega arith)) granted.1,
       )
-
--- calls of these seats only, in other words
-pub none_other : {Call : Type 0} (seats sections : ℕ) (seen history : List (ℕ × Call)) → seats ≡ sections → seen ≡ history
-    → All (λ entry. entry.0 < seats) seen → All (λ entry. entry.0 < sections) history
-none_other seats sections seen history as_many same below =
-    subst (λ n. All (λ entry. entry.0 < n) history) as_many (subst (All (λ entry. entry.0 < seats)) same below)
 
 -- a whole run, put together
 module _ {State Call Reply Z : Type 0} (object : Sequential State Call Reply) (head : HeadId)
@@ -260,20 +214,15 @@ module _ {State Call Reply Z : Type 0} (object : Sequential State Call Reply) (h
     clients = at_clients;
   }
 
--- a new seat that met the opening's can begin
-pub record CanBegin {Call : Type 0} (head : HeadId) (k : ℕ) (seat : Seated Call) : Type 0 where
-  pub is_seat : IsSeatOf head seat
-  pub number : number_of seat ≡ k + 1
-  pub none_own : own (number_of seat) (history_of seat) ≡ []
-
-pub can_begin : {Call : Type 0} (head : HeadId) (opened : List (ℕ × Call)) (l0 l1 : List (Seated Call))
-    → AreNew head l0 → AllZip (HasMet head opened) l0 l1 → (k : ℕ) (d : Seated Call) → k < length l1 → CanBegin head k (get_or l1 k d)
-can_begin head opened l0 l1 fresh met k d below =
-    let short : k < length l0 = omega (arith, zip_length (HasMet head opened) l0 l1 met) in
+-- new seats that met the opening's can begin
+pub can_begin : {Call : Type 0} (head : HeadId) (sections : ℕ) (opened : List (ℕ × Call)) (l0 l1 : List (Seated Call)) → length l0 + 1 ≡ sections
+    → AreNew head l0 → AllZip (HasMet head opened) l0 l1 → All (IsReady head sections) l1
+can_begin head sections opened l0 l1 as_many fresh met k d below =
+    let short : k < length l0 = omega (arith, below, AllZip-long (HasMet head opened) l0 l1 met) in
     let m = zip_at (HasMet head opened) l0 l1 k d d short met in
     let new = fresh k d short in
     record {
       is_seat = m.is_seat;
-      number = m.number ∙ new.1;
+      has_section = rw (m.number, new.1) (omega (arith, as_many, short));
       none_own = rw m.number (m.own_stays ∙ ap (own (number_of (get_or l0 k d))) new.2);
     }

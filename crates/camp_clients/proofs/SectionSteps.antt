@@ -1,9 +1,14 @@
 -- Lemmas on sections of calls.
-use Rattle.camp_clients.proofs.Words.{append-nil, length-append, take_more, IsBeginning, IsAnswered, own, Sequential, IsLawfulObject, Fault, Memory, Busy, Full, Asks, HasMemory, IsDone, IsOvertaken, SaysAmongThreads, SaysAlone, told, own_at, where_done, done_at, OneByOne, Section, ◌≡◌, ℕ, ◌+◌, ◌≤◌, true, false, List, [], ◌∷◌, ◌++◌, length, Option, None, Some, Result, Ok, Err, MatchOption, zero, suc, cond, count_by, get_or, drop, take, ◌<◌, refl, sym, ◌∙◌, ap, subst, append_assoc, add-zero, arith, begins_longer, begins_self, begins_through, Ask, Caller, Accepts, AddsNothing, IsBusy, Loses, alone_at}
+use Rattle.camp_clients.proofs.Words.{append-nil, length-append, take_more, IsBeginning, IsAnswered, own, Sequential, IsLawfulObject, Fault, Memory, Busy, Full, Asks, HasMemory, IsDone, IsOvertaken, SaysAmongThreads, SaysAlone, told, own_at, where_done, done_at, OneByOne, Section, ◌≡◌, ℕ, ◌+◌, ◌≤◌, false, List, [], ◌∷◌, ◌++◌, length, Option, None, Some, Result, Ok, Err, MatchOption, zero, suc, cond, count_by, get_or, drop, take, ◌<◌, refl, sym, ◌∙◌, ap, subst, append_assoc, add-zero, arith, begins_longer, begins_self, begins_through, Ask, Caller, IsBusy, Loses, alone_at}
 use Rattle.std.proofs.lemmas.List.Sums.{sum_by-drop_more}
 use Rattle.camp_clients.proofs.Asking.{own_at_asks, own_counts, goes_on}
 use Rattle.camp_clients.proofs.Histories.{own_rest}
 pub use Rattle.camp_clients.proofs.Positions.{own_at-append, own_at_behind, own_at_first, own_at_front, own_at_mine, own_at_none, same_first, where_done-append}
+
+-- what an answer says, in other words, whether or not it tells a position
+pub either : {A P P' : Type 0} {Q Q' : A → Type 0} (o : Option A) → (P → P') → ((x : A) → Q x → Q' x) → MatchOption o P Q → MatchOption o P' Q'
+either None none some says = none says
+either (Some x) none some says = some x says
 
 module _ {Beginning Call Answer : Type 0} (SaysAmongThreads : Beginning → Call → Answer → Beginning → Type 0) where
   -- one more call at the end
@@ -81,12 +86,6 @@ module _ {State Call Reply : Type 0} (object : Sequential State Call Reply) wher
 
   -- what an answer of a desk says among threads
   module _ (caller : Caller) (before : List (ℕ × Call)) (call : Call) (beginning : List (ℕ × Call)) (grows : IsBeginning before beginning) where
-    says_reply : (at : Option ℕ) (reply : Reply)
-        → MatchOption at (AddsNothing caller before beginning × IsAnswered object beginning call reply) (λ at. Accepts caller before call at beginning)
-        → MatchOption at (IsBeginning before beginning × IsAnswered object beginning call reply) (λ at. IsDone caller.seat before call at beginning)
-    says_reply None reply says = (grows, says.1)
-    says_reply (Some at) reply says = record { stood = says.before; since = says.since; ends = sym says.ends; position = says.position }
-
     overtaken : (lost : ℕ) → IsBusy object caller before call lost beginning → IsOvertaken caller.seat caller.tries before lost beginning
     overtaken lost busy = record {
       others = grows.rest;
@@ -96,18 +95,10 @@ module _ {State Call Reply : Type 0} (object : Sequential State Call Reply) wher
       all_lost = busy.all_lost;
     }
 
-    says_alone_reply : caller.alone ≡ true → (at : Option ℕ) (reply : Reply)
-        → MatchOption at (AddsNothing caller before beginning × IsAnswered object beginning call reply) (λ at. Accepts caller before call at beginning)
-        → MatchOption at ((beginning ≡ before) × IsAnswered object before call reply) (λ at. (beginning ≡ before ++ (caller.seat, call) ∷ []) × (at ≡ length beginning))
-    says_alone_reply alone None reply says =
-        let same = says.0.exact alone in
-        (same, subst (λ h. IsAnswered object h call reply) same says.1)
-    says_alone_reply alone (Some at) reply says =
-        (says.ends ∙ ap (λ h. h ++ (caller.seat, call) ∷ []) (says.exact alone), says.position)
-
   pub says : (caller : Caller) (before : List (ℕ × Call)) (call : Call) (answer : Result Reply Fault) (beginning : List (ℕ × Call))
       → Asks object caller before call answer beginning → SaysAmongThreads object caller.seat caller.tries before call answer beginning
-  says caller before call (Ok reply) beginning asks = says_reply caller before call beginning asks.asks.grows (object.done_at reply) reply asks.asks.says
+  says caller before call (Ok reply) beginning asks = either (object.done_at reply) (λ says. (asks.asks.grows, says.1))
+      (λ at says. record { stood = says.before; since = says.since; ends = sym says.ends; position = says.position }) asks.asks.says
   says caller before call (Err Memory) beginning asks = asks.goes_on
   says caller before call (Err (Busy lost)) beginning asks = overtaken caller before call beginning asks.asks.grows lost asks.asks.says
   says caller before call (Err Full) beginning asks = asks.goes_on
@@ -115,7 +106,9 @@ module _ {State Call Reply : Type 0} (object : Sequential State Call Reply) wher
   pub says_alone : (seat : ℕ) (before : List (ℕ × Call)) (call : Call) (answer : Result Reply Fault) (beginning : List (ℕ × Call))
       → Asks object (alone_at seat) before call answer beginning → SaysAlone object seat before call answer beginning
   says_alone seat before call (Ok reply) beginning asks =
-      says_alone_reply (alone_at seat) before call beginning asks.asks.grows refl (object.done_at reply) reply asks.asks.says
+      either (object.done_at reply)
+      (λ says. let same = says.0.exact refl in (same, subst (λ h. IsAnswered object h call reply) same says.1))
+      (λ at says. (says.ends ∙ ap (λ h. h ++ (seat, call) ∷ []) (says.exact refl), says.position)) asks.asks.says
   says_alone seat before call (Err Memory) beginning asks = asks.goes_on
   says_alone seat before call (Err (Busy lost)) beginning asks = absurd (cc asks.asks.says.not_alone)
   says_alone seat before call (Err Full) beginning asks = asks.goes_on

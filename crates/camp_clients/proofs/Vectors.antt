@@ -1,5 +1,5 @@
 -- Lemmas on vectors of vectors as lists of lists.
-use Rattle.camp_clients.proofs.Words.{◌≡◌, ℕ, ◌+◌, ◌<◌, List, [], ◌∷◌, ◌++◌, length, take, get_or, map, refl, sym, ◌∙◌, ap, Vec, vec_items, lists_of, section_of}
+use Rattle.camp_clients.proofs.Words.{◌≡◌, ℕ, ◌+◌, ◌<◌, List, [], ◌∷◌, ◌++◌, length, take, get_or, sym, ◌∙◌, ap, Vec, vec_items, lists_of, section_of}
 use Rattle.std.proofs.lemmas.List.{take_more, map_push, get_or-map, length-map}
 
 module _ {X Z : Type 0} where
@@ -10,13 +10,6 @@ module _ {X Z : Type 0} where
   pub length-lists_of : (vectors : List (Vec X Z)) → length (lists_of vectors) ≡ length vectors
   length-lists_of vectors = length-map vectors vec_items
 
-  pub lists_push : (vectors : List (Vec X Z)) (v : Vec X Z) → lists_of (vectors ++ v ∷ []) ≡ lists_of vectors ++ v.items ∷ []
-  lists_push vectors v = map_push vec_items vectors v
-
   pub lists_more : (vectors : List (Vec X Z)) (i : ℕ) (v : Vec X Z) → i < length vectors → v ≡ get_or vectors i v
       → lists_of (take (i + 1) vectors) ≡ lists_of (take i vectors) ++ v.items ∷ []
-  lists_more vectors i v below at = ap lists_of (take_more vectors i v below ∙ ap (λ x. take i vectors ++ x ∷ []) (sym at)) ∙ lists_push (take i vectors) v
-
-pub lists_map : {A X Z : Type 0} (f : A → Vec X Z) (xs : List A) → lists_of (map f xs) ≡ map (λ x. vec_items (f x)) xs
-lists_map f [] = refl
-lists_map f (x ∷ xs) = ap (λ rest. vec_items (f x) ∷ rest) (lists_map f xs)
+  lists_more vectors i v below at = ap lists_of (take_more vectors i v below ∙ ap (λ x. take i vectors ++ x ∷ []) (sym at)) ∙ map_push vec_items (take i vectors) v

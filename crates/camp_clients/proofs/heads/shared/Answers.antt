@@ -8,8 +8,7 @@ remove-opener-requires g c = omega (arith, opened_length _ _ _ _ _ c.in_ok-head.
 
 pub all-requires-clause-opener : goal.all-requires-clause-opener
 all-requires-clause-opener g c _ _ =
-    let new = opened_seat _ _ _ _ _ c.in_ok-head.ensures 0 c.remove-opener.result (omega (arith, opened_length _ _ _ _ _ c.in_ok-head.ensures)) in
-    rw c.remove-opener.ensures.value (new.is_seat, new.number_is, new.unseen)
+    rw c.remove-opener.ensures.value (opened_seat _ _ _ _ _ c.in_ok-head.ensures 0 c.remove-opener.result (omega (arith, opened_length _ _ _ _ _ c.in_ok-head.ensures)))
 
 pub invariant_of-run-clause-room : goal.invariant_of-run-clause-room
 invariant_of-run-clause-room g c =
@@ -19,7 +18,7 @@ pub all-requires-clause-seats : goal.all-requires-clause-seats
 all-requires-clause-seats g c _ _ =
     behind_first (λ k seat. IsSeatOf c.in_ok-head.head seat × (seat.known.number ≡ k) × (history_of seat ≡ []))
     c.in_ok-head.seats.items c.remove-opener.new.self.items c.remove-opener.ensures.items
-    (λ k d below. let new = opened_seat _ _ _ _ _ c.in_ok-head.ensures k d below in (new.is_seat, new.number_is, new.unseen))
+    (opened_seat _ _ _ _ _ c.in_ok-head.ensures)
 
 pub all-requires-clause-as_many : goal.all-requires-clause-as_many
 all-requires-clause-as_many g c _ _ = omega (

@@ -1,5 +1,5 @@
-use Rattle.camp_clients.proofs.Words.{sym, ap, ◌∙◌, subst, arith, length, IsBeginning, IsSeatOf, history_of, HasMet}
-use Rattle.camp_clients.proofs.Gathering.{zip_push, all_first, all_rest, ok_holds}
+use Rattle.camp_clients.proofs.Words.{All-rest, all_zipped_more, left_first, sym, ap, ◌∙◌, subst, arith, length, IsBeginning, IsSeatOf, history_of, HasMet}
+use Rattle.camp_clients.proofs.Gathering.{ok_holds}
 use Rattle.camp_clients.proofs.meetings.each_meets.Goals as goal
 
 pub loop-seat-preserved : goal.loop-seat-preserved
@@ -13,9 +13,9 @@ loop-seat-preserved g c =
       seat = m.seats.1;
       number = m.meets.b_number ∙ inv.number;
       seen = m.meets.b_seen ∙ inv.seen;
-      left = all_rest (IsSeatOf c.args.head.now) c.loop-seat.seat-iterator.rest.items c.in-Some.seat _ c.in-Some.ensures.steps.0 inv.left;
+      left = All-rest (IsSeatOf c.args.head.now) c.in-Some.seat _ c.loop-seat.seat-iterator.rest.items c.in-Some.ensures.steps.0 inv.left;
       seats = rw c.push_reserved.ensures.items
-          (zip_push (HasMet c.args.head.now (history_of c.args.opener)) c.loop-seat.yielded c.loop-seat.all.items c.in-Some.seat _ inv.seats
+          (all_zipped_more (HasMet c.args.head.now (history_of c.args.opener)) c.loop-seat.yielded c.loop-seat.all.items c.in-Some.seat _ inv.seats
           (record {
             is_seat = m.seats.0;
             number = m.meets.a_number;
@@ -27,7 +27,7 @@ loop-seat-preserved g c =
 
 pub meet-seat-requires : goal.meet-seat-requires
 meet-seat-requires g c = (
-  all_first (IsSeatOf c.args.head.now) c.loop-seat.seat-iterator.rest.items c.in-Some.seat _ c.in-Some.ensures.steps.0 c.loop-seat.invariant.left,
+  left_first (IsSeatOf c.args.head.now) c.loop-seat.seat-iterator.rest.items _ c.in-Some.seat c.in-Some.ensures.steps.0 c.loop-seat.invariant.left,
   c.loop-seat.invariant.seat,
 )
 

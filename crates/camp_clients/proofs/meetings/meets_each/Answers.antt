@@ -1,6 +1,6 @@
-use Rattle.camp_clients.proofs.Words.{◌≡◌, ◌⊎◌, ◌≤◌, inl, inr, sym, ap, ◌∙◌, subst, arith, length, IsBeginning, own, IsSeatOf, history_of, begins_through, begins_self, length-beginning}
+use Rattle.camp_clients.proofs.Words.{All-rest, left_first, ◌≡◌, ◌⊎◌, ◌≤◌, inl, inr, sym, ap, ◌∙◌, subst, arith, length, IsBeginning, own, IsSeatOf, history_of, begins_through, begins_self, length-beginning}
 use Rattle.std.proofs.Common.{eqb-true}
-use Rattle.camp_clients.proofs.Meeting.{one_met, all_first, all_rest, ok_holds}
+use Rattle.camp_clients.proofs.Meeting.{one_met, ok_holds}
 use Rattle.camp_clients.proofs.meetings.meets_each.Goals.{else-is_empty, then-is_empty}
 use Rattle.camp_clients.proofs.meetings.meets_each.Goals as goal
 
@@ -23,7 +23,7 @@ loop-seat-preserved g c =
       grows = begins_through inv.grows m.meets.a_grows;
       own_stays = subst (λ n. own n now ≡ own n (history_of c.loop-seat.known)) inv.number m.meets.a_own ∙ inv.own_stays;
       least = counted.1;
-      left = all_rest (IsSeatOf head) c.loop-seat.seat-iterator.rest.items seat _ c.in-Some.ensures.steps.0 inv.left;
+      left = All-rest (IsSeatOf head) seat _ c.loop-seat.seat-iterator.rest.items c.in-Some.ensures.steps.0 inv.left;
       seats = rw c.push_reserved.ensures.items
           (one_met head c.loop-seat.first c.if-is_empty.first (history_of c.loop-seat.known) now c.loop-seat.yielded c.loop-seat.all.items seat _
           m.meets.a_grows inv.seats counted.0
@@ -45,7 +45,7 @@ loop-seat-preserved g c =
 pub meet-other-requires : goal.meet-other-requires
 meet-other-requires g c = (
   c.loop-seat.invariant.seat,
-  all_first (IsSeatOf c.args.head.now) c.loop-seat.seat-iterator.rest.items c.in-Some.seat _ c.in-Some.ensures.steps.0 c.loop-seat.invariant.left,
+  left_first (IsSeatOf c.args.head.now) c.loop-seat.seat-iterator.rest.items _ c.in-Some.seat c.in-Some.ensures.steps.0 c.loop-seat.invariant.left,
 )
 
 pub push_reserved-requires : goal.push_reserved-requires

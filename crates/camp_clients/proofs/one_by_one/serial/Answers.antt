@@ -1,6 +1,7 @@
-use Rattle.camp_clients.proofs.Words.{[], take, zero-add, arith, length-take-le, lists_of, common_steps}
+use Rattle.camp_clients.proofs.Words.{[], take, zero-add, arith, length-take-le, lists_of, vec_items, common_steps}
+use Rattle.std.proofs.lemmas.List.{map_push}
 use Rattle.camp_clients.proofs.SectionSteps.{one_by_one_push}
-use Rattle.camp_clients.proofs.Vectors.{lists_more, lists_push, length-lists_of}
+use Rattle.camp_clients.proofs.Vectors.{lists_more, length-lists_of}
 use Rattle.camp_clients.proofs.one_by_one.serial.Goals as goal
 
 pub loop-seat-preserved : goal.loop-seat-preserved
@@ -10,7 +11,7 @@ loop-seat-preserved g c =
       so_far = rw (
         lists_more c.args.sections.now c.loop-seat.seat c.index-sections-seat.result c.loop-seat-test.true c.index-sections-seat.is,
         c.push_reserved.ensures.items,
-        lists_push c.loop-seat.answers.items c.in_ok-at_seat.field-0,
+        map_push vec_items c.loop-seat.answers.items c.in_ok-at_seat.field-0,
       )
           (one_by_one_push g.State.Object.object 0 [] (lists_of (take c.loop-seat.seat c.args.sections.now)) (lists_of c.loop-seat.answers.items) c.loop-seat.book
           c.index-sections-seat.result.items c.in_ok-at_seat.field-0.items c.at_seat.new.book inv.so_far

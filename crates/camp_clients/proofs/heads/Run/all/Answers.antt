@@ -1,27 +1,20 @@
-use Rattle.camp_clients.proofs.Words.{◌≡◌, ℕ, ◌<◌, [], length, refl, sym, ◌∙◌, ap, subst, arith, All, IsBeginning, own, Asks, IsSeatOf, history_of, lists_of, section_of, Section, HasMet, IsMet, Ran}
-use Rattle.camp_clients.proofs.Meeting.{caller_of, can_begin, clients_hold, none_other, shared_run, all_map, all_mapped, zip_all, zip_length}
-use Rattle.camp_clients.proofs.Vectors.{lists_map, length-lists_of}
+use Rattle.camp_clients.proofs.Words.{◌≡◌, ℕ, ◌<◌, [], length, sym, ◌∙◌, ap, subst, arith, All, All-map, AllZip-long, all_unmap, map-map, IsBeginning, own, Asks, IsSeatOf, history_of, lists_of, vec_items, section_of, Section, HasMet, IsMet, Ran}
+use Rattle.camp_clients.proofs.Meeting.{caller_of, can_begin, clients_hold, shared_run, zip_all}
+use Rattle.camp_clients.proofs.Vectors.{length-lists_of}
 use Rattle.camp_clients.proofs.heads.Run.all.Goals as goal
 
 pub each_meets-requires-clause-seats : goal.each_meets-requires-clause-seats
 each_meets-requires-clause-seats g c k d below = (c.requires.seats k d below).0
 
 pub clients-requires-clause-ready : goal.clients-requires-clause-ready
-clients-requires-clause-ready g c _ _ k d below =
-    let head = c.args.self.now.head.now in
-    let opened = history_of c.at_seat.new.seat in
-    let b = can_begin head opened c.args.seats.items c.in_ok-seats.seats.items c.requires.seats c.in_ok-seats.ensures.seats k d below in
-    record {
-      is_seat = b.is_seat;
-      has_section = rw b.number (omega (arith, c.requires.as_many, zip_length (HasMet head opened) c.args.seats.items c.in_ok-seats.seats.items c.in_ok-seats.ensures.seats));
-      none_own = b.none_own;
-    }
+clients-requires-clause-ready g c _ _ =
+    can_begin c.args.self.now.head.now _ (history_of c.at_seat.new.seat) c.args.seats.items c.in_ok-seats.seats.items c.requires.as_many c.requires.seats c.in_ok-seats.ensures.seats
 
 pub meet_all-requires-clause-seats : goal.meet_all-requires-clause-seats
 meet_all-requires-clause-seats g c =
     let ran = c.in_ok-seats-2.ensures in
     subst (All (IsSeatOf c.args.self.now.head.now)) (sym ran.seats)
-    (all_map (λ one. one.0) (IsSeatOf c.args.self.now.head.now) ran.brought
+    (All-map (IsSeatOf c.args.self.now.head.now) (λ one. one.0) ran.brought
     (zip_all (λ seat one. Ran g.State.Object.object c.args.self.now.head.now (lists_of c.args.self.now.sections.now) seat one.0 one.1.items)
     (λ one. IsSeatOf c.args.self.now.head.now one.0) (λ before one ran. ran.is_seat) c.in_ok-seats.seats.items ran.brought ran.ran))
 
@@ -37,9 +30,8 @@ returns-clause-shared g c =
     let l1 = c.in_ok-seats.seats.items in
     let l2 = ran.brought in
     let long : length l2 ≡ length l0 =
-    sym (zip_length (HasMet head opened) l0 l1 c.in_ok-seats.ensures.seats
-    ∙ zip_length (λ seat one. Ran object head sections seat one.0 one.1.items) l1 l2 ran.ran) in
-    let met = all_mapped (λ one. one.0) (IsMet history) l2 (subst (All (IsMet history)) ran.seats c.in_ok-opener.ensures.seats) in
+    AllZip-long (λ seat one. Ran object head sections seat one.0 one.1.items) l1 l2 ran.ran ∙ AllZip-long (HasMet head opened) l0 l1 c.in_ok-seats.ensures.seats in
+    let met = all_unmap (IsMet history) (λ one. one.0) l2 (subst (All (IsMet history)) ran.seats c.in_ok-opener.ensures.seats) in
     let holds = λ (k : ℕ) (d : _) (below : k < length l2).
     clients_hold object head sections opened history l0 l1 l2 c.requires.seats c.in_ok-seats.ensures.seats ran.ran met k d (omega (arith, long)) in
     let opener = c.args.opener in
@@ -53,7 +45,7 @@ returns-clause-shared g c =
     ∙ ap (own 0) c.in_ok-seats.ensures.seen in
     let legal = c.number-number.ensures.legal in
     let seats = ap (λ row. row.seats) c.in_ok-opener.ensures.seat.row ∙ c.args.self.now.seats ∙ sym (length-lists_of c.args.self.now.sections.now) in
-    let no_other = none_other _ _ _ _ seats refl c.number-number.ensures.seats_below in
+    let no_other = subst (λ n. All (λ entry. entry.0 < n) history) seats c.number-number.ensures.seats_below in
     let run = shared_run object head sections opened history opening.items l2 (c.args.opener, opening)
     (omega (arith, long, c.requires.as_many, length-lists_of c.args.self.now.sections.now)) holds asked beginning same legal no_other in
-    rw (ran.all_answers, lists_map) run
+    rw (ran.all_answers, map-map vec_items (λ one. one.1) ran.brought) run
