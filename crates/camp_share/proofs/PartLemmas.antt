@@ -1,7 +1,10 @@
 -- Elements and ranges of lists in parts.
-use Rattle.camp_share.proofs.Words.{◌≡◌, ℕ, zero, suc, ◌+◌, ◌-◌, ◌<◌, ◌≤◌, List, [], ◌∷◌, ◌++◌, length, get_or, set, take, drop, Option, None, Some, Bor, sym, ap, subst, ◌∙◌, refl, arith, drop_all, drop-drop, get_or_default, get_or-drop, length-drop, append-nil, append_assoc, length-append, take_more, drop_more, take_all, take-append-drop, take-append-le, drop-append-le}
-use Rattle.camp_share.proofs.Words.{set_split, take-nil, take-append-add, drop-append-add, All, slice_get, slice_range, insert, remove, TakesFirst, deref, option_copied, flat_map-append, recursion_from_All, joined, IsPart, offset, IsPlace, Vec, vec_len}
+use Rattle.camp_share.proofs.Words.{◌≡◌, ℕ, suc, ◌+◌, ◌-◌, ◌<◌, ◌≤◌, List, [], ◌∷◌, ◌++◌, length, get_or, set, take, drop, Option, None, Some, Bor, sym, ap, subst, ◌∙◌, refl, arith, drop_all, drop-drop, get_or_default, get_or-drop, length-drop, append-nil, append_assoc, length-append, take_more, drop_more, take_all, take-append-drop, take-append-le, drop-append-le}
+use Rattle.camp_share.proofs.Words.{set_split, take-append-add, drop-append-add, All, slice_get, slice_range, insert, remove, TakesFirst, deref, option_copied, flat_map-append, recursion_from_All, joined, IsPart, offset, IsPlace, Vec, vec_len}
 use Rattle.std.specs.Prelude.{IfSome, MatchOption}
+use Rattle.std.proofs.Common.{inl, inr}
+use Rattle.std.proofs.lemmas.Bool.{cases_lt}
+use Rattle.std.proofs.lemmas.List.{drop-take}
 use Rattle.std.proofs.lemmas.Option.{slice_get_past, slice_get_read}
 use Rattle.std.specs.List.{AllByRecursion, splice}
 
@@ -127,15 +130,11 @@ module _ {X Z : Type 0} (parts : List (Vec X Z)) (index place : ℕ) where
 
 -- a place behind the first of a part is in a part
 pub place_within : {X Z : Type 0} (parts : List (Vec X Z)) (index place : ℕ) → offset parts index place ≤ length (joined (take (index + 1) parts)) → 0 < place → index < length parts
-place_within {X = X} {Z = Z} [] index place at some =
-    let short : length (joined {X = X} {Z = Z} (take index [])) ≡ 0 = ap (λ (ps : List (Vec X Z)). length (joined ps)) (take-nil index) in
-    let long : length (joined {X = X} {Z = Z} (take (index + 1) [])) ≡ 0 = ap (λ (ps : List (Vec X Z)). length (joined ps)) (take-nil (index + 1)) in absurd (omega arith)
-place_within (p ∷ ps) zero place at some = omega arith
-place_within (p ∷ ps) (suc i) place at some =
-    let further = ap (λ n. length (joined (take n (p ∷ ps)))) {x = suc i + 1} {y = suc (i + 1)} (omega arith) in
-    let short = length-append p.items (joined (take i ps)) in
-    let long = length-append p.items (joined (take (i + 1) ps)) in
-    let rest = place_within ps i place (omega arith) some in omega arith
+place_within {X} {Z} parts index place at some = elim (cases_lt index (length parts)) [
+  | inl below ↦ below
+  | inr past ↦
+      let all = ap (λ (ps : List (Vec X Z)). length (joined ps)) (take_all index parts past ∙ sym (take_all (index + 1) parts (omega (arith, past)))) in absurd (omega (arith, all, at, some))
+]
 
 -- the place behind all parts
 pub place_at_end : {X Z : Type 0} (parts : List (Vec X Z)) (index : ℕ) → length parts ≡ index → IsPlace parts index 0
@@ -197,10 +196,7 @@ not_past parts count left index none is before =
 
 -- the back of a front is a range
 back_of_front : {X : Type 0} (xs : List X) (from to : ℕ) → from ≤ to → drop from (take to xs) ≡ slice_range xs from to
-back_of_front xs zero to range = ap (λ n. take n xs) {x = to} {y = to - 0} (omega arith)
-back_of_front [] (suc from) to range = ap (drop (suc from)) (take-nil to) ∙ sym (take-nil (to - suc from))
-back_of_front (x ∷ xs) (suc from) zero range = absurd (omega arith)
-back_of_front (x ∷ xs) (suc from) (suc to) range = back_of_front xs from to (omega arith) ∙ ap (λ n. take n (drop from xs)) {x = to - from} {y = suc to - suc from} (omega arith)
+back_of_front xs from to range = ap (λ n. drop from (take n xs)) {x = to} {y = from + (to - from)} (omega arith) ∙ drop-take from (to - from) xs
 
 -- a range, as what is left of a front
 pub copied_between : {X : Type 0} (xs before front none after : List X) (from to start end : ℕ) → before ≡ take end xs → end ≡ to → front ≡ before → none ≡ [] → after ≡ none ++ drop start front → start ≡ from → from ≤ to → after ≡ slice_range xs from to

@@ -1,4 +1,4 @@
-use Rattle.camp_share.proofs.Words.{◌+◌, ◌-◌, ◌++◌, length, take, drop, sym, ap, ◌∙◌, arith, length-drop, take_all, drop-append-add}
+use Rattle.camp_share.proofs.Words.{◌+◌, ◌-◌, ◌++◌, length, drop, sym, ap, ◌∙◌, arith, length-drop, take_all, drop-append-add}
 use Rattle.camp_share.proofs.lists.SharedList.iter_from.Goals as goal
 
 pub returns-clause-rest : goal.returns-clause-rest

@@ -1,4 +1,4 @@
-use Rattle.camp_share.proofs.Words.{◌≡◌, ◌+◌, ◌++◌, [], ◌∷◌, length, ap, ◌∙◌, arith}
+use Rattle.camp_share.proofs.Words.{[], ◌∷◌, ap, ◌∙◌, arith}
 use Rattle.std.specs.List.{splice}
 use Rattle.camp_share.proofs.PartLemmas.{changed_in_last}
 use Rattle.camp_share.proofs.lists.SharedList.with_one.Goals as goal
