@@ -1,4 +1,4 @@
-use Rattle.camp_share.proofs.Words.{◌∙◌, ◌+◌, take, ap, arith, refl, Vec, IfOk-weaker, common_steps}
+use Rattle.camp_share.proofs.Words.{◌∙◌, ◌+◌, take, ap, arith, refl, Vec, IfOk-weaker}
 use Rattle.camp_share.proofs.PartLemmas.{front_within, length_grown, place_within, renewed_behind, replaced_between}
 use Rattle.camp_share.proofs.changes.replaced_at.Goals as goal
 
@@ -13,18 +13,3 @@ returns-clause-items g c =
     (renewed_behind parts c.args.index c.args.place c.at.result.now inside c.at.ensures (omega (arith, c.requires.place.1)) _ _ _ _ _
     (c.in_ok-items.ensures ∙ ap (λ (p : Vec _ _). take c.args.place p.items) c.deref.ensures) c.in_ok-push.ensures.items is))
     c.with_end_of.ensures.items
-
-pub at-requires : goal.at-requires
-at-requires g c = grind (arith, common_steps)
-
-pub first_of-requires : goal.first_of-requires
-first_of-requires g c = grind (arith, common_steps)
-
-pub overflow_add-place : goal.overflow_add-place
-overflow_add-place g c = grind (arith, common_steps)
-
-pub with_end_of-requires-clause-within : goal.with_end_of-requires-clause-within
-with_end_of-requires-clause-within g c = grind (arith, common_steps)
-
-pub with_end_of-requires-clause-few : goal.with_end_of-requires-clause-few
-with_end_of-requires-clause-few g c = grind (arith, common_steps)

@@ -1,4 +1,4 @@
-use Rattle.camp_share.proofs.Words.{◌++◌, drop, Vec, ap, ◌∙◌, arith, joined, offset, common_steps}
+use Rattle.camp_share.proofs.Words.{◌++◌, drop, Vec, ap, ◌∙◌, arith, joined, offset}
 use Rattle.camp_share.proofs.PartLemmas.{parts_fewer, place_within, behind_part, pushed_behind, length_grown}
 use Rattle.camp_share.proofs.changes.Change.push_cut.Goals as goal
 
@@ -17,18 +17,3 @@ returns-clause-items g c =
     pushed_behind c.args.parts.now c.args.index c.args.place c.at-part.result.now within c.at-part.ensures (omega (arith, c.requires.place.1)) (joined c.self.inside.parts) c.self.inside.middle _ _ c.in_ok-push_items.ensures
     (c.deref-2.ensures.value ∙ ap (λ (p : Vec _ _). p.items) c.deref.ensures)
     ∙ ap (λ xs. xs ++ drop (offset c.args.parts.now c.args.index c.args.place) (joined c.args.parts.now)) c.self.view_is
-
-pub at-part-requires : goal.at-part-requires
-at-part-requires g c = grind (arith, common_steps)
-
-pub offset_bounds-deref-place : goal.offset_bounds-deref-place
-offset_bounds-deref-place g c = grind (arith, common_steps)
-
-pub slice_bounds-push_items-count : goal.slice_bounds-push_items-count
-slice_bounds-push_items-count g c = grind (arith, common_steps)
-
-pub slice_bounds-push_items-start : goal.slice_bounds-push_items-start
-slice_bounds-push_items-start g c = grind (arith, common_steps)
-
-pub returns-clause-within : goal.returns-clause-within
-returns-clause-within g c = grind (arith, common_steps)
