@@ -1,5 +1,5 @@
 -- Lemmas on what a seat sees.
-use Rattle.camp_history.proofs.Words.{◌≡◌, ℕ, ◌<◌, ◌≤◌, List, [], ◌∷◌, ◌++◌, length, map, All, Some, refl, sym, ◌∙◌, ap, subst, arith, ◌==◌, if◌then◌else◌, cond, filter, false, suc, true, turns, map_push, length-append, All-push, All-same, append_assoc, length-map, Sequential, IsLawfulObject, IsBeginning, replay, own, Entry, Seated, asked, told, Begins, most_listed, history_of, Mark, entry_of, GetsOn, SeesMore, with_mark, HeadId, IsSeatOf, Shows, Where, Ok, Err, OnOk, OnErr, Result, entries_of, own_other, count-replay, begins_self, begins_through, Based, All-weaker, Known, Leads, ComesNext}
+use Rattle.camp_history.proofs.Words.{◌≡◌, ℕ, ◌<◌, ◌≤◌, List, [], ◌∷◌, ◌++◌, length, map, All, Some, refl, sym, ◌∙◌, ap, subst, arith, ◌==◌, if◌then◌else◌, cond, filter, false, suc, true, turns, map_push, length-append, All-push, All-same, append_assoc, length-map, Sequential, IsLawfulObject, IsBeginning, replay, own, Entry, Seated, asked, told, Begins, most_listed, history_of, Mark, entry_of, GetsOn, SeesMore, with_mark, HeadId, IsSeatOf, Shows, Where, Ok, Err, OnOk, OnErr, Result, own_other, count-replay, begins_self, begins_through, Based, All-weaker, ComesNext}
 use Rattle.camp_row.specs.declared.trails.Next.{Next}
 
 -- a seat has as many calls as it has entries
@@ -72,24 +72,6 @@ got_on {Call} head old new next call (Ok done) of comes shows ok err =
       ahead = refl;
     } in
     subst (GetsOn head old) (sym ok) on
-
--- and what it knows then
-pub known_then : {Call E : Type 0} (old new : Seated Call) (next : Next) (call : Where Call) (answer : Result (Unit {0}) E) → call.index ≡ next.entry.place
-    → OnOk answer (new ≡ with_mark old (record { seat = next.entry.seat; call = call }))
-    → OnOk answer (new.known ≡ record old.known { seen = old.known.seen ++ next.entry ∷ [] })
-known_then old new next call (Err fault) place ok = tt
-known_then old new next call (Ok done) place ok =
-    ap (λ seat. seat.known) ok ∙ ap (λ place. record old.known { seen = old.known.seen ++ record { seat = next.entry.seat; place = place } ∷ [] }) place
-
--- a seat whose pass has seen the whole chain has a mark for each entry of it
-pub all_seen : {Call E : Type 0} (seat : Seated Call) (answer : Result (Unit {0}) E) → entries_of seat ≡ seat.known.seen
-    → OnOk answer (seat.known.seen ≡ seat.known.ahead) → OnOk answer (entries_of seat ≡ seat.known.ahead)
-all_seen seat (Err fault) places all = tt
-all_seen seat (Ok done) places all = places ∙ all
-
--- the trail leads on from the entry that was seen
-pub leads_on : (old new : Known) (entry : Entry) (trail : List ℕ) → new ≡ record old { seen = old.seen ++ entry ∷ [] } → Leads old (old.seen ++ entry ∷ []) trail → Leads new new.seen trail
-leads_on old new entry trail is leads = rw is (record { left = leads.left; is = leads.is; cells = leads.cells })
 
 -- a list of marks has no more than memory has room for
 pub few_marks : {State Call Reply : Type 0} (object : Sequential State Call Reply) → IsLawfulObject object → (front tail : List (Mark Call)) (state : State) (len cap : ℕ)

@@ -213,12 +213,10 @@ seat_adopted {Call} head old new version of stored adopts = record {
 }
 
 -- the list that copies share, once the few behind it were moved into it
-pub spliced_behind : {X : Type 0} (front tail longer none : List X) (len : ℕ) → len ≡ length front → longer ≡ splice front len len tail → none ≡ [] → longer ++ none ≡ front ++ tail
-spliced_behind front tail longer none len len_is spliced is_none =
-    let all : splice front (length front) (length front) tail ≡ front ++ tail =
-    (λ k. take_all (length front) front (omega arith) k ++ (tail ++ drop_all (length front) front (omega arith) k)) ∙ ap (λ l. front ++ l) (append-nil tail)
-    in
-    ap (λ rest. longer ++ rest) is_none ∙ append-nil longer ∙ spliced ∙ ap (λ n. splice front n n tail) len_is ∙ all
+pub spliced_behind : {X : Type 0} (front tail longer : List X) (len : ℕ) → len ≡ length front → longer ≡ splice front len len tail → longer ≡ front ++ tail
+spliced_behind front tail longer len len_is spliced =
+    spliced ∙ ap (λ n. splice front n n tail) len_is
+    ∙ (λ k. take_all (length front) front (omega arith) k ++ (tail ++ drop_all (length front) front (omega arith) k)) ∙ ap (λ l. front ++ l) (append-nil tail)
 
 -- what holds of all that was noted and of one more holds of all that is noted then
 pub noted_all : {B : Type 0} (P : B → Type 0) (old room new : List B) (base : B) (gone : ℕ) (is_ok : Bool) → room ≡ drop gone old → new ≡ (if is_ok then room ++ base ∷ [] else room) → All P old → P base → All P new
@@ -274,15 +272,11 @@ pub noted_based : {State Call Reply : Type 0} (P : Based Call → Type 0) (old r
 noted_based P old room new base gone is_ok left is all here =
     All-map P based new (noted_all (λ base. P (based base)) old room new base gone is_ok left is (all_unmap P based old all) here)
 
--- the number of a slot, among those of its row
-pub id_at : (slots : List Named) (number : ℕ) (slot : Named) → slot ≡ slice_index_or slots number slot → number < length slots → slot.id ≡ slice_index_or (ids_of slots) number 0
-id_at slots number slot is below = ap (λ (slot : Named). slot.id) is ∙ sym (get_or-map (λ (slot : Named). slot.id) slots number slot 0 below)
-
 -- the number of a slot that was looked up
 pub slot_by : {R : Type 0} (now : R → Named) (Holds : R → Type 0) (slots : List Named) (number : ℕ) (found : Option R) → IfSome found (λ slot. now slot ≡ slice_index_or slots number (now slot))
     → MatchOption found (length slots ≤ number) (λ slot. (number < length slots) × Holds slot) → IfSome found (λ slot. (now slot).id ≡ slice_index_or (ids_of slots) number 0)
 slot_by now Holds slots number None is within = tt
-slot_by now Holds slots number (Some slot) is within = id_at slots number (now slot) is within.0
+slot_by now Holds slots number (Some slot) is within = ap (λ (slot : Named). slot.id) is ∙ sym (get_or-map (λ (slot : Named). slot.id) slots number (now slot) 0 within.0)
 
 -- what is left of a list and of a few behind it, from a place among the few on
 pub left_behind : {X : Type 0} (front tail none : List X) (from len : ℕ) → len ≡ length front → len ≤ from → none ≡ drop len front → none ++ take (length tail - (from - len)) (drop (from - len) tail) ≡ drop from (front ++ tail)

@@ -1,5 +1,6 @@
-use Rattle.camp_history.proofs.Words.{◌≡◌, ap, sym, Shows}
-use Rattle.camp_history.proofs.Seeing.{got_on, known_then}
+use Rattle.std.proofs.lemmas.Result.{on_ok_weaker}
+use Rattle.camp_history.proofs.Words.{◌≡◌, ◌++◌, ◌∷◌, [], ◌∙◌, ap, sym, Shows}
+use Rattle.camp_history.proofs.Seeing.{got_on}
 use Rattle.camp_history.proofs.heads.Head.see.Goals as goal
 
 pub step-requires-clause-state : goal.step-requires-clause-state
@@ -12,4 +13,7 @@ returns-clause-gets_on g c =
     got_on c.args.self.now c.args.seat.now c.step.new.self c.args.next c.in-Some.call c.step.result c.requires.of c.requires.next shown c.step.ensures.ok c.step.ensures.err
 
 pub returns-clause-known : goal.returns-clause-known
-returns-clause-known g c = known_then c.args.seat.now c.step.new.self c.args.next c.in-Some.call c.step.result c.in-Some.ensures.1 c.step.ensures.ok
+returns-clause-known g c =
+    let known = c.args.seat.now.known in
+    on_ok_weaker c.step.result
+    (λ ok. ap (λ seat. seat.known) ok ∙ ap (λ place. record known { seen = known.seen ++ record { seat = c.args.next.entry.seat; place = place } ∷ [] }) c.in-Some.ensures.1) c.step.ensures.ok

@@ -1,5 +1,5 @@
 use Rattle.camp_history.proofs.Words.{sym, ◌∙◌, subst, GetsOn}
-use Rattle.camp_history.proofs.Seeing.{gets_on_more, gets_on_self, leads_on}
+use Rattle.camp_history.proofs.Seeing.{gets_on_more, gets_on_self}
 use Rattle.camp_history.proofs.heads.Head.see_all.Goals as goal
 
 pub returns-in_err-trail-clause-gets_on : goal.returns-in_err-trail-clause-gets_on
@@ -18,9 +18,10 @@ pub loop-next-preserved : goal.loop-next-preserved
 loop-next-preserved g c =
     let past = c.loop-next.invariant in
     let sees = c.in_ok-see.ensures in
+    let leads = c.in-Some.ensures.leads in
     record {
       gets_on = gets_on_more past.gets_on (rw c.in-Some.ensures.same at sees.gets_on);
-      leads = leads_on c.loop-next.seat.known c.see.new.seat.known c.in-Some.next.entry c.next.new.trail (rw c.in-Some.ensures.same at sees.known) c.in-Some.ensures.leads;
+      leads = rw (rw c.in-Some.ensures.same at sees.known) (record { left = leads.left; is = leads.is; cells = leads.cells });
     }
 
 pub returns-clause-gets_on : goal.returns-clause-gets_on

@@ -1,4 +1,4 @@
-use Rattle.camp_history.proofs.Words.{◌≡◌, ◌++◌, [], length, ap, ◌∙◌, sym, refl, append-nil, splice, IfOk-weaker}
+use Rattle.camp_history.proofs.Words.{◌≡◌, length, ap, ◌∙◌, splice, IfOk-weaker}
 use Rattle.camp_history.proofs.Versioned.{spliced_behind}
 use Rattle.camp_history.proofs.seats.Seat.listed.Goals as goal
 
@@ -10,5 +10,5 @@ returns g c =
     let longer = c.in_ok-longer.longer in
     let len_is : len ≡ length front = c.len-len.ensures.exact ∙ ap length c.deref.ensures in
     let is : longer ≡ splice front len len tail = c.in_ok-longer.ensures.exact ∙ (λ k. splice (c.deref-2.ensures k) len len (c.deref-3.ensures.value k)) in
-    let all : longer ≡ front ++ tail = sym (append-nil longer) ∙ spliced_behind front tail longer [] len len_is is refl in
+    let all = spliced_behind front tail longer len len_is is in
     IfOk-weaker c.new.result _ _ (λ list same. same ∙ all ∙ ap (λ seat. seat.marks) c.self.view_is) c.new.ensures.exact
