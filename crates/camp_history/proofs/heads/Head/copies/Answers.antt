@@ -1,6 +1,6 @@
 use Rattle.camp_history.proofs.Words.{◌≡◌, ◌∷◌, [], ◌++◌, ◌∙◌, sym, ap, map, length, length-map, arith, All-rest, All-same, Shows, Mark, asked, append_assoc}
 use Rattle.camp_history.proofs.Versioned.{left_first}
-use Rattle.camp_history.proofs.heads.Head.history.Goals as goal
+use Rattle.camp_history.proofs.heads.Head.copies.Goals as goal
 
 pub loop-mark-init : goal.loop-mark-init
 loop-mark-init g c =
