@@ -1,6 +1,5 @@
 -- Lists of labelled primitives as text.
 use Rattle.std.specs.Prelude.{ℕ, List, ◌++◌, codes}
-use Rattle.std.specs.List.{flat_map}
 use Rattle.camp_prim.specs.declared.named.Named.{Named}
 use Rattle.camp_notation.specs.Words.{row}
 use Rattle.camp_notation.specs.Patches.{named_text}
@@ -8,7 +7,3 @@ use Rattle.camp_notation.specs.Patches.{named_text}
 -- the primitives in a row, between brackets
 abbrev pub list_text : List Named → List Named → List ℕ
 list_text known s = codes "[" ++ row (named_text known) s ++ codes "]"
-
--- the primitives one a line, each with its end
-abbrev pub listing : List Named → List Named → List ℕ
-listing known s = flat_map (λ p. named_text known p ++ codes "\n") s

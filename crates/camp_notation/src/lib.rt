@@ -20,7 +20,7 @@ pub use catches::{catch_text, catches_text};
 pub use context_readings::{read_contexted, read_set};
 pub use contexts::{contexted_text, set_text};
 pub use faults::NotationError;
-pub use lists::{list_text, listing};
+pub use lists::list_text;
 pub use patches::{label_text, named_text};
 pub use readings::{read_label, read_lines, read_list, read_named, read_tree, read_word};
 pub use trees::tree_text;

@@ -1,5 +1,5 @@
 ghost use Rattle.std.specs.Prelude.{◌≡◌, ◌++◌, IfOk, OnOk, string_bytes};
-ghost use Rattle.camp_notation.specs.Lists.{list_text, listing};
+ghost use Rattle.camp_notation.specs.Lists.{list_text};
 
 use crate::patches::append_named;
 use crate::words::append_separator;
@@ -15,25 +15,6 @@ pub fn list_text(alloc: Global, known: &[Named], s: &Seq) -> Result<String, Allo
     let mut text = String::new(alloc);
     append_list(&mut text, known, s.items())?;
     Ok(text)
-}
-
-/// The same primitives one a line, each line with its end: for lists that are long.
-pub fn listing(alloc: Global, known: &[Named], s: &Seq) -> Result<String, AllocError>
-    ensures exact { IfOk result (λ text. string_bytes text ≡ listing known.now s.now) }
-{
-    let mut text = String::new(alloc);
-    append_lines_of(&mut text, known, s.items())?;
-    Ok(text)
-}
-
-fn append_lines_of(text: &mut String, known: &[Named], s: &[Named]) -> Result<(), AllocError>
-    ensures { OnOk result (string_bytes text.new ≡ string_bytes text.old ++ listing known.now s.now) }
-{
-    for p in s {
-        append_named(text, known, p)?;
-        text.push('\n')?;
-    }
-    Ok(())
 }
 
 pub(crate) fn append_list(text: &mut String, known: &[Named], s: &[Named]) -> Result<(), AllocError>
