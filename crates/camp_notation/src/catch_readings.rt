@@ -4,12 +4,11 @@ ghost use Rattle.camp_notation.specs.Catches.{catch_text, catches_text};
 use crate::context_readings::{read_member, read_members};
 use crate::cursors::Cursor;
 use crate::readings::{read_item, read_items};
-use crate::rows::{Row, SQUARE, kept, read_row};
+use crate::rows::{Row, SQUARE, read_row};
 use crate::{NotationError, catch_text, catches_text};
 use camp_catch::{Catch, Conflictor};
 use camp_ctx::{Contexted, CtxSet};
 use camp_prim::Named;
-use camp_seq::Seq;
 use camp_share::Shared;
 use std::alloc::Global;
 
@@ -64,21 +63,20 @@ fn read_catch_there(cursor: &mut Cursor) -> Result<Catch, NotationError> {
 fn read_plain(cursor: &mut Cursor) -> Result<Catch, NotationError> {
     cursor.expect(b"[", '[')?;
     let a = read_item(cursor)?;
-    let closed = cursor.expect(b"]", ']');
-    Ok(Catch::Plain(kept(a, closed)?))
+    cursor.expect(b"]", ']')?;
+    Ok(Catch::Plain(a))
 }
 
 // What stands behind the round bracket of a conflictor.
 fn read_conflictor(cursor: &mut Cursor) -> Result<Catch, NotationError> {
     let effect = read_items(cursor)?;
-    read_behind_effect(cursor, effect)
-}
-
-fn read_behind_effect(cursor: &mut Cursor, effect: Seq) -> Result<Catch, NotationError> {
-    match read_conflicts(cursor) {
-        Ok(conflicts) => read_identity(cursor, effect, conflicts),
-        Err(why) => Err(why),
-    }
+    let conflicts = read_conflicts(cursor)?;
+    let identity = read_last_member(cursor)?;
+    Ok(Catch::Conflictor(Conflictor {
+        effect,
+        conflicts,
+        identity,
+    }))
 }
 
 fn read_conflicts(cursor: &mut Cursor) -> Result<CtxSet, NotationError> {
@@ -86,24 +84,9 @@ fn read_conflicts(cursor: &mut Cursor) -> Result<CtxSet, NotationError> {
     read_members(cursor)
 }
 
-fn read_identity(
-    cursor: &mut Cursor,
-    effect: Seq,
-    conflicts: CtxSet,
-) -> Result<Catch, NotationError> {
-    match read_last_member(cursor) {
-        Ok(identity) => Ok(Catch::Conflictor(Conflictor {
-            effect,
-            conflicts,
-            identity,
-        })),
-        Err(why) => Err(why),
-    }
-}
-
 fn read_last_member(cursor: &mut Cursor) -> Result<Contexted, NotationError> {
     cursor.expect(b", ", ',')?;
     let identity = read_member(cursor)?;
-    let closed = cursor.expect(b")", ')');
-    kept(identity, closed)
+    cursor.expect(b")", ')')?;
+    Ok(identity)
 }

@@ -3,7 +3,7 @@ ghost use Rattle.camp_notation.specs.Contexts.{contexted_text, set_text};
 
 use crate::cursors::Cursor;
 use crate::readings::{read_item, read_items};
-use crate::rows::{CURLY, Row, kept, read_row};
+use crate::rows::{CURLY, Row, read_row};
 use crate::{NotationError, contexted_text, set_text};
 use camp_ctx::{Contexted, CtxSet};
 use camp_prim::Named;
@@ -42,21 +42,15 @@ pub(crate) fn read_members(cursor: &mut Cursor) -> Result<CtxSet, NotationError>
 impl Row for CtxSet {
     fn read_next(&mut self, cursor: &mut Cursor) -> Result<(), NotationError> {
         let x = read_member(cursor)?;
-        insert(self, &x)
+        *self = self.insert(&x)?;
+        Ok(())
     }
-}
-
-fn insert(xs: &mut CtxSet, x: &Contexted) -> Result<(), NotationError> {
-    *xs = xs.insert(x)?;
-    Ok(())
 }
 
 pub(crate) fn read_member(cursor: &mut Cursor) -> Result<Contexted, NotationError> {
     let context = read_context(cursor)?;
-    match read_patch(cursor) {
-        Ok(patch) => Ok(Contexted::new(cursor.alloc, context, patch)?),
-        Err(why) => Err(why),
-    }
+    let patch = read_patch(cursor)?;
+    Ok(Contexted::new(cursor.alloc, context, patch)?)
 }
 
 fn read_patch(cursor: &mut Cursor) -> Result<Named, NotationError> {
@@ -73,15 +67,7 @@ fn read_context(cursor: &mut Cursor) -> Result<Seq, NotationError> {
         return Ok(Seq::empty(cursor.alloc));
     }
     let p = read_item(cursor)?;
-    list_of(cursor.alloc, p)
-}
-
-fn list_of(alloc: Global, p: Named) -> Result<Seq, NotationError> {
-    let mut context = Seq::empty(alloc);
-    let pushed = push(&mut context, p);
-    kept(context, pushed)
-}
-
-fn push(context: &mut Seq, p: Named) -> Result<(), NotationError> {
-    Ok(context.push(p)?)
+    let mut context = Seq::empty(cursor.alloc);
+    context.push(p)?;
+    Ok(context)
 }

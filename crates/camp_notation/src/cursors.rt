@@ -129,10 +129,7 @@ impl<'a> Cursor<'a> {
         let Ok(text) = str::from_utf8(digits) else {
             return Err(NotationError::BadNumber);
         };
-        match text.parse::<u32>() {
-            Ok(number) => Ok(number),
-            Err(_) => Err(NotationError::BadNumber),
-        }
+        text.parse::<u32>().ok().ok_or(NotationError::BadNumber)
     }
 
     fn run(&mut self, run: Run) -> &'a [u8] {

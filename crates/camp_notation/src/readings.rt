@@ -82,24 +82,16 @@ fn read_files(cursor: &mut Cursor) -> Result<Tree, NotationError> {
 impl Row for Tree {
     fn read_next(&mut self, cursor: &mut Cursor) -> Result<(), NotationError> {
         let path = read_path(cursor)?;
-        read_file(cursor, self, &path)
+        cursor.expect(b": ", ':')?;
+        let lines = read_row_of_lines(cursor)?;
+        self.add_file(&path)?;
+        Ok(self.splice(&path, 1, &[], &lines)?)
     }
 }
 
 fn read_path(cursor: &mut Cursor) -> Result<Path, NotationError> {
     let word = cursor.word()?;
     Ok(Path::new(cursor.alloc, &word)?)
-}
-
-fn read_file(cursor: &mut Cursor, tree: &mut Tree, path: &Path) -> Result<(), NotationError> {
-    cursor.expect(b": ", ':')?;
-    let lines = read_row_of_lines(cursor)?;
-    put_file(tree, path, &lines)
-}
-
-fn put_file(tree: &mut Tree, path: &Path, lines: &[Line]) -> Result<(), NotationError> {
-    tree.add_file(path)?;
-    Ok(tree.splice(path, 1, &[], lines)?)
 }
 
 pub(crate) fn read_items(cursor: &mut Cursor) -> Result<Seq, NotationError> {
@@ -115,14 +107,9 @@ impl Row for Seq {
 
 pub(crate) fn read_item(cursor: &mut Cursor) -> Result<Named, NotationError> {
     let label = read_label_there(cursor)?;
-    if cursor.take(b" ") {
-        read_labelled(cursor, label)
-    } else {
-        known_item(cursor.known, label)
+    if !cursor.take(b" ") {
+        return known_item(cursor.known, label);
     }
-}
-
-fn read_labelled(cursor: &mut Cursor, label: Label) -> Result<Named, NotationError> {
     let prim = read_change(cursor)?;
     Ok(Named {
         name: label.name,
@@ -154,10 +141,8 @@ fn read_place(cursor: &mut Cursor) -> Result<u8, NotationError> {
     if !cursor.take(b".") {
         return Ok(1);
     }
-    match u8::try_from(cursor.number()?) {
-        Ok(place) => Ok(place),
-        Err(_) => Err(NotationError::BadNumber),
-    }
+    let place = u8::try_from(cursor.number()?);
+    place.ok().ok_or(NotationError::BadNumber)
 }
 
 // `add PATH`, `remove PATH`, or `PATH LINE [OLD, ..] -> [NEW, ..]`. What stands behind the second
@@ -188,13 +173,9 @@ fn change_of(alloc: Global, word: &[u8], path: &[u8]) -> Result<Primitive, Notat
 
 fn read_hunk(path: &[u8], line: &[u8], cursor: &mut Cursor) -> Result<Primitive, NotationError> {
     let path = Path::new(cursor.alloc, path)?;
-    match read_sides(line, cursor) {
-        Ok((line, old, new)) => {
-            let body = Body::new(cursor.alloc, path, old, new)?;
-            Primitive::hunk(body, line).ok_or(NotationError::NoHunk)
-        }
-        Err(why) => Err(why),
-    }
+    let (line, old, new) = read_sides(line, cursor)?;
+    let body = Body::new(cursor.alloc, path, old, new)?;
+    Primitive::hunk(body, line).ok_or(NotationError::NoHunk)
 }
 
 // The line of a hunk, what stands there before it, and what behind it.
@@ -204,10 +185,8 @@ fn read_sides(
 ) -> Result<(u32, Vec<Line>, Vec<Line>), NotationError> {
     let line = read_number(cursor.alloc, line)?;
     let old = read_row_of_lines(cursor)?;
-    match read_new_side(cursor) {
-        Ok(new) => Ok((line, old, new)),
-        Err(why) => Err(why),
-    }
+    let new = read_new_side(cursor)?;
+    Ok((line, old, new))
 }
 
 fn read_new_side(cursor: &mut Cursor) -> Result<Vec<Line>, NotationError> {
@@ -228,12 +207,7 @@ fn read_row_of_lines(cursor: &mut Cursor) -> Result<Vec<Line>, NotationError> {
 
 impl Row for Vec<Line> {
     fn read_next(&mut self, cursor: &mut Cursor) -> Result<(), NotationError> {
-        let line = read_line(cursor)?;
-        Ok(self.push(line)?)
+        let word = cursor.word()?;
+        Ok(self.push(Line::new(cursor.alloc, &word)?)?)
     }
-}
-
-fn read_line(cursor: &mut Cursor) -> Result<Line, NotationError> {
-    let word = cursor.word()?;
-    Ok(Line::new(cursor.alloc, &word)?)
 }

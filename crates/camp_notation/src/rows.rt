@@ -31,8 +31,8 @@ pub(crate) fn read_row<R: Row + Drop>(
     cursor: &mut Cursor,
 ) -> Result<R, NotationError> {
     let mut row = row;
-    let read = read_into(&mut row, brackets, cursor);
-    kept(row, read)
+    read_into(&mut row, brackets, cursor)?;
+    Ok(row)
 }
 
 fn read_into<R: Row>(
@@ -52,12 +52,4 @@ fn read_into<R: Row>(
         cursor.expect(b", ", ',')?;
     }
     Err(NotationError::Expected(brackets.close))
-}
-
-/// A row, where it was read to its end.
-pub(crate) fn kept<R: Drop>(row: R, read: Result<(), NotationError>) -> Result<R, NotationError> {
-    match read {
-        Ok(()) => Ok(row),
-        Err(why) => Err(why),
-    }
 }
