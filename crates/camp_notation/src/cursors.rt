@@ -61,26 +61,6 @@ impl<'a> Cursor<'a> {
         }
     }
 
-    /// Goes past an ASCII sign, where it stands next.
-    pub(crate) fn take_sign(&mut self, sign: char) -> bool {
-        match self.rest.split_first() {
-            Some((byte, rest)) if *byte as char == sign => {
-                self.rest = rest;
-                true
-            }
-            _ => false,
-        }
-    }
-
-    /// Goes past an ASCII sign that has to stand next.
-    pub(crate) fn expect_sign(&mut self, sign: char) -> Result<(), NotationError> {
-        if self.take_sign(sign) {
-            Ok(())
-        } else {
-            Err(NotationError::Expected(sign))
-        }
-    }
-
     /// Nothing is left.
     pub(crate) fn expect_end(&self) -> Result<(), NotationError> {
         if self.rest.is_empty() {

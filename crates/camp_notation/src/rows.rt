@@ -7,22 +7,12 @@ pub(crate) trait Row {
     fn read_next(&mut self, cursor: &mut Cursor) -> Result<(), NotationError>;
 }
 
-/// What stands before the items of a row, and behind them.
-#[derive(Clone, Copy)]
-pub(crate) struct Brackets {
-    open: char,
-    close: char,
-}
+/// The signs that stand before the items of a row and behind them.
+pub(crate) type Brackets = [u8; 2];
 
-pub(crate) const SQUARE: Brackets = Brackets {
-    open: '[',
-    close: ']',
-};
+pub(crate) const SQUARE: Brackets = [b'[', b']'];
 
-pub(crate) const CURLY: Brackets = Brackets {
-    open: '{',
-    close: '}',
-};
+pub(crate) const CURLY: Brackets = [b'{', b'}'];
 
 /// A row with the items that are read: between brackets, with a comma and a blank between two.
 pub(crate) fn read_row<R: Row + Drop>(
@@ -40,16 +30,17 @@ fn read_into<R: Row>(
     brackets: Brackets,
     cursor: &mut Cursor,
 ) -> Result<(), NotationError> {
-    cursor.expect_sign(brackets.open)?;
-    if cursor.take_sign(brackets.close) {
+    let [open, close] = brackets;
+    cursor.expect(&[open], open as char)?;
+    if cursor.take(&[close]) {
         return Ok(());
     }
     for _ in 0..cursor.len() {
         row.read_next(cursor)?;
-        if cursor.take_sign(brackets.close) {
+        if cursor.take(&[close]) {
             return Ok(());
         }
         cursor.expect(b", ", ',')?;
     }
-    Err(NotationError::Expected(brackets.close))
+    Err(NotationError::Expected(close as char))
 }
