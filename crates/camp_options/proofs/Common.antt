@@ -1,5 +1,5 @@
 -- The words that most proofs about command lines use.
-pub use Rattle.std.proofs.Common.{All, Bool, Bor, List, None, Ok, Option, Result, Some, [], ap, ap₂, arith, bytes_eq, codes, false, find, inl, inr, length, map, option_map, pos, refl, slice_get, slice_index_or, subst, suc, sym, true, true≢false, unwrap_or, zero, ℕ, ◌<◌, ◌↔◌, ◌∙◌, ◌∷◌, ◌≡◌, ◌⊎◌, ◌≤◌}
+pub use Rattle.std.proofs.Common.{All, Bool, Bor, List, None, Ok, Option, Result, Some, [], ap, ap₂, arith, bytes_eq, codes, cond, false, find, inl, inr, length, map, option_map, pos, refl, slice_get, slice_index_or, subst, suc, sym, true, true≢false, unwrap_or, zero, ℕ, ◌<◌, ◌↔◌, ◌∙◌, ◌∷◌, ◌≡◌, ◌⊎◌, ◌≤◌}
 pub use Rattle.std.proofs.lemmas.Slice.Eq.{bytes_eq-Decides}
 pub use Rattle.std.specs.Str.Parse.{ExplainsUnsignedError, HasUnsignedDigitsIfOk, ParsesBool, ParsesUnsigned}
 pub use Rattle.clap.proofs.WalkLemmas.{one_text-rows}

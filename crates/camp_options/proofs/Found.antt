@@ -1,5 +1,5 @@
 -- What a parse finds of an argument of the caller's that has a default: a value, and it passed the argument's parser.
-use Rattle.camp_options.proofs.Common.{◌≡◌, ◌⊎◌, ◌∙◌, ◌<◌, ◌≤◌, ℕ, zero, suc, Bool, true, false, List, [], ◌∷◌, length, Some, None, refl, sym, ap, subst, inl, inr, arith, All, slice_index_or, bytes_eq, find, option_map, slice_get, Bor, bytes_eq-Decides, args_of, groups_of, Entry, EntryPasses, HasReading, PassesArg}
+use Rattle.camp_options.proofs.Common.{cond, ◌≡◌, ◌⊎◌, ◌∙◌, ◌<◌, ◌≤◌, ℕ, zero, suc, Bool, true, false, List, [], ◌∷◌, length, Some, None, refl, sym, ap, subst, inl, inr, arith, All, slice_index_or, bytes_eq, find, option_map, slice_get, Bor, bytes_eq-Decides, args_of, groups_of, Entry, EntryPasses, HasReading, PassesArg}
 use Rattle.camp_options.proofs.Common.{WantsDefault, least_values, parser_of, parser_of_value, IsAuto, IsParsedFrom, SameRules, found_of, matched_of, one_text, Arg, Command, ArgMatches}
 use Rattle.std.proofs.lemmas.List.Elements.{All-get_or}
 use Rattle.clap.specs.Values.{Accepts, read_as, reading_of}
@@ -33,16 +33,13 @@ HasValue m a q = (value : List ℕ) × (one_text (found_of m) a.id.now ≡ Some 
 has_entry : (xs : List Entry) (id : List ℕ) (i : ℕ) → i < length xs → ((d : Entry) → bytes_eq (slice_index_or xs i d).0.now id ≡ true)
     → (x : MatchedArg) × (option_map (λ e. e.1) (find (λ e. bytes_eq e.0.now id) xs) ≡ Some x)
 has_entry [] id i lt at = absurd (omega arith)
-has_entry (e ∷ xs) id i lt at = go (bytes_eq e.0.now id) refl i lt at (has_entry xs id)
-  where
-    go : (t : Bool) → bytes_eq e.0.now id ≡ t → (j : ℕ) → j < length (e ∷ xs) → ((d : Entry) → bytes_eq (slice_index_or (e ∷ xs) j d).0.now id ≡ true)
-        → ((k : ℕ) → k < length xs → ((d : Entry) → bytes_eq (slice_index_or xs k d).0.now id ≡ true) → (x : MatchedArg) × (option_map (λ e. e.1) (find (λ e. bytes_eq e.0.now id) xs) ≡ Some x))
-        → (x : MatchedArg) × (option_map (λ e. e.1) (find (λ e. bytes_eq e.0.now id) (e ∷ xs)) ≡ Some x)
-    go true t j low has rest = (e.1, rw t refl)
-    go false t zero low has rest = cc (sym t ∙ has e)
-    go false t (suc j) low has rest =
-        let found = rest j (omega arith) has in
-        (found.0, rw t found.1)
+has_entry (e ∷ xs) id zero lt at = (e.1, rw (at e) refl)
+has_entry (e ∷ xs) id (suc i) lt at =
+    let found = has_entry xs id i (omega arith) at in
+    elim (bytes_eq e.0.now id) as (λ b. (x : MatchedArg) × (option_map (λ e. e.1) (cond b (Some e) (find (λ e. bytes_eq e.0.now id) xs)) ≡ Some x)) [
+      | true ↦ (e.1, refl)
+      | false ↦ found
+    ]
 
 first_of : (P : Bor (List ℕ) → Type 0) (how : Reading) (vs : List (Bor (List ℕ))) → 0 < length vs → All P vs
     → (v : Bor (List ℕ)) × (option_map (λ s. read_as how s.now) (slice_get vs 0) ≡ Some (read_as how v.now)) × P v
