@@ -1,5 +1,5 @@
 -- What a line asks for is what its first words begin, and it can be done.
-use Rattle.camp_script.proofs.Common.{◌≡◌, ℕ, Bool, true, false, ◌&&◌, ◌||◌, ◌==◌, ◌<◌, ◌≤◌, nat_le, List, [], ◌∷◌, length, drop, slice_index, codes, refl, sym, ap, subst, ◌∙◌, Result, Ok, ⊎_elim, arith, nat_tests, cases_Bool, both_ways, and_parts, IsTrue, bytes_eq, list_all, is_between, is_name, is_path, Primitive, Add, Remove, Call, IsScriptCall, IsChange, IsListed, AreNames, begins_with, begins_edit, begins_group, LineFault, GroupLine, NoChange, WholeChange, EditChange, EndGroup, whole_change, edit_change, change_of, group_line_of, Command, Nothing, Ask, BeginEdit, BeginGroup, BeginSection, branch_line, whole_record, edit_record, record_of, record_line, listed, pull_line, obliterate_line, branch_at, question, command, command_of, ◌>>=◌, no_words, one_word, two_words, name_at, names_at, path_at, number_at, value_of, is_line_number}
+use Rattle.camp_script.proofs.Common.{◌≡◌, ℕ, Bool, true, false, ◌&&◌, ◌||◌, ◌==◌, ◌<◌, ◌≤◌, nat_le, cond, List, [], ◌∷◌, length, drop, slice_index, codes, refl, sym, ap, subst, ◌∙◌, Result, Ok, ⊎_elim, arith, nat_tests, cases_Bool, both_ways, and_parts, IsTrue, bytes_eq, list_all, is_between, is_name, is_path, Primitive, Add, Remove, Call, IsScriptCall, IsChange, IsListed, AreNames, begins_with, begins_edit, begins_group, LineFault, GroupLine, NoChange, WholeChange, EditChange, EndGroup, whole_change, edit_change, change_of, group_line_of, Command, Nothing, Ask, BeginEdit, BeginGroup, BeginSection, branch_line, whole_record, edit_record, record_of, record_line, listed, pull_line, obliterate_line, branch_at, question, command, command_of, ◌>>=◌, no_words, one_word, two_words, name_at, names_at, path_at, number_at, is_line_number}
 use Rattle.std.proofs.lemmas.Slice.Eq.{bytes_eq-Decides}
 use Rattle.camp_call.specs.declared.calls.Call.TheVariants as call
 use Rattle.camp_script.proofs.Holding.{Holds, fails, bind, either, behind}
@@ -24,13 +24,10 @@ name_good n word = either Name (is_name word) _ _ (λ h. record { value = h }) (
 path_good : (n : ℕ) (word : List ℕ) → Holds Path (path_at n word)
 path_good n word = either Path (is_path word) _ _ (λ h. record { value = h }) (λ _. fails)
 
-some_line : (v : ℕ) → is_between 1 1_073_741_823 v ≡ true → 1 ≤ v
-some_line v h = grind (arith, nat_tests)
-
 number_good : (n : ℕ) (word : List ℕ) → Holds Place (number_at n word)
 number_good n word =
     either Place (is_line_number word) _ _
-    (λ h. record { value = some_line (value_of word) ((and_parts (list_all (is_between 48 57) word) _ ((and_parts (is_between 1 10 (length word)) _ h).1)).1) }) (λ _. fails)
+    (λ h. let inside = (and_parts (list_all (is_between 48 57) word) _ ((and_parts (is_between 1 10 (length word)) _ h).1)).1 in record { value = grind (arith, nat_tests) }) (λ _. fails)
 
 names_good : (n : ℕ) (words : List (List ℕ)) → Holds (Names (length words)) (names_at n words)
 names_good n [] = record { value = (refl, tt) }
@@ -75,10 +72,11 @@ pub record Fits (words : List (List ℕ)) (asked : Command) : Type 0 where
   pub sections : begins_with (codes "client") words ≡ is_section asked
   pub can : CanBeAsked asked
 
--- where a word is known, what holds of lines that begin with the known one holds of its line
-module _ {A : Type 0} (P : List (List ℕ) → A → Type 0) where
-  known : (word : List ℕ) (this : List ℕ) (words : List (List ℕ)) (r : Result A LineFault) → bytes_eq word this ≡ true → Holds (P (this ∷ words)) r → Holds (P (word ∷ words)) r
-  known word this words r is h = subst (λ w. Holds (P (w ∷ words)) r) (sym ((bytes_eq-Decides word this).0 is)) h
+-- where a word is a known one, what holds of lines that begin with the known one holds of its line
+by_word : {A : Type 0} (P : List (List ℕ) → A → Type 0) (word this : List ℕ) (words : List (List ℕ)) (x y : Result A LineFault) → Holds (P (this ∷ words)) x → Holds (P (word ∷ words)) y
+    → Holds (P (word ∷ words)) (cond (bytes_eq word this) x y)
+by_word P word this words x y known other =
+    either (P (word ∷ words)) (bytes_eq word this) x y (λ is. subst (λ w. Holds (P (w ∷ words)) x) (sym ((bytes_eq-Decides word this).0 is)) known) (λ _. other)
 
 -- a word that begins with `#` is no other word
 no_comment : (word other : List ℕ) → (slice_index word 0 == 35) ≡ true → (slice_index other 0 == 35) ≡ false → bytes_eq word other ≡ false
@@ -96,9 +94,6 @@ module _ (word : List ℕ) (words : List (List ℕ)) (skipped : (slice_index wor
 
   no_group : begins_group (word ∷ words) ≡ false
   no_group = ap (λ b. b && begins_with (codes "group") (drop 3 (word ∷ words))) (no_comment word (codes "record") skipped refl)
-
-  comment_fits : Fits (word ∷ words) Nothing
-  comment_fits = record { edits = no_edit; groups = no_group; sections = no_comment word (codes "client") skipped refl; can = tt }
 
 listed_good : (names : List (List ℕ)) → AreNames names → IsListed (listed names)
 listed_good [] h = tt
@@ -135,13 +130,9 @@ module _ (n : ℕ) where
 
   question_fits : (word : List ℕ) (words : List (List ℕ)) → Holds (Fits (word ∷ words)) (question n word words)
   question_fits word words =
-      either (Fits _) (bytes_eq word (codes "tree")) _ _
-      (λ is. known Fits word (codes "tree") words _ is (asks_fits (codes "tree") words call.Tree (λ branch a. record { edits = refl; groups = refl; sections = refl; can = a })))
-      (λ _. either (Fits _) (bytes_eq word (codes "conflicts")) _ _
-      (λ is. known Fits word (codes "conflicts") words _ is (asks_fits (codes "conflicts") words call.Conflicts (λ branch a. record { edits = refl; groups = refl; sections = refl; can = a })))
-      (λ _. either (Fits _) (bytes_eq word (codes "names")) _ _
-      (λ is. known Fits word (codes "names") words _ is (asks_fits (codes "names") words call.Names (λ branch a. record { edits = refl; groups = refl; sections = refl; can = a })))
-      (λ _. fails)))
+      by_word Fits word (codes "tree") words _ _ (asks_fits (codes "tree") words call.Tree (λ branch a. record { edits = refl; groups = refl; sections = refl; can = a }))
+      (by_word Fits word (codes "conflicts") words _ _ (asks_fits (codes "conflicts") words call.Conflicts (λ branch a. record { edits = refl; groups = refl; sections = refl; can = a }))
+      (by_word Fits word (codes "names") words _ _ (asks_fits (codes "names") words call.Names (λ branch a. record { edits = refl; groups = refl; sections = refl; can = a })) fails))
 
   -- the branch and the name of a record
   named_fits : (P : Command → Type 0) (branch name : List ℕ) (next : List ℕ → List ℕ → Result Command LineFault) → ((branch name : List ℕ) → Name branch → Name name → Holds P (next branch name))
@@ -167,19 +158,14 @@ module _ (n : ℕ) where
 
   record_fits : (branch name change : List ℕ) (words : List (List ℕ)) → Holds (FitsRecord branch name (change ∷ words)) (record_of n branch name change words)
   record_fits branch name change words =
-      either (FitsRecord branch name (change ∷ words)) (bytes_eq change (codes "add")) _ _
-      (λ is. known (FitsRecord branch name) change (codes "add") words _ is (behind (FitsRecord branch name (codes "add" ∷ words)) (one_word n words) _ (λ path.
-      whole_fits (codes "record" ∷ branch ∷ name ∷ codes "add" ∷ words) Add (λ path c. c) branch name path (λ asked a. record { edits = refl; groups = refl; sections = refl; can = a }))))
-      (λ _. either (FitsRecord branch name (change ∷ words)) (bytes_eq change (codes "remove")) _ _
-      (λ is. known (FitsRecord branch name) change (codes "remove") words _ is (behind (FitsRecord branch name (codes "remove" ∷ words)) (one_word n words) _ (λ path.
-      whole_fits (codes "record" ∷ branch ∷ name ∷ codes "remove" ∷ words) Remove (λ path c. c) branch name path (λ asked a. record { edits = refl; groups = refl; sections = refl; can = a }))))
-      (λ _. either (FitsRecord branch name (change ∷ words)) (bytes_eq change (codes "edit")) _ _
-      (λ is. known (FitsRecord branch name) change (codes "edit") words _ is (behind (FitsRecord branch name (codes "edit" ∷ words)) (two_words n words) _ (λ pair.
-      edit_fits (codes "record" ∷ branch ∷ name ∷ codes "edit" ∷ words) branch name pair.0 pair.1 (λ branch name path place a. record { edits = refl; groups = refl; sections = refl; can = a }))))
-      (λ _. either (FitsRecord branch name (change ∷ words)) (bytes_eq change (codes "group")) _ _
-      (λ is. known (FitsRecord branch name) change (codes "group") words _ is (behind (FitsRecord branch name (codes "group" ∷ words)) (no_words n words) _ (λ none.
-      named_fits (FitsRecord branch name (codes "group" ∷ words)) branch name _ (λ branch name a b. record { value = record { edits = refl; groups = refl; sections = refl; can = (a, b) } }))))
-      (λ _. fails))))
+      by_word (FitsRecord branch name) change (codes "add") words _ _ (behind (FitsRecord branch name (codes "add" ∷ words)) (one_word n words) _ (λ path.
+      whole_fits (codes "record" ∷ branch ∷ name ∷ codes "add" ∷ words) Add (λ path c. c) branch name path (λ asked a. record { edits = refl; groups = refl; sections = refl; can = a })))
+      (by_word (FitsRecord branch name) change (codes "remove") words _ _ (behind (FitsRecord branch name (codes "remove" ∷ words)) (one_word n words) _ (λ path.
+      whole_fits (codes "record" ∷ branch ∷ name ∷ codes "remove" ∷ words) Remove (λ path c. c) branch name path (λ asked a. record { edits = refl; groups = refl; sections = refl; can = a })))
+      (by_word (FitsRecord branch name) change (codes "edit") words _ _ (behind (FitsRecord branch name (codes "edit" ∷ words)) (two_words n words) _ (λ pair.
+      edit_fits (codes "record" ∷ branch ∷ name ∷ codes "edit" ∷ words) branch name pair.0 pair.1 (λ branch name path place a. record { edits = refl; groups = refl; sections = refl; can = a })))
+      (by_word (FitsRecord branch name) change (codes "group") words _ _ (behind (FitsRecord branch name (codes "group" ∷ words)) (no_words n words) _ (λ none.
+      named_fits (FitsRecord branch name (codes "group" ∷ words)) branch name _ (λ branch name a b. record { value = record { edits = refl; groups = refl; sections = refl; can = (a, b) } }))) fails)))
 
   record_line_fits : (words : List (List ℕ)) → Holds (Fits (codes "record" ∷ words)) (record_line n words)
   record_line_fits [] = fails
@@ -189,17 +175,16 @@ module _ (n : ℕ) where
 
   command_fits : (word : List ℕ) (words : List (List ℕ)) → Holds (Fits (word ∷ words)) (command n word words)
   command_fits word words =
-      either (Fits _) (bytes_eq word (codes "pull")) _ _ (λ is. known Fits word (codes "pull") words _ is (pull_fits words))
-      (λ _. either (Fits _) (bytes_eq word (codes "obliterate")) _ _ (λ is. known Fits word (codes "obliterate") words _ is (obliterate_fits words))
-      (λ _. either (Fits _) (bytes_eq word (codes "branch")) _ _ (λ is. known Fits word (codes "branch") words _ is (branch_fits words))
-      (λ _. either (Fits _) (bytes_eq word (codes "record")) _ _ (λ is. known Fits word (codes "record") words _ is (record_line_fits words))
-      (λ _. either (Fits _) (bytes_eq word (codes "client")) _ _ (λ is. known Fits word (codes "client") words _ is (client_fits words))
-      (λ _. question_fits word words)))))
+      by_word Fits word (codes "pull") words _ _ (pull_fits words)
+      (by_word Fits word (codes "obliterate") words _ _ (obliterate_fits words)
+      (by_word Fits word (codes "branch") words _ _ (branch_fits words)
+      (by_word Fits word (codes "record") words _ _ (record_line_fits words)
+      (by_word Fits word (codes "client") words _ _ (client_fits words) (question_fits word words)))))
 
   pub fits : (words : List (List ℕ)) → Holds (Fits words) (command_of n words)
   fits [] = record { value = record { edits = refl; groups = refl; sections = refl; can = tt } }
   fits (word ∷ words) =
-      either (Fits (word ∷ words)) (slice_index word 0 == 35) _ _ (λ skipped. record { value = comment_fits word words skipped }) (λ _. command_fits word words)
+      either (Fits (word ∷ words)) (slice_index word 0 == 35) _ _ (λ skipped. record { value = record { edits = no_edit word words skipped; groups = no_group word words skipped; sections = no_comment word (codes "client") skipped refl; can = tt } }) (λ _. command_fits word words)
 
 -- ---- in a group
 
@@ -236,18 +221,13 @@ module _ (n count : ℕ) where
 
   change_fits : (word : List ℕ) (words : List (List ℕ)) → Holds (FitsGroup count (word ∷ words)) (change_of n count word words)
   change_fits word words =
-      either (FitsGroup count _) (bytes_eq word (codes "add")) _ _
-      (λ is. known (FitsGroup count) word (codes "add") words _ is (behind (FitsGroup count (codes "add" ∷ words)) (one_word n words) _ (λ path.
-      whole_change_fits (codes "add" ∷ words) Add (λ path c. c) path (λ change a. record { edits = refl; ends = refl; can = a }))))
-      (λ _. either (FitsGroup count _) (bytes_eq word (codes "remove")) _ _
-      (λ is. known (FitsGroup count) word (codes "remove") words _ is (behind (FitsGroup count (codes "remove" ∷ words)) (one_word n words) _ (λ path.
-      whole_change_fits (codes "remove" ∷ words) Remove (λ path c. c) path (λ change a. record { edits = refl; ends = refl; can = a }))))
-      (λ _. either (FitsGroup count _) (bytes_eq word (codes "edit")) _ _
-      (λ is. known (FitsGroup count) word (codes "edit") words _ is (behind (FitsGroup count (codes "edit" ∷ words)) (two_words n words) _ (λ pair.
-      edit_change_fits (codes "edit" ∷ words) pair.0 pair.1 (λ path place a. record { edits = refl; ends = refl; can = a }))))
-      (λ _. either (FitsGroup count _) (bytes_eq word (codes "done")) _ _
-      (λ is. known (FitsGroup count) word (codes "done") words _ is (behind (FitsGroup count (codes "done" ∷ words)) (no_words n words) _ (λ none. record { value = record { edits = refl; ends = refl; can = tt } })))
-      (λ _. fails))))
+      by_word (FitsGroup count) word (codes "add") words _ _ (behind (FitsGroup count (codes "add" ∷ words)) (one_word n words) _ (λ path.
+      whole_change_fits (codes "add" ∷ words) Add (λ path c. c) path (λ change a. record { edits = refl; ends = refl; can = a })))
+      (by_word (FitsGroup count) word (codes "remove") words _ _ (behind (FitsGroup count (codes "remove" ∷ words)) (one_word n words) _ (λ path.
+      whole_change_fits (codes "remove" ∷ words) Remove (λ path c. c) path (λ change a. record { edits = refl; ends = refl; can = a })))
+      (by_word (FitsGroup count) word (codes "edit") words _ _ (behind (FitsGroup count (codes "edit" ∷ words)) (two_words n words) _ (λ pair.
+      edit_change_fits (codes "edit" ∷ words) pair.0 pair.1 (λ path place a. record { edits = refl; ends = refl; can = a })))
+      (by_word (FitsGroup count) word (codes "done") words _ _ (behind (FitsGroup count (codes "done" ∷ words)) (no_words n words) _ (λ none. record { value = record { edits = refl; ends = refl; can = tt } })) fails)))
 
   pub fits_group : (words : List (List ℕ)) → Holds (FitsGroup count words) (group_line_of n count words)
   fits_group [] = record { value = record { edits = refl; ends = refl; can = tt } }

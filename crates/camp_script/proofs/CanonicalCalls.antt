@@ -1,9 +1,10 @@
 -- The canonical text of sections, read back call by call.
-use Rattle.camp_script.proofs.Common.{◌≡◌, ℕ, ◌+◌, ◌^◌, ◌<◌, ◌≤◌, true, false, not, ◌&&◌, ◌==◌, nat_lt, nat_le, cond, List, [], ◌∷◌, ◌++◌, length, codes, count_by, slice_index, sym, ap, subst, ◌∙◌, refl, append_assoc, append-nil, None, Some, Option, Result, Ok, arith, length-append, cond-true, cond-false, false≢true, and_parts, nat_tests, flat_map-cons, sum_by-append, sum_by-cons, list_all, flat_map, AllByRecursion, decimal, Primitive, Add, Remove, Hunk, is_writing, Call, ◌>>=◌, name_at, names_at, path_at, number_at, is_line_number, GroupLine, WholeChange, EditChange, EndGroup, group_line_of, Command, Ask, BeginEdit, BeginGroup, BeginSection, command_of, lines_of, is_full, read_from, obey, heed, after_body, LineFault, line_text, signed_line, Progress, OpenRecord, after_call, after_change, record_at, with_open_edit, Lines, is_name, is_path, is_line, is_name_byte, is_graphic, listed_words, Edit, IsInRange}
+use Rattle.camp_script.proofs.Common.{◌≡◌, ℕ, ◌+◌, ◌^◌, ◌<◌, ◌≤◌, Bool, true, false, not, ◌&&◌, ◌==◌, nat_lt, nat_le, cond, List, [], ◌∷◌, ◌++◌, length, codes, count_by, slice_index, sym, ap, subst, ◌∙◌, refl, append_assoc, append-nil, None, Some, Option, Result, Ok, arith, length-append, cond-true, cond-false, false≢true, and_parts, nat_tests, flat_map-cons, sum_by-append, sum_by-cons, list_all, flat_map, AllByRecursion, decimal, Primitive, Hunk, is_writing, Call, ◌>>=◌, name_at, names_at, path_at, number_at, is_line_number, call_words, GroupLine, WholeChange, EditChange, EndGroup, group_line_of, Command, Ask, BeginEdit, BeginGroup, BeginSection, command_of, lines_of, is_full, read_from, obey, heed, after_body, LineFault, line_text, signed_line, Progress, OpenRecord, after_change, record_at, with_open_edit, Lines, is_name, is_path, is_line, is_name_byte, is_graphic, listed_words, Edit, IsInRange}
 use Rattle.camp_base.specs.declared.TheConstants.{MAX_NAME_LENGTH, MAX_PATH_LENGTH}
 use Rattle.camp_call.specs.declared.calls.Call.TheVariants as call
-use Rattle.camp_script.specs.Canonical.{ReadsBack, IsScriptCall, IsChange, AreNames, IsListed, change_head, change_body, change_text, record_text, call_text, section_text, client_text, script_text}
-use Rattle.camp_script.proofs.CanonicalLines.{both, all_weaker, is_word, is_word_byte, is_one_line, AreWords, first_line, first_words, words_of-joined, positive}
+use Rattle.camp_prim.specs.Commuting.{path_of}
+use Rattle.camp_script.specs.Canonical.{ReadsBack, IsScriptCall, IsChange, AreLines, AreNames, IsListed, change_head, change_body, change_text, record_text, call_text, section_text, client_text, script_text}
+use Rattle.camp_script.proofs.CanonicalLines.{both, all_weaker, is_word, is_word_byte, is_one_line, AreWords, first_line, first_words, words_joined}
 use Rattle.camp_script.proofs.Agreement.{reads_as_defined}
 use Rattle.camp_script.proofs.CanonicalNumbers.{decimal_is_word, decimal_is_line_number, value_of-decimal}
 
@@ -36,26 +37,18 @@ same_bytes {n} {p} {q} {rest} bytes written is reads = subst (λ t. Reads n p t 
 passes : {A B E : Type 0} (r : Result A E) (x : A) (next : A → Result B E) → r ≡ Ok x → (r >>= next) ≡ next x
 passes r x next is = ap (λ s. s >>= next) is
 
-name_byte_is_word_byte : (x : ℕ) → is_name_byte x ≡ true → is_word_byte x ≡ true
-name_byte_is_word_byte x h = grind (arith, nat_tests)
-
-graphic_is_word_byte : (x : ℕ) → is_graphic x ≡ true → is_word_byte x ≡ true
-graphic_is_word_byte x h = grind (arith, nat_tests)
-
-some_bytes : (n : ℕ) → not (n == 0) ≡ true → nat_lt 0 n ≡ true
-some_bytes n h = grind (arith, nat_tests)
-
 pub name_is_word : (name : List ℕ) → is_name name ≡ true → is_word name ≡ true
 name_is_word name h =
     let rest = (and_parts (not (length name == 0)) (not (slice_index name 0 == 45) && (nat_le (length name) MAX_NAME_LENGTH && list_all is_name_byte name)) h).1 in
     let bytes = (and_parts (nat_le (length name) MAX_NAME_LENGTH) (list_all is_name_byte name) ((and_parts (not (slice_index name 0 == 45)) _ rest).1)).1 in
-    both (nat_lt 0 (length name)) (list_all is_word_byte name) (some_bytes (length name) ((and_parts (not (length name == 0)) _ h).0)) (all_weaker is_name_byte is_word_byte name_byte_is_word_byte name bytes)
+    let some = (and_parts (not (length name == 0)) _ h).0 in
+    both (nat_lt 0 (length name)) (list_all is_word_byte name) (grind (arith, nat_tests)) (all_weaker is_name_byte is_word_byte (λ x k. grind (arith, nat_tests)) name bytes)
 
 pub path_is_word : (path : List ℕ) → is_path path ≡ true → is_word path ≡ true
 path_is_word [] h = absurd (false≢true h)
 path_is_word (x ∷ path) h =
     let bytes = (and_parts (list_all is_graphic (x ∷ path)) _ ((and_parts (nat_le (length (x ∷ path)) MAX_PATH_LENGTH) _ h).1)).0 in
-    both (nat_lt 0 (length (x ∷ path))) (list_all is_word_byte (x ∷ path)) (positive x path) (all_weaker is_graphic is_word_byte graphic_is_word_byte (x ∷ path) bytes)
+    both (nat_lt 0 (length (x ∷ path))) (list_all is_word_byte (x ∷ path)) (grind (arith, nat_tests)) (all_weaker is_graphic is_word_byte (λ x k. grind (arith, nat_tests)) (x ∷ path) bytes)
 
 named : (n : ℕ) (name : List ℕ) → is_name name ≡ true → name_at n name ≡ Ok name
 named n name h = cond-true (is_name name) _ _ h
@@ -71,24 +64,18 @@ two_named : {A : Type 0} (n : ℕ) (first second : List ℕ) (next : List ℕ �
 two_named n first second next a b = passes (name_at n first) first _ (named n first a) ∙ passes (name_at n second) second (next first) (named n second b)
 
 -- a line of words, outside groups and bodies, by what it asks for
-words_read : (n : ℕ) (closed : List (List Call)) (done : List Call) (word : List ℕ) (words : List (List ℕ)) (rest : List ℕ) (asked : Command) (next : Progress) → AreWords (word ∷ words)
-    → command_of n (word ∷ words) ≡ Ok asked → obey n (after closed done) asked ≡ Ok next → Reads n (after closed done) (line_text (word ∷ words) ++ rest) next rest
-words_read n closed done word words rest asked next are asks is = record {
+words_read : (n : ℕ) (closed : List (List Call)) (done : List Call) (words : List (List ℕ)) (rest : List ℕ) (asked : Command) (next : Progress) → AreWords words
+    → command_of n words ≡ Ok asked → obey n (after closed done) asked ≡ Ok next → Reads n (after closed done) (line_text words ++ rest) next rest
+words_read n closed done words rest asked next are asks is = record {
   line = n + 1;
-  is = ap (read_from n (after closed done)) (first_words (word ∷ words) rest are)
-      ∙ ap (λ (r : Result Command LineFault). (r >>= obey n (after closed done)) >>= λ p. read_from (n + 1) p (lines_of rest)) (ap (command_of n) (words_of-joined word words are) ∙ asks)
+  is = ap (read_from n (after closed done)) (first_words words rest are)
+      ∙ ap (λ (r : Result Command LineFault). (r >>= obey n (after closed done)) >>= λ p. read_from (n + 1) p (lines_of rest)) (ap (command_of n) (words_joined words are) ∙ asks)
       ∙ ap (λ (r : Result Progress LineFault). r >>= λ p. read_from (n + 1) p (lines_of rest)) is;
 }
 
--- a call, where there is room for it if it writes
-follows : (n : ℕ) (closed : List (List Call)) (done : List Call) (new : Call) → (is_writing new ≡ true → is_full done ≡ false) → after_call n (after closed done) new ≡ Ok (after closed (done ++ new ∷ []))
-follows n closed done (call.Branch new from) room = cond-false (is_full done) _ _ (room refl)
-follows n closed done (call.Record branch name changes) room = cond-false (is_full done) _ _ (room refl)
-follows n closed done (call.Pull from to names) room = cond-false (is_full done) _ _ (room refl)
-follows n closed done (call.Obliterate branch names) room = cond-false (is_full done) _ _ (room refl)
-follows n closed done (call.Tree branch) room = refl
-follows n closed done (call.Conflicts branch) room = refl
-follows n closed done (call.Names branch) room = refl
+one_lacks : (a b : Bool) → (a ≡ true → b ≡ false) → (a && b) ≡ false
+one_lacks true b h = h refl
+one_lacks false b h = refl
 
 pub names_are_words : (names : List (List ℕ)) → AreNames names → AreWords names
 names_are_words [] h = tt
@@ -97,11 +84,6 @@ names_are_words (name ∷ names) h = (name_is_word name h.0, names_are_words nam
 names_read : (n : ℕ) (names : List (List ℕ)) → AreNames names → names_at n names ≡ Ok names
 names_read n [] h = refl
 names_read n (name ∷ names) h = passes (name_at n name) name _ (named n name h.0) ∙ passes (names_at n names) names _ (names_read n names h.1)
-
--- the line of a call, by its words
-call_line_read : (n : ℕ) (closed : List (List Call)) (done : List Call) (new : Call) (word : List ℕ) (words : List (List ℕ)) (rest : List ℕ) → AreWords (word ∷ words) → command_of n (word ∷ words) ≡ Ok (Ask new)
-    → (is_writing new ≡ true → is_full done ≡ false) → Reads n (after closed done) (line_text (word ∷ words) ++ rest) (after closed (done ++ new ∷ [])) rest
-call_line_read n closed done new word words rest are asks room = words_read n closed done word words rest (Ask new) _ are asks (follows n closed done new room)
 
 -- what the lines of these calls ask for
 module _ (n : ℕ) where
@@ -118,16 +100,13 @@ pub listed_are_words : (names : Option (List (List ℕ))) → IsListed names →
 listed_are_words None h = tt
 listed_are_words (Some names) h = names_are_words names h.1
 
-abbrev AreLines : Lines → Type 0
-AreLines lines = AllByRecursion (λ line. is_line line ≡ true) lines
-
 -- the first of the lines of a side
 pub next_line : (sign : ℕ) (line : List ℕ) (lines : Lines) (rest : List ℕ) → (sign == 10) ≡ false → is_line line ≡ true → lines_of (flat_map (signed_line sign) (line ∷ lines) ++ rest) ≡ (sign ∷ line) ∷ lines_of (flat_map (signed_line sign) lines ++ rest)
 next_line sign line lines rest signed h =
     ap lines_of (ap (λ t. t ++ rest) (flat_map-cons (signed_line sign) line lines) ∙ append_assoc (signed_line sign line) (flat_map (signed_line sign) lines) rest ∙ append_assoc (sign ∷ line) (10 ∷ []) (flat_map (signed_line sign) lines ++ rest))
     ∙ first_line (sign ∷ line) (flat_map (signed_line sign) lines ++ rest) (both (not (sign == 10)) (is_one_line line) (ap not signed) ((and_parts (nat_le (length line) _) (is_one_line line) h).1))
 
-pub regrouped : (a b c d : List ℕ) → ((a ++ b) ++ c) ++ d ≡ a ++ (b ++ (c ++ d))
+pub regrouped : {A : Type 0} (a b c d : List A) → ((a ++ b) ++ c) ++ d ≡ a ++ (b ++ (c ++ d))
 regrouped a b c d = simp append_assoc
 
 module _ (closed : List (List Call)) (done : List Call) (begun : OpenRecord) (opened : ℕ) where
@@ -184,22 +163,54 @@ place_asks n edit range = numbered n edit.line range.counted (omega (arith, rang
 pub place_is_word : (edit : Edit) → IsInRange edit → is_word (decimal edit.line) ≡ true
 place_is_word edit range = decimal_is_word edit.line (omega (arith, range.within))
 
+-- the words of the first line of a record
+abbrev pub record_words : List ℕ → List ℕ → List Primitive → List (List ℕ)
+record_words branch name (change ∷ []) = codes "record" ∷ branch ∷ name ∷ change_head change
+record_words branch name changes = codes "record" ∷ branch ∷ name ∷ codes "group" ∷ []
+
+-- the words of the first line of a call
+abbrev pub first_words_of : Call → List (List ℕ)
+first_words_of (call.Record branch name changes) = record_words branch name changes
+first_words_of other = call_words other
+
+-- the words of the first line of a call are words
+pub head_are : (change : Primitive) → IsChange change → AreWords (change_head change)
+head_are (Hunk edit) h = (refl, (path_is_word edit.path h.0, (place_is_word edit h.1, tt)))
+head_are change h = (refl, (path_is_word (path_of change) h, tt))
+
+record_are : (branch name : List ℕ) (changes : List Primitive) → is_name branch ≡ true → is_name name ≡ true → AllByRecursion IsChange changes → AreWords (record_words branch name changes)
+record_are branch name (change ∷ []) b m h = (refl, (name_is_word branch b, (name_is_word name m, head_are change h.0)))
+record_are branch name changes b m h = (refl, (name_is_word branch b, (name_is_word name m, (refl, tt))))
+
+pub words_are : (c : Call) → IsScriptCall c → AreWords (first_words_of c)
+words_are (call.Branch new from) h = (refl, (name_is_word new h.0, (name_is_word from h.1, tt)))
+words_are (call.Record branch name changes) h = record_are branch name changes h.0 h.1 h.3
+words_are (call.Pull from to names) h = (refl, (name_is_word from h.0, (name_is_word to h.1, listed_are_words names h.2)))
+words_are (call.Obliterate branch names) h = (refl, (name_is_word branch h.0, names_are_words names h.2))
+words_are (call.Tree branch) h = (refl, (name_is_word branch h, tt))
+words_are (call.Conflicts branch) h = (refl, (name_is_word branch h, tt))
+words_are (call.Names branch) h = (refl, (name_is_word branch h, tt))
+
+-- a call on a line of its own, where there is room for it if it writes
+call_line_read : (n : ℕ) (closed : List (List Call)) (done : List Call) (new : Call) (rest : List ℕ) → IsScriptCall new → command_of n (first_words_of new) ≡ Ok (Ask new)
+    → (is_writing new ≡ true → is_full done ≡ false) → Reads n (after closed done) (line_text (first_words_of new) ++ rest) (after closed (done ++ new ∷ [])) rest
+call_line_read n closed done new rest can asks room =
+    words_read n closed done (first_words_of new) rest (Ask new) _ (words_are new can) asks
+    (cond-false (is_writing new && is_full done) _ _ (one_lacks (is_writing new) (is_full done) room))
+
 -- a record of one change: its line, and the body behind it
 alone_read : (n : ℕ) (closed : List (List Call)) (done : List Call) (branch name : List ℕ) (change : Primitive) (rest : List ℕ) → is_name branch ≡ true → is_name name ≡ true → IsChange change → is_full done ≡ false
     → Reads n (after closed done) (line_text (codes "record" ∷ branch ∷ name ∷ change_head change) ++ (change_body change ++ rest)) (after closed (done ++ call.Record branch name (change ∷ []) ∷ [])) rest
-alone_read n closed done branch name (Add path) rest b m h room =
-    call_line_read n closed done (call.Record branch name (Add path ∷ [])) (codes "record") (branch ∷ name ∷ codes "add" ∷ path ∷ []) rest (refl, (name_is_word branch b, (name_is_word name m, (refl, (path_is_word path h, tt)))))
-    (two_named n branch name _ b m ∙ passes (path_at n path) path _ (placed n path h)) (λ _. room)
-alone_read n closed done branch name (Remove path) rest b m h room =
-    call_line_read n closed done (call.Record branch name (Remove path ∷ [])) (codes "record") (branch ∷ name ∷ codes "remove" ∷ path ∷ []) rest (refl, (name_is_word branch b, (name_is_word name m, (refl, (path_is_word path h, tt)))))
-    (two_named n branch name _ b m ∙ passes (path_at n path) path _ (placed n path h)) (λ _. room)
 alone_read n closed done branch name (Hunk edit) rest b m h room =
     let (p, range, old, new) = h in
-    then (words_read n closed done (codes "record") (branch ∷ name ∷ codes "edit" ∷ edit.path ∷ decimal edit.line ∷ []) (change_body (Hunk edit) ++ rest) (BeginEdit branch name edit.path edit.line) _
-    (refl, (name_is_word branch b, (name_is_word name m, (refl, (path_is_word edit.path p, (place_is_word edit range, tt))))))
+    then (words_read n closed done (record_words branch name (Hunk edit ∷ [])) (change_body (Hunk edit) ++ rest) (BeginEdit branch name edit.path edit.line) _
+    (record_are branch name (Hunk edit ∷ []) b m (h, tt))
     (two_named n branch name _ b m ∙ passes (path_at n edit.path) edit.path _ (placed n edit.path p) ∙ passes (number_at n (decimal edit.line)) edit.line _ (place_asks n edit range))
     (cond-false (is_full done) _ _ room)) (λ k.
     body_read closed done (record_at n branch name false) n k edit rest (after closed (done ++ call.Record branch name (Hunk edit ∷ []) ∷ [])) range old new (λ l. refl))
+alone_read n closed done branch name change rest b m h room =
+    call_line_read n closed done (call.Record branch name (change ∷ [])) rest (b, m, (omega arith, omega arith), (h, tt))
+    (two_named n branch name _ b m ∙ passes (path_at n (path_of change)) (path_of change) _ (placed n (path_of change) h)) (λ _. room)
 
 has_room : (changes : List Primitive) → length changes < 64 → nat_le 64 (length changes) ≡ false
 has_room changes few = grind (arith, nat_tests)
@@ -209,32 +220,29 @@ module _ (closed : List (List Call)) (done : List Call) (branch name : List ℕ)
   in_group changes = within closed done (group branch name opened changes)
 
   -- a line of words in a group, by what it says
-  group_words_read : (n : ℕ) (changes : List Primitive) (word : List ℕ) (words : List (List ℕ)) (rest : List ℕ) (said : GroupLine) (next : Progress) → AreWords (word ∷ words)
-      → group_line_of n (length changes) (word ∷ words) ≡ Ok said → heed n (in_group changes) (group branch name opened changes) said ≡ Ok next → Reads n (in_group changes) (line_text (word ∷ words) ++ rest) next rest
-  group_words_read n changes word words rest said next are says is = record {
+  group_words_read : (n : ℕ) (changes : List Primitive) (words : List (List ℕ)) (rest : List ℕ) (said : GroupLine) (next : Progress) → AreWords words
+      → group_line_of n (length changes) words ≡ Ok said → heed n (in_group changes) (group branch name opened changes) said ≡ Ok next → Reads n (in_group changes) (line_text words ++ rest) next rest
+  group_words_read n changes words rest said next are says is = record {
     line = n + 1;
-    is = ap (read_from n (in_group changes)) (first_words (word ∷ words) rest are)
+    is = ap (read_from n (in_group changes)) (first_words words rest are)
         ∙ ap (λ (r : Result GroupLine LineFault). (r >>= heed n (in_group changes) (group branch name opened changes)) >>= λ p. read_from (n + 1) p (lines_of rest))
-        (ap (group_line_of n (length changes)) (words_of-joined word words are) ∙ says)
+        (ap (group_line_of n (length changes)) (words_joined words are) ∙ says)
         ∙ ap (λ (r : Result Progress LineFault). r >>= λ p. read_from (n + 1) p (lines_of rest)) is;
   }
 
   -- a change of a group: its line, and the body behind it
   change_read : (n : ℕ) (changes : List Primitive) (change : Primitive) (rest : List ℕ) → length changes < 64 → IsChange change
       → Reads n (in_group changes) (line_text (change_head change) ++ (change_body change ++ rest)) (in_group (changes ++ change ∷ [])) rest
-  change_read n changes (Add path) rest few h =
-      group_words_read n changes (codes "add") (path ∷ []) rest (WholeChange (Add path)) _ (refl, (path_is_word path h, tt))
-      (cond-false (nat_le 64 (length changes)) _ _ (has_room changes few) ∙ passes (path_at n path) path _ (placed n path h)) refl
-  change_read n changes (Remove path) rest few h =
-      group_words_read n changes (codes "remove") (path ∷ []) rest (WholeChange (Remove path)) _ (refl, (path_is_word path h, tt))
-      (cond-false (nat_le 64 (length changes)) _ _ (has_room changes few) ∙ passes (path_at n path) path _ (placed n path h)) refl
   change_read n changes (Hunk edit) rest few h =
       let (p, range, old, new) = h in
-      then (group_words_read n changes (codes "edit") (edit.path ∷ decimal edit.line ∷ []) (change_body (Hunk edit) ++ rest) (EditChange edit.path edit.line) _
-      (refl, (path_is_word edit.path p, (place_is_word edit range, tt)))
+      then (group_words_read n changes (change_head (Hunk edit)) (change_body (Hunk edit) ++ rest) (EditChange edit.path edit.line) _
+      (head_are (Hunk edit) h)
       (cond-false (nat_le 64 (length changes)) _ _ (has_room changes few) ∙ passes (path_at n edit.path) edit.path _ (placed n edit.path p)
       ∙ passes (number_at n (decimal edit.line)) edit.line _ (place_asks n edit range)) refl) (λ k.
       body_read closed done (group branch name opened changes) n k edit rest (in_group (changes ++ Hunk edit ∷ [])) range old new (λ l. refl))
+  change_read n changes change rest few h =
+      group_words_read n changes (change_head change) rest (WholeChange change) _ (head_are change h)
+      (cond-false (nat_le 64 (length changes)) _ _ (has_room changes few) ∙ passes (path_at n (path_of change)) (path_of change) _ (placed n (path_of change) h)) refl
 
   -- the changes of a group
   changes_read : (n : ℕ) (before changes : List Primitive) (rest : List ℕ) → length before + length changes ≤ 64 → AllByRecursion IsChange changes
@@ -256,10 +264,10 @@ group_read n closed done branch name changes rest b m some few h room =
     let text = flat_map change_text changes in
     let end = line_text (codes "done" ∷ []) in
     same_bytes (((first ++ text) ++ end) ++ rest) (first ++ (text ++ (end ++ rest))) (regrouped first text end rest)
-    (then (words_read n closed done (codes "record") (branch ∷ name ∷ codes "group" ∷ []) (text ++ (end ++ rest)) (BeginGroup branch name) _
+    (then (words_read n closed done (codes "record" ∷ branch ∷ name ∷ codes "group" ∷ []) (text ++ (end ++ rest)) (BeginGroup branch name) _
     (refl, (name_is_word branch b, (name_is_word name m, (refl, tt)))) (two_named n branch name _ b m) (cond-false (is_full done) _ _ room)) (λ k.
     then (changes_read closed done branch name n k [] changes (end ++ rest) (omega arith) h) (λ l.
-    group_words_read closed done branch name n l changes (codes "done") [] rest EndGroup (after closed (done ++ call.Record branch name changes ∷ [])) (refl, tt) refl (cond-false (length changes == 0) _ _ (grind (arith, nat_tests))))))
+    group_words_read closed done branch name n l changes (codes "done" ∷ []) rest EndGroup (after closed (done ++ call.Record branch name changes ∷ [])) (refl, tt) refl (cond-false (length changes == 0) _ _ (grind (arith, nat_tests))))))
 
 record_read : (n : ℕ) (closed : List (List Call)) (done : List Call) (branch name : List ℕ) (changes : List Primitive) (rest : List ℕ) → is_name branch ≡ true → is_name name ≡ true → 1 ≤ length changes → length changes ≤ 64 → AllByRecursion IsChange changes → is_full done ≡ false
     → Reads n (after closed done) (record_text branch name changes ++ rest) (after closed (done ++ call.Record branch name changes ∷ [])) rest
@@ -269,19 +277,13 @@ record_read n closed done branch name (change ∷ []) rest b m some few h room =
 record_read n closed done branch name (change ∷ next ∷ changes) rest b m some few h room = group_read n closed done branch name (change ∷ next ∷ changes) rest b m some few h room
 
 call_read : (n : ℕ) (closed : List (List Call)) (done : List Call) (new : Call) (rest : List ℕ) → IsScriptCall new → (is_writing new ≡ true → is_full done ≡ false) → Reads n (after closed done) (call_text new ++ rest) (after closed (done ++ new ∷ [])) rest
-call_read n closed done (call.Branch new from) rest h room =
-    call_line_read n closed done (call.Branch new from) (codes "branch") (new ∷ from ∷ []) rest (refl, (name_is_word new h.0, (name_is_word from h.1, tt))) (two_named n new from _ h.0 h.1) room
+call_read n closed done (call.Branch new from) rest h room = call_line_read n closed done (call.Branch new from) rest h (two_named n new from _ h.0 h.1) room
 call_read n closed done (call.Record branch name changes) rest h room = record_read n closed done branch name changes rest h.0 h.1 h.2.0 h.2.1 h.3 (room refl)
-call_read n closed done (call.Pull from to names) rest h room =
-    call_line_read n closed done (call.Pull from to names) (codes "pull") (from ∷ to ∷ listed_words names) rest (refl, (name_is_word from h.0, (name_is_word to h.1, listed_are_words names h.2))) (pull_asks n from to names h.0 h.1 h.2) room
-call_read n closed done (call.Obliterate branch names) rest h room =
-    call_line_read n closed done (call.Obliterate branch names) (codes "obliterate") (branch ∷ names) rest (refl, (name_is_word branch h.0, names_are_words names h.2)) (obliterate_asks n branch names h.0 h.1 h.2) room
-call_read n closed done (call.Tree branch) rest h room =
-    call_line_read n closed done (call.Tree branch) (codes "tree") (branch ∷ []) rest (refl, (name_is_word branch h, tt)) (passes (name_at n branch) branch _ (named n branch h)) room
-call_read n closed done (call.Conflicts branch) rest h room =
-    call_line_read n closed done (call.Conflicts branch) (codes "conflicts") (branch ∷ []) rest (refl, (name_is_word branch h, tt)) (passes (name_at n branch) branch _ (named n branch h)) room
-call_read n closed done (call.Names branch) rest h room =
-    call_line_read n closed done (call.Names branch) (codes "names") (branch ∷ []) rest (refl, (name_is_word branch h, tt)) (passes (name_at n branch) branch _ (named n branch h)) room
+call_read n closed done (call.Pull from to names) rest h room = call_line_read n closed done (call.Pull from to names) rest h (pull_asks n from to names h.0 h.1 h.2) room
+call_read n closed done (call.Obliterate branch names) rest h room = call_line_read n closed done (call.Obliterate branch names) rest h (obliterate_asks n branch names h.0 h.1 h.2) room
+call_read n closed done (call.Tree branch) rest h room = call_line_read n closed done (call.Tree branch) rest h (passes (name_at n branch) branch _ (named n branch h)) room
+call_read n closed done (call.Conflicts branch) rest h room = call_line_read n closed done (call.Conflicts branch) rest h (passes (name_at n branch) branch _ (named n branch h)) room
+call_read n closed done (call.Names branch) rest h room = call_line_read n closed done (call.Names branch) rest h (passes (name_at n branch) branch _ (named n branch h)) room
 
 -- where more calls follow that write, and all are within the limit, there is room
 room_for : (done : List Call) (new : Call) (calls : List Call) → count_by is_writing (done ++ new ∷ calls) ≤ 65_536 → is_writing new ≡ true → is_full done ≡ false
@@ -304,15 +306,12 @@ section_read n closed done (new ∷ calls) rest h few =
 abbrev AreFew : List (List Call) → Type 0
 AreFew sections = AllByRecursion (λ section. count_by is_writing section ≤ 65_536) sections
 
-may_begin : (closed : List (List Call)) → length closed < 63 → nat_le 63 (length closed) ≡ false
-may_begin closed few = grind (arith, nat_tests)
-
 clients_read : (n : ℕ) (closed : List (List Call)) (done : List Call) (clients : List (List Call)) → AllByRecursion (AllByRecursion IsScriptCall) clients → AreFew clients → length closed + length clients ≤ 63
     → read_from n (after closed done) (lines_of (flat_map client_text clients)) ≡ Ok (closed ++ done ∷ clients)
 clients_read n closed done [] h writes few = refl
 clients_read n closed done (calls ∷ clients) h writes few =
     let rest = flat_map client_text clients in
-    let begins = words_read n closed done (codes "client") [] (section_text calls ++ rest) BeginSection (after (closed ++ done ∷ []) []) (refl, tt) refl (cond-false (nat_le 63 (length closed)) _ _ (may_begin closed (omega arith))) in
+    let begins = words_read n closed done (codes "client" ∷ []) (section_text calls ++ rest) BeginSection (after (closed ++ done ∷ []) []) (refl, tt) refl (cond-false (nat_le 63 (length closed)) _ _ (grind (arith, nat_tests))) in
     let reads = section_read begins.line (closed ++ done ∷ []) [] calls rest h.0 writes.0 in
     let long : length (closed ++ done ∷ []) ≡ length closed + 1 = length-append closed (done ∷ []) in
     ap (λ t. read_from n (after closed done) (lines_of t)) (flat_map-cons client_text calls clients ∙ append_assoc (line_text (codes "client" ∷ [])) (section_text calls) rest)

@@ -13,11 +13,8 @@ value_on n digits = fold (λ value digit. value * 10 + (digit - 48)) n digits
 own : IsNumeralModel (λ ds. are_digits ds ≡ true) (value_on 0)
 own = numerals_by_fold _ (search rules) value_on (search rules)
 
-digit_is_word_byte : (x : ℕ) → is_between 48 57 x ≡ true → is_word_byte x ≡ true
-digit_is_word_byte x h = grind (arith, nat_tests)
-
 pub decimal_is_word : (n : ℕ) → n < 2 ^ 64 → is_word (decimal n) ≡ true
-decimal_is_word n small = both (nat_lt 0 (length (decimal n))) (list_all is_word_byte (decimal n)) (let some = decimal_nonempty n small in grind (arith, nat_tests)) (all_weaker (is_between 48 57) is_word_byte digit_is_word_byte (decimal n) (digits_decimal own n small))
+decimal_is_word n small = both (nat_lt 0 (length (decimal n))) (list_all is_word_byte (decimal n)) (let some = decimal_nonempty n small in grind (arith, nat_tests)) (all_weaker (is_between 48 57) is_word_byte (λ x h. grind (arith, nat_tests)) (decimal n) (digits_decimal own n small))
 
 pub value_of-decimal : (n : ℕ) → n < 2 ^ 64 → value_of (decimal n) ≡ n
 value_of-decimal n small = digits_value-decimal own n small

@@ -1,5 +1,5 @@
 -- What a first line takes with it, line by line.
-use Rattle.camp_script.proofs.Common.{◌≡◌, ℕ, ◌+◌, ◌≤◌, ◌&&◌, Bool, true, false, not, cond, List, [], ◌∷◌, ◌++◌, length, map, codes, refl, sym, ap, subst, ◌∙◌, append_assoc, append-nil, arith, false≢true, Option, None, Some, Result, Ok, Err, bytes_eq, flat_map, is_writing, Call, Command, Nothing, Ask, BeginEdit, BeginGroup, BeginSection, command_of, words_of, NumberedLine, numbered, up_to, begins_with, begins_edit, begins_group, ends_body, ends_group, Progress, start, obey, after_line, read_from, LineFault, ScriptFault, Line, Memory, IsFaultFirst, IsFaultOf, finished, script_of_lines, ◌>>=◌}
+use Rattle.camp_script.proofs.Common.{◌≡◌, ℕ, ◌+◌, ◌≤◌, ◌&&◌, Bool, true, false, not, cond, List, [], ◌∷◌, ◌++◌, length, map, codes, refl, sym, ap, subst, ◌∙◌, append_assoc, append-nil, arith, ⊎_elim, cases_Bool, false≢true, Option, None, Some, Result, Ok, Err, bytes_eq, flat_map, is_writing, Call, Command, Nothing, Ask, BeginEdit, BeginGroup, command_of, words_of, NumberedLine, numbered, up_to, begins_with, begins_edit, begins_group, ends_body, ends_group, Progress, start, obey, after_line, read_from, LineFault, ScriptFault, Line, Memory, IsFaultFirst, IsFaultOf, finished, script_of_lines, ◌>>=◌}
 use Rattle.std.specs.Option.{is_some}
 use Rattle.camp_script.specs.Gives.{Gives, GivesFaultFirst}
 use Rattle.std.proofs.lemmas.Slice.Eq.{bytes_eq-Decides}
@@ -37,15 +37,13 @@ body_wanted n (bytes ∷ lines) =
 -- ---- groups
 
 -- a line that begins an edit does not end a group
-module _ (word : List ℕ) (words : List (List ℕ)) where
-  done_alone : (b : Bool) → bytes_eq word (codes "done") ≡ b → begins_edit (word ∷ words) ≡ true → b ≡ false
-  done_alone false is edit = refl
-  done_alone true is edit =
-      absurd (false≢true (ap (λ w. begins_edit (w ∷ words)) (sym ((bytes_eq-Decides word (codes "done")).0 is)) ∙ edit))
-
 goes_on : (words : List (List ℕ)) → begins_edit words ≡ true → begins_with (codes "done") words ≡ false
 goes_on [] edit = refl
-goes_on (word ∷ words) edit = done_alone word words (bytes_eq word (codes "done")) refl edit
+goes_on (word ∷ words) edit =
+    ⊎_elim
+    (λ is. absurd (false≢true (ap (λ w. begins_edit (w ∷ words)) (sym ((bytes_eq-Decides word (codes "done")).0 is)) ∙ edit)))
+    (λ other. other)
+    (cases_Bool (bytes_eq word (codes "done")))
 
 -- the lines of a group are those that are wanted, in a body of it too
 record Agree (n : ℕ) (lines : List (List ℕ)) : Type 0 where
@@ -98,10 +96,7 @@ wanted_by other = want.Nothing
 taken_wanted : (r : Result Command LineFault) (lines : List (List ℕ)) → bytes_of (taken_by r (numbered 2 lines)) ≡ wanted_lines (wanted_by r) lines
 taken_wanted (Ok (BeginEdit branch name path place)) lines = body_wanted 2 lines
 taken_wanted (Ok (BeginGroup branch name)) lines = (agree 2 lines).beyond
-taken_wanted (Ok Nothing) lines = sym (nothing_wanted lines)
-taken_wanted (Ok (Ask new)) lines = sym (nothing_wanted lines)
-taken_wanted (Ok BeginSection) lines = sym (nothing_wanted lines)
-taken_wanted (Err fault) lines = sym (nothing_wanted lines)
+taken_wanted other lines = sym (nothing_wanted lines)
 
 -- what a first line takes is what is wanted by what it asks for
 pub takes_wanted : (first : List ℕ) (lines : List (List ℕ)) → taken first lines ≡ wanted_lines (wanted_by (command_of 1 (words_of first))) lines
@@ -113,10 +108,7 @@ wanted_words words = cond (begins_edit words) want.Body (cond (begins_group word
 
 by_asked : (asked : Command) → wanted_by (Ok asked) ≡ cond (is_edit asked) want.Body (cond (is_group asked) want.Group want.Nothing)
 by_asked Nothing = refl
-by_asked (Ask new) = refl
-by_asked (BeginEdit branch name path place) = refl
-by_asked (BeginGroup branch name) = refl
-by_asked BeginSection = refl
+by_asked other = refl
 
 by_words : (words : List (List ℕ)) (rest : List (List ℕ)) (script : List (List Call)) (r : Result Command LineFault) → Holds (Fits words) r
     → ((r >>= obey 1 start) >>= λ next. read_from 2 next rest) ≡ Ok script → wanted_by r ≡ wanted_words words
@@ -153,23 +145,15 @@ with_room false fault one other is = cc
 
 -- a first line without a fault opens what it takes
 opened_by : (r : Result Command LineFault) (next : Progress) → (r >>= obey 1 start) ≡ Ok next → wanted_in next.open_record ≡ wanted_by r
-opened_by (Ok Nothing) next is = ap (λ p. wanted_in p.open_record) (sym (same_next (obey 1 start Nothing) _ next refl is))
 opened_by (Ok (Ask new)) next is = ap (λ p. wanted_in p.open_record) (sym (with_room (is_writing new && false) _ _ next is))
-opened_by (Ok (BeginEdit branch name path place)) next is =
-    ap (λ p. wanted_in p.open_record) (sym (same_next (obey 1 start (BeginEdit branch name path place)) _ next refl is))
-opened_by (Ok (BeginGroup branch name)) next is =
-    ap (λ p. wanted_in p.open_record) (sym (same_next (obey 1 start (BeginGroup branch name)) _ next refl is))
-opened_by (Ok BeginSection) next is = ap (λ p. wanted_in p.open_record) (sym (same_next (obey 1 start BeginSection) _ next refl is))
+opened_by (Ok asked) next is = ap (λ p. wanted_in p.open_record) (sym (same_next (obey 1 start asked) _ next refl is))
 opened_by (Err fault) next is = cc
 
 -- a first line with a fault takes nothing
 alone_by : (r : Result Command LineFault) (fault : LineFault) → (r >>= obey 1 start) ≡ Err fault → want.Nothing ≡ wanted_by r
-alone_by (Ok Nothing) fault is = refl
-alone_by (Ok (Ask new)) fault is = refl
 alone_by (Ok (BeginEdit branch name path place)) fault is = cc
 alone_by (Ok (BeginGroup branch name)) fault is = cc
-alone_by (Ok BeginSection) fault is = refl
-alone_by (Err other) fault is = refl
+alone_by other fault is = refl
 
 -- a first line is read
 module _ (first : List ℕ) (others : List (List ℕ)) where

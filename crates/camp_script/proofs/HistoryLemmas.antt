@@ -1,11 +1,10 @@
 -- Texts of histories that grow word by word and call by call.
-use Rattle.camp_script.proofs.Common.{◌≡◌, ℕ, ◌+◌, ◌-◌, ◌<◌, List, [], ◌∷◌, ◌++◌, length, get_or, take, drop, map, refl, sym, ap, subst, ◌∙◌, append_assoc, append-nil, arith, Result, Ok, Err, OnOk, call_words, codes, listed_words, flat_map-append, flat_map-cons, All, flat_map, join_with_byte, Call, entry_text, entries_text, spaced, HasText, line_text, All-tail, HaveTexts, client_answers, clients_answers}
+use Rattle.camp_script.proofs.Common.{◌≡◌, ℕ, ◌+◌, ◌-◌, ◌<◌, List, [], ◌∷◌, ◌++◌, length, get_or, take, drop, map, refl, sym, ap, subst, ◌∙◌, append_assoc, append-nil, arith, Result, Ok, Err, OnOk, call_words, codes, flat_map-append, flat_map-cons, All, flat_map, join_with_byte, Call, spaced, HasText, line_text, All-tail, HaveTexts}
 use Rattle.std.proofs.lemmas.List.{get_or-map, length-map, length-take, take_rest}
 use Rattle.std.specs.Borrow.{Bor}
 use Rattle.camp_object.specs.declared.faults.Fault.{Fault}
 use Rattle.camp_call.specs.declared.replies.Reply.{Reply}
 use Rattle.camp_call.specs.declared.calls.Call.TheVariants as call
-use Rattle.camp_script.specs.HistoryTexts.{changes_words}
 
 pub spaced-map : (words : List (Bor (List ℕ))) → flat_map (λ (word : Bor (List ℕ)). 32 ∷ word.now) words ≡ spaced (map (λ word. word.now) words)
 spaced-map [] = refl
@@ -36,12 +35,7 @@ words_spaced first rest = flat_map-cons (λ (w : List ℕ). 32 ∷ w) first rest
 -- a call has a word
 pub call_spaced : (c : Call) → spaced (call_words c) ≡ 32 ∷ join_with_byte 32 (call_words c)
 call_spaced (call.Branch new from) = words_spaced (codes "branch") (new ∷ from ∷ [])
-call_spaced (call.Record branch name changes) = words_spaced (codes "record") (branch ∷ name ∷ changes_words changes)
-call_spaced (call.Pull from to names) = words_spaced (codes "pull") (from ∷ to ∷ listed_words names)
-call_spaced (call.Obliterate branch names) = words_spaced (codes "obliterate") (branch ∷ names)
-call_spaced (call.Tree branch) = words_spaced (codes "tree") (branch ∷ [])
-call_spaced (call.Conflicts branch) = words_spaced (codes "conflicts") (branch ∷ [])
-call_spaced (call.Names branch) = words_spaced (codes "names") (branch ∷ [])
+call_spaced other = words_spaced (get_or (call_words other) 0 []) (drop 1 (call_words other))
 
 regrouped : (o a w e : List ℕ) → ((o ++ a) ++ w) ++ e ≡ o ++ ((a ++ w) ++ e)
 regrouped o a w e = simp append_assoc
@@ -57,36 +51,20 @@ entry_done old at seat words a b c d first second third last =
     let both = append_assoc a (spaced (seat ∷ [])) (spaced words) ∙ ap (λ t. a ++ t) (sym (flat_map-append (λ (w : List ℕ). 32 ∷ w) (seat ∷ []) words)) in
     line_done old at (seat ∷ words) a c d first (third ∙ ap (λ t. t ++ spaced words) second ∙ both) last
 
--- one more call at the end of a history
-entries_text-append : (at : ℕ) (done : List (ℕ × Call)) (entry : ℕ × Call) → entries_text at (done ++ entry ∷ []) ≡ entries_text at done ++ entry_text (at + length done) entry
-entries_text-append at [] entry = append-nil (entry_text at entry) ∙ ap (λ n. entry_text n entry) (omega arith)
-entries_text-append at (first ∷ done) entry =
-    ap (λ t. entry_text at first ++ t) (entries_text-append (at + 1) done entry)
-    ∙ sym (append_assoc (entry_text at first) (entries_text (at + 1) done) (entry_text (at + 1 + length done) entry))
-    ∙ ap (λ n. (entry_text at first ++ entries_text (at + 1) done) ++ entry_text n entry) (omega arith)
+-- texts of elements one behind the other, each by its number
+module _ {X : Type 0} (xs : List X) (text : ℕ → X → List ℕ) (texts : ℕ → List X → List ℕ) (none : (n : ℕ) → texts n [] ≡ []) (more : (n : ℕ) (x : X) (xs : List X) → texts n (x ∷ xs) ≡ text n x ++ texts (n + 1) xs) where
+  texts-append : (n : ℕ) (done : List X) (x : X) → texts n (done ++ x ∷ []) ≡ texts n done ++ text (n + length done) x
+  texts-append n [] x = rw (more n x [], none (n + 1), none n) (append-nil (text n x) ∙ ap (λ k. text k x) (omega arith))
+  texts-append n (first ∷ done) x =
+      more n first (done ++ x ∷ []) ∙ ap (λ t. text n first ++ t) (texts-append (n + 1) done x)
+      ∙ sym (append_assoc (text n first) (texts (n + 1) done) (text (n + 1 + length done) x))
+      ∙ ap (λ k. (text n first ++ texts (n + 1) done) ++ text k x) (omega arith) ∙ ap (λ t. t ++ text (n + length (first ∷ done)) x) (sym (more n first done))
 
-pub one_more_entry : (old now new : List ℕ) (history : List (ℕ × Call)) (i : ℕ) (entry : ℕ × Call) → now ≡ old ++ entries_text 1 (take i history) → i < length history
-    → take (i + 1) history ≡ take i history ++ entry ∷ [] → new ≡ now ++ entry_text (i + 1) entry → new ≡ old ++ entries_text 1 (take (i + 1) history)
-one_more_entry old now new history i entry so within last is =
-    let long : 1 + length (take i history) ≡ i + 1 = omega (arith, length-take i history) in
-    is ∙ ap (λ t. t ++ entry_text (i + 1) entry) so ∙ append_assoc old (entries_text 1 (take i history)) (entry_text (i + 1) entry)
-    ∙ ap (λ t. old ++ t) (ap (λ n. entries_text 1 (take i history) ++ entry_text n entry) (sym long) ∙ sym (entries_text-append 1 (take i history) entry) ∙ ap (entries_text 1) (sym last))
-
--- one more client behind the others
-clients_answers-append : {S : Type 0} (answers : S → List (Result Reply Fault)) (number : ℕ) (done : List S) (client : S) → clients_answers number (map answers (done ++ client ∷ [])) ≡ clients_answers number (map answers done) ++ client_answers (number + length done) (answers client)
-clients_answers-append answers number [] client = append-nil (client_answers number (answers client)) ∙ ap (λ n. client_answers n (answers client)) (omega arith)
-clients_answers-append answers number (first ∷ done) client =
-    ap (λ t. client_answers number (answers first) ++ t) (clients_answers-append answers (number + 1) done client)
-    ∙ sym (append_assoc (client_answers number (answers first)) (clients_answers (number + 1) (map answers done)) (client_answers (number + 1 + length done) (answers client)))
-    ∙ ap (λ n. (client_answers number (answers first) ++ clients_answers (number + 1) (map answers done)) ++ client_answers n (answers client)) (omega arith)
-
-pub one_more_client : {S : Type 0} (answers : S → List (Result Reply Fault)) (old now new : List ℕ) (clients : List S) (i : ℕ) (client : S) → now ≡ old ++ clients_answers 1 (map answers (take i clients)) → i < length clients
-    → take (i + 1) clients ≡ take i clients ++ client ∷ [] → new ≡ now ++ client_answers (i + 1) (answers client) → new ≡ old ++ clients_answers 1 (map answers (take (i + 1) clients))
-one_more_client answers old now new clients i client so within last is =
-    let long : 1 + length (take i clients) ≡ i + 1 = omega (arith, length-take i clients) in
-    let before = clients_answers 1 (map answers (take i clients)) in
-    is ∙ ap (λ t. t ++ client_answers (i + 1) (answers client)) so ∙ append_assoc old before (client_answers (i + 1) (answers client))
-    ∙ ap (λ t. old ++ t) (ap (λ n. before ++ client_answers n (answers client)) (sym long) ∙ sym (clients_answers-append answers 1 (take i clients) client) ∙ ap (λ cs. clients_answers 1 (map answers cs)) (sym last))
+  pub one_more : (old now new : List ℕ) (i : ℕ) (x : X) → now ≡ old ++ texts 1 (take i xs) → i < length xs → take (i + 1) xs ≡ take i xs ++ x ∷ [] → new ≡ now ++ text (i + 1) x → new ≡ old ++ texts 1 (take (i + 1) xs)
+  one_more old now new i x so within last is =
+      let long : 1 + length (take i xs) ≡ i + 1 = omega (arith, length-take i xs) in
+      is ∙ ap (λ t. t ++ text (i + 1) x) so ∙ append_assoc old (texts 1 (take i xs)) (text (i + 1) x)
+      ∙ ap (λ t. old ++ t) (ap (λ n. texts 1 (take i xs) ++ text n x) (sym long) ∙ sym (texts-append 1 (take i xs) x) ∙ ap (texts 1) (sym last))
 
 -- each answer of one of the sections has a text
 pub section_has_texts : {S : Type 0} (answers : S → List (Result Reply Fault)) (sections : List S) (i : ℕ) (section d : S) → HaveTexts (map answers sections) → i < length sections → section ≡ get_or sections i d

@@ -27,7 +27,7 @@ ended-other byte (next ∷ bytes) other =
     lines-step (byte ∷ rest) (omega arith) ∙ ap (λ n. take n (byte ∷ rest) ∷ ended_lines (drop n (byte ∷ rest))) long
     ∙ ended-more byte rest (sym (lines-step rest (omega arith)))
 
-more-last : (piece : List ℕ) (pieces : List (List ℕ)) → 0 < length pieces → without_empty_last (piece ∷ pieces) ≡ piece ∷ without_empty_last pieces
+pub more-last : (piece : List ℕ) (pieces : List (List ℕ)) → 0 < length pieces → without_empty_last (piece ∷ pieces) ≡ piece ∷ without_empty_last pieces
 more-last [] [] some = absurd (omega arith)
 more-last [] (next ∷ pieces) some = refl
 more-last (byte ∷ piece) pieces some = refl

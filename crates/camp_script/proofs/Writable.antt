@@ -46,15 +46,9 @@ record Good (p : Progress) : Type 0 where
   pub so_far : GoodCalls p
   pub awaited : GoodAwaited p.calls p.open_record
 
--- where a section is not full there is room, and the other way round
+-- where a section is not full there is room
 less_than_full : (n : ℕ) → nat_le 65_536 n ≡ false → n < 65_536
 less_than_full n h = grind (arith, nat_tests)
-
-not_full : (n : ℕ) → n < 65_536 → nat_le 65_536 n ≡ false
-not_full n h = grind (arith, nat_tests)
-
-few_clients : (n : ℕ) → nat_le 63 n ≡ false → n < 63
-few_clients n h = grind (arith, nat_tests)
 
 one_more : (writing : Bool) (n m : ℕ) → (writing && nat_le 65_536 n) ≡ false → n ≤ 65_536 → m ≡ n + cond {A = ℕ} writing 1 0 → m ≤ 65_536
 one_more true n m room few is = omega (arith, less_than_full n room)
@@ -85,7 +79,7 @@ module _ (n : ℕ) (p : Progress) (g : GoodCalls p) where
     so_far = record {
       closed = all_more (AllByRecursion IsScriptCall) p.closed p.calls g.closed g.calls;
       calls = tt;
-      few = omega (arith, length-append p.closed (p.calls ∷ []), few_clients (length p.closed) free);
+      few = let long = length-append p.closed (p.calls ∷ []) in grind (arith, nat_tests);
       writes = all_more IsWithin p.closed p.calls g.writes g.within;
       within = omega arith;
     };
@@ -102,13 +96,12 @@ module _ (n : ℕ) (p : Progress) (g : GoodCalls p) where
       head_good (record_at n branch name true) (λ room. record { branch = h.0; name = h.1; changes = tt; few = omega arith; open_edit = tt; room_left = room })
   obeyed_good o BeginSection h = either Good (nat_le 63 (length p.closed)) _ _ (λ _. fails) (λ free. record { value = next_good free })
 
-  some_change : (changes : List Primitive) → (length changes == 0) ≡ false → 1 ≤ length changes
-  some_change changes h = grind (arith, nat_tests)
-
   record_ends : (begun : OpenRecord) → GoodRecord p.calls begun → Holds Good (after_record n p begun)
   record_ends begun h =
       either Good (length begun.changes == 0) _ _ (λ _. fails)
-      (λ some. record { value = asks (call.Record begun.branch begun.name begun.changes) (h.branch, h.name, (some_change begun.changes some, h.few), h.changes) (not_full (count_by is_writing p.calls) h.room_left) })
+      (λ some.
+      let left = h.room_left in
+      record { value = asks (call.Record begun.branch begun.name begun.changes) (h.branch, h.name, (grind (arith, nat_tests), h.few), h.changes) (grind (arith, nat_tests)) })
 
   changed : (begun : OpenRecord) (change : Primitive) → GoodRecord p.calls begun → length begun.changes < 64 → IsChange change → GoodRecord p.calls (with_one_more begun change)
   changed begun change h few k =

@@ -78,13 +78,10 @@ impl Reading {
 
     // The path of the last change of the call before.
     fn last_path(&self) -> Option<&Path> {
-        let Some(Call::Record { changes, .. }) = self.calls.last() else {
-            return None;
-        };
-        let Some(change) = changes.prims().last() else {
-            return None;
-        };
-        Some(change.path())
+        match self.calls.last()? {
+            Call::Record { changes, .. } => Some(changes.prims().last()?.path()),
+            _ => None,
+        }
     }
 
     /// Reads the line of a number, counted from 1.

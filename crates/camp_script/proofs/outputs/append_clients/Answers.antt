@@ -1,5 +1,5 @@
-use Rattle.camp_script.proofs.Common.{◌<◌, ◌+◌, ap, subst, ◌∙◌, ◌++◌, ◌∷◌, [], sym, take, map, length, arith, take_more, take_all, All, client_answers, clients_answers, HasText}
-use Rattle.camp_script.proofs.HistoryLemmas.{one_more_client, section_has_texts}
+use Rattle.camp_script.proofs.Common.{◌<◌, ◌+◌, refl, ap, subst, ◌∙◌, ◌++◌, ◌∷◌, [], sym, take, map, length, arith, take_more, take_all, All, client_answers, clients_answers, HasText}
+use Rattle.camp_script.proofs.HistoryLemmas.{one_more, section_has_texts}
 use Rattle.camp_script.proofs.outputs.append_clients.Goals as goal
 
 pub loop-answers-preserved : goal.loop-answers-preserved
@@ -7,7 +7,7 @@ loop-answers-preserved c =
     let within : c.loop-answers.answers-index < length c.args.clients.now = omega arith in
     let last = take_more c.args.clients.now c.loop-answers.answers-index c.answers-item.result within ∙ ap (λ x. take c.loop-answers.answers-index c.args.clients.now ++ x ∷ []) (sym c.answers-item.is) in (
       ap (λ n. n + 1) c.loop-answers.invariant.0,
-      one_more_client (λ section. section.items) c.args.text.now.items c.loop-answers.text.items c.append_client.new.text.items c.args.clients.now c.loop-answers.answers-index c.answers-item.result c.loop-answers.invariant.1 within last
+      one_more c.args.clients.now (λ n section. client_answers n section.items) (λ n sections. clients_answers n (map (λ section. section.items) sections)) (λ n. refl) (λ n section sections. refl) c.args.text.now.items c.loop-answers.text.items c.append_client.new.text.items c.loop-answers.answers-index c.answers-item.result c.loop-answers.invariant.1 within last
           (c.in_ok-append_client.ensures ∙ ap (λ n. c.loop-answers.text.items ++ client_answers (n + 1) c.deref.result.now) c.loop-answers.invariant.0
           ∙ ap (λ xs. c.loop-answers.text.items ++ client_answers (c.loop-answers.answers-index + 1) xs) c.deref.ensures.value),
     )

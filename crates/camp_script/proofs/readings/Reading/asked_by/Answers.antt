@@ -1,21 +1,21 @@
 use Rattle.camp_script.proofs.Common.{◌≡◌, true, false, ap, map, ◌∙◌, codes, rules, bytes_eq}
-use Rattle.camp_script.proofs.FirstWords.{pulls, obliterates, short}
+use Rattle.camp_script.proofs.FirstWords.{six_are_enough}
 use Rattle.camp_script.proofs.readings.Reading.asked_by.Goals as goal
 
 pub returns-then-eq : goal.returns-then-eq
 returns-then-eq c =
     let is : bytes_eq c.args.word.now (codes "pull") ≡ true = search rules in
-    pulls c.args.number c.args.self.now c.args.word.now _ c.args.words is c.read_pull.ensures
+    rw is c.read_pull.ensures
 
 pub returns-then-eq-2 : goal.returns-then-eq-2
 returns-then-eq-2 c =
     let other : bytes_eq c.args.word.now (codes "pull") ≡ false = search rules in
     let is : bytes_eq c.args.word.now (codes "obliterate") ≡ true = search rules in
-    obliterates c.args.number c.args.self.now c.args.word.now _ c.args.words other is c.read_obliterate.ensures
+    rw (other, is) c.read_obliterate.ensures
 
 pub returns : goal.returns
 returns c =
     let first = ap (map (λ word. word.now)) c.as_slice-3.ensures.value ∙ c.first_words-words.ensures.exact in
     let other : bytes_eq c.args.word.now (codes "pull") ≡ false = search rules in
     let neither : bytes_eq c.args.word.now (codes "obliterate") ≡ false = search rules in
-    short c.args.number c.args.self.now c.args.word.now _ _ c.args.words first other neither c.read_short_command.ensures
+    rw (other, neither) (rw (first, six_are_enough) at c.read_short_command.ensures)

@@ -1,16 +1,15 @@
-use Rattle.camp_script.proofs.Common.{◌≡◌, true, false, map, codes, rules, bytes_eq}
-use Rattle.camp_script.proofs.FirstWords.{records, questions}
+use Rattle.camp_script.proofs.Common.{◌≡◌, true, false, codes, rules, bytes_eq}
 use Rattle.camp_script.proofs.readings.Reading.read_short_command.Goals as goal
 
 pub returns-then-eq-2 : goal.returns-then-eq-2
 returns-then-eq-2 c =
     let other : bytes_eq c.args.word.now (codes "branch") ≡ false = search rules in
     let is : bytes_eq c.args.word.now (codes "record") ≡ true = search rules in
-    records c.args.number c.args.self.now c.args.word.now _ (map (λ word. word.now) c.args.words.now) other is c.read_record.ensures
+    rw (other, is) c.read_record.ensures
 
 pub returns : goal.returns
 returns c =
     let other : bytes_eq c.args.word.now (codes "branch") ≡ false = search rules in
     let neither : bytes_eq c.args.word.now (codes "record") ≡ false = search rules in
     let none : bytes_eq c.args.word.now (codes "client") ≡ false = search rules in
-    questions c.args.number c.args.self.now c.args.word.now _ (map (λ word. word.now) c.args.words.now) other neither none c.read_question.ensures
+    rw (other, neither, none) c.read_question.ensures
