@@ -4,7 +4,7 @@ ghost use Rattle.camp_script.specs.Gives.{Advances, GivesFaultFirst};
 ghost use Rattle.camp_script.specs.Inside.Files.{change_at};
 ghost use Rattle.camp_script.specs.Lines.{is_skipped, words_of};
 ghost use Rattle.camp_script.specs.Commands as command;
-ghost use Rattle.camp_script.specs.Commands.{branch_line, whole_record, edit_record, group_record, record_line, pull_line, obliterate_line, branch_at, question, short_command, command, command_of, listed};
+ghost use Rattle.camp_script.specs.Commands.{branch_line, whole_record, edit_record, record_line, pull_line, obliterate_line, branch_at, question, short_command, command, command_of, listed};
 ghost use Rattle.camp_script.specs.Inside.Asking.{Asks, IsCounted, command_asked};
 ghost use Rattle.camp_script.specs.Inside.Steps.{obey, obeyed};
 
@@ -194,7 +194,9 @@ impl Reading {
         }
         if change == b"group".as_slice() {
             no_words(number, rest)?;
-            return self.read_group(number, branch, name);
+            let branch = name_at(number, branch)?;
+            let name = name_at(number, name)?;
+            return Ok(Asked::Group { branch, name });
         }
         Err(at_line(number, FaultKind::UnknownCommand))
     }
@@ -242,14 +244,6 @@ impl Reading {
             path: path?,
             line,
         })
-    }
-
-    fn read_group(&self, number: u64, branch: &[u8], name: &[u8]) -> Result<Asked, ScriptFault>
-        ensures { Asks number self.now result (group_record number branch.now name.now) }
-    {
-        let branch = name_at(number, branch)?;
-        let name = name_at(number, name)?;
-        Ok(Asked::Group { branch, name })
     }
 
     fn read_pull(&self, number: u64, mut words: Words<'_>) -> Result<Asked, ScriptFault>
