@@ -26,24 +26,17 @@ impl CommandLines {
         ensures first { IfOk result (λ command. HasRead command line.now []) }
     {
         let mut reading = Reading::new(alloc);
-        match reading.read_line(1, line) {
-            Ok(()) => {
-                let wanted = reading.wanted();
-                Ok(CommandLines {
-                    reading,
-                    number: 1,
-                    fault: None,
-                    wanted,
-                })
-            }
-            Err(ScriptFault::Line(fault)) => Ok(CommandLines {
-                reading,
-                number: 1,
-                fault: Some(ScriptFault::Line(fault)),
-                wanted: Wanted::Nothing,
-            }),
-            Err(ScriptFault::Memory) => Err(AllocError),
-        }
+        let (fault, wanted) = match reading.read_line(1, line) {
+            Ok(()) => (None, reading.wanted()),
+            Err(ScriptFault::Line(fault)) => (Some(ScriptFault::Line(fault)), Wanted::Nothing),
+            Err(ScriptFault::Memory) => return Err(AllocError),
+        };
+        Ok(CommandLines {
+            reading,
+            number: 1,
+            fault,
+            wanted,
+        })
     }
 
     /// Whether it takes one more line.
