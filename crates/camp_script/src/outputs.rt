@@ -2,7 +2,7 @@
 ghost use Rattle.std.specs.Prelude.{◌≡◌, ◌++◌, map, IfOk, OnOk};
 ghost use Rattle.std.specs.List.{All};
 ghost use Rattle.std.specs.Option.{option_map};
-ghost use Rattle.camp_script.specs.Outputs.{HaveTexts, answers_text, client_answers, clients_answers, output_text, sections_text};
+ghost use Rattle.camp_script.specs.Outputs.{HaveTexts, answers_text, clients_answers, output_text, sections_text};
 ghost use Rattle.camp_script.specs.Texts.{HasText};
 
 use crate::histories::append_history;
@@ -57,21 +57,10 @@ fn append_clients(
     let mut number = 0;
     for answers in clients {
         number += 1;
-        append_client(text, number, answers)?;
+        append_count(text, b"client", number)?;
+        append_answers(text, answers)?;
     }
     Ok(())
-}
-
-fn append_client(
-    text: &mut Vec<u8>,
-    number: u64,
-    answers: &[Result<Reply, Fault>],
-) -> Result<(), AllocError>
-    requires { All HasText answers.now }
-    ensures { OnOk result (text.new.items ≡ text.old.items ++ client_answers number answers.now) }
-{
-    append_count(text, b"client", number)?;
-    append_answers(text, answers)
 }
 
 fn append_answers(text: &mut Vec<u8>, answers: &[Result<Reply, Fault>]) -> Result<(), AllocError>
