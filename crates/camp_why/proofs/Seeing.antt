@@ -1,4 +1,4 @@
--- What is told of a line with a fault is to be seen there.
+-- What is told of a line with a fault is to be seen there; and where nothing is told, nothing is to be seen.
 use Rattle.std.specs.List.{list_any}
 use Rattle.std.specs.Prelude.{codes}
 use Rattle.std.proofs.Common.{inl, inr}
@@ -11,11 +11,6 @@ use Rattle.camp_script.specs.declared.faults.FaultKind.TheVariants as kind
 use Rattle.camp_why.specs.Hints.{HasNoForm, HintsAreSeen, IsOfCommand, IsPlain, IsSeen, ShowsNothing, begins, begins_blank, begins_end, begins_inner, begins_quoted, begins_record, begins_signed, begins_zero, command_word, edit_hint, ends_in_return, faulty, first_word, form_hint, has_quote, has_return, has_zero_in_front, hint, is_capital_end, is_cut, is_empty, is_end, is_quote, is_return, is_returned_end, is_strange, is_zero, line_hint, misnamed, number_word, path_word, unsigned_hint, word_hint}
 use Rattle.camp_why.specs.declared.hints.Hint.{Hint}
 use Rattle.camp_why.specs.declared.hints.Hint.TheVariants as seen
-
--- of a hint and another one, by a test
-pick : (P : Hint → Type 0) (test : Bool) (first second : Hint) → (test ≡ true → P first) → (test ≡ false → P second) → P (cond test first second)
-pick P true first second holds fails = holds refl
-pick P false first second holds fails = fails refl
 
 no_sign : (line : List ℕ) → begins (codes "-") line ≡ false → begins (codes "+") line ≡ false → begins_signed line ≡ false
 no_sign line minus plus = (λ j. plus j || minus j)
@@ -36,149 +31,105 @@ capital_end = of_either (list_any is_capital_letter) (codes "END") (codes "End")
 returned_end : (line : List ℕ) → is_returned_end line ≡ true → ends_in_return line ≡ true
 returned_end = of_either ends_in_return (codes "end\r") (codes "\r") refl refl
 
--- in the word that has the fault, or else
-module _ (k : FaultKind) (line : List ℕ) (returns : has_return k line ≡ ends_in_return (faulty k line)) (quotes : has_quote k line ≡ list_any is_quote (faulty k line)) where
-  in_word : (other : Hint) → IsSeen k line other → IsSeen k line (word_hint (faulty k line) other)
-  in_word other else_so =
-      pick (IsSeen k line) (ends_in_return (faulty k line)) seen.CarriageReturn _ (λ e. returns ∙ e) (λ none.
-      pick (IsSeen k line) (list_any is_strange (faulty k line)) seen.Strange _ (λ e. e) (λ none.
-      pick (IsSeen k line) (list_any is_quote (faulty k line)) seen.Quotes _ (λ e. quotes ∙ e) (λ none.
-      pick (IsSeen k line) (list_any is_capital_letter (faulty k line)) seen.Capitals other (λ e. e) (λ none. else_so))))
-
-  in_line : IsOfCommand k → (other : Hint) → IsSeen k line other → IsSeen k line (line_hint line (faulty k line) other)
-  in_line is other else_so =
-      pick (IsSeen k line) (is_cut line) seen.TooLong _ (λ e. e) (λ none.
-      pick (IsSeen k line) (begins_signed (first_word (words_of line))) seen.OfBody _ (λ e. (is, e)) (λ none. in_word other else_so))
-
-module _ (k : FaultKind) (line : List ℕ) where
-  in_form : k ≡ kind.UnknownCommand → IsSeen k line (form_hint line)
-  in_form is =
-      pick (IsSeen k line) (begins_with (codes "client") (words_of line)) seen.OfScript _ (λ e. (is, e)) (λ none.
-      pick (IsSeen k line) (begins_record line) seen.NoChange _ (λ e. (is, e)) (λ none.
-      pick (IsSeen k line) (begins_with (codes "whatif") (words_of line)) seen.NoCall _ (λ e. (is, e)) (λ none.
-      pick (IsSeen k line) (begins_with (codes "help") (words_of line)) seen.NoTopic _ (λ e. (is, e)) (λ none.
-      pick (IsSeen k line) (begins_inner line) seen.OfInner seen.Nothing (λ e. (is, e)) (λ none. tt)))))
-
-  module _ (is : k ≡ kind.BadEdit) (returns : has_return k line ≡ ends_in_return line) (word : faulty k line ≡ line) where
-    unsigned : begins_signed line ≡ false → is_end line ≡ false → is_empty line ≡ false → IsSeen k line (unsigned_hint line)
-    unsigned none_signed no_end some =
-        pick (IsSeen k line) (is_returned_end line) seen.CarriageReturn _ (λ e. returns ∙ returned_end line e) (λ none.
-        pick (IsSeen k line) (is_capital_end line) seen.Capitals seen.NoSign
-        (λ e. ap (list_any is_capital_letter) word ∙ capital_end line e) (λ none. (is, none_signed, no_end, some)))
-
-    in_body : IsSeen k line (edit_hint line)
-    in_body =
-        pick (IsSeen k line) (is_cut line) seen.TooLong _ (λ e. e) (λ none.
-        pick (IsSeen k line) (is_empty line) seen.Empty _ (λ e. (is, e)) (λ some.
-        pick (IsSeen k line) (begins_blank line) seen.Blank _ (λ e. (is, e)) (λ none.
-        pick (IsSeen k line) (is_end line) seen.NoLine _ (λ e. (is, e)) (λ no_end.
-        pick (IsSeen k line) (begins_end line) seen.MoreThanEnd _ (λ e. (is, e)) (λ none.
-        pick (IsSeen k line) (begins (codes "-") line) seen.OldBehindNew _ (λ e. (is, e)) (λ minus.
-        pick (IsSeen k line) (begins (codes "+") line) seen.Nothing _ (λ e. tt) (λ plus. unsigned (no_sign line minus plus) no_end some)))))))
-
-is_so : (kind : FaultKind) (line : List ℕ) → IsSeen kind line (hint kind line)
-is_so kind.UnknownCommand line = in_line kind.UnknownCommand line refl refl (inl refl) (form_hint line) (in_form kind.UnknownCommand line refl)
-is_so kind.BadGroup line = in_line kind.BadGroup line refl refl (inr refl) seen.Nothing tt
-is_so kind.BadName line = in_word kind.BadName line refl refl seen.Nothing tt
-is_so kind.WrongNumberOfWords line =
-    pick (IsSeen kind.WrongNumberOfWords line) (list_any is_return (words_of line)) seen.CarriageReturn _ (λ e. e) (λ none.
-    pick (IsSeen kind.WrongNumberOfWords line) (list_any begins_quoted (words_of line)) seen.Quotes seen.Nothing (λ e. e) (λ none. tt))
-is_so kind.BadPath line =
-    pick (IsSeen kind.BadPath line) (ends_in_return (path_word line)) seen.CarriageReturn _ (λ e. e) (λ none.
-    pick (IsSeen kind.BadPath line) (list_any is_strange (path_word line)) seen.Strange seen.Nothing (λ e. e) (λ none. tt))
-is_so kind.BadNumber line =
-    pick (IsSeen kind.BadNumber line) (is_end line) seen.TooFar _ (λ e. (refl, e)) (λ none.
-    pick (IsSeen kind.BadNumber line) (ends_in_return (number_word line)) seen.CarriageReturn _ (λ e. e) (λ none.
-    pick (IsSeen kind.BadNumber line) (is_zero (number_word line)) seen.Zero _ (λ e. e) (λ none.
-    pick (IsSeen kind.BadNumber line) (has_zero_in_front line) seen.ZeroInFront seen.Nothing
-    (and_parts (begins_with (codes "help") (words_of line)) (begins_zero (number_word line))) (λ none. tt))))
-is_so kind.BadEdit line = in_body kind.BadEdit line refl refl refl
-is_so kind.BadLine line = pick (IsSeen kind.BadLine line) (is_cut line) seen.TooLong seen.Nothing (λ e. e) (λ none. tt)
-is_so other line = tt
-
--- ---- where nothing is told
-
+-- whether nothing is told
 abbrev is_nothing : Hint → Bool
 is_nothing seen.Nothing = true
 is_nothing other = false
 
--- nothing is told by a test, so that this fails, and by what there is else
-passed : (test : Bool) (first second : Hint) → is_nothing first ≡ false → cond test first second ≡ seen.Nothing
-    → (test ≡ false) × (second ≡ seen.Nothing)
-passed true first second some none = absurd (false≢true (sym some ∙ ap is_nothing none))
-passed false first second some none = (refl, none)
+-- what is told is to be seen; and where nothing is, this is so
+record Says (k : FaultKind) (line : List ℕ) (Else : Type 0) (told : Hint) : Type 0 where
+  is_seen : IsSeen k line told
+  else_so : told ≡ seen.Nothing → Else
 
-plain : (word : List ℕ) (other : Hint) → word_hint word other ≡ seen.Nothing → IsPlain word × (other ≡ seen.Nothing)
-plain word other none =
-    let returns = passed (ends_in_return word) seen.CarriageReturn _ refl none in
-    let strange = passed (list_any is_strange word) seen.Strange _ refl returns.1 in
-    let quotes = passed (list_any is_quote word) seen.Quotes _ refl strange.1 in
-    let capitals = passed (list_any is_capital_letter word) seen.Capitals other refl quotes.1 in
-    (record { returns = returns.0; strange = strange.0; quotes = quotes.0; capitals = capitals.0 }, capitals.1)
+module _ (k : FaultKind) (line : List ℕ) {Else : Type 0} where
+  -- by a test
+  tell : (test : Bool) (told other : Hint) → is_nothing told ≡ false → (test ≡ true → IsSeen k line told) → (test ≡ false → Says k line Else other) → Says k line Else (cond test told other)
+  tell true told other some holds fails = record { is_seen = holds refl; else_so = λ none. absurd (false≢true (sym some ∙ ap is_nothing none)) }
+  tell false told other some holds fails = fails refl
 
-plain_line : (line word : List ℕ) (other : Hint) → line_hint line word other ≡ seen.Nothing
-    → (is_cut line ≡ false) × (begins_signed (first_word (words_of line)) ≡ false) × IsPlain word × (other ≡ seen.Nothing)
-plain_line line word other none =
-    let whole = passed (is_cut line) seen.TooLong _ refl none in
-    let signed = passed (begins_signed (first_word (words_of line))) seen.OfBody _ refl whole.1 in
-    let found = plain word other signed.1 in (whole.0, signed.0, found.0, found.1)
+  nothing : Else → Says k line Else seen.Nothing
+  nothing so = record { is_seen = tt; else_so = λ none. so }
 
-no_form : (line : List ℕ) → begins_signed (first_word (words_of line)) ≡ false → form_hint line ≡ seen.Nothing → HasNoForm line
-no_form line unsigned none =
-    let script = passed (begins_with (codes "client") (words_of line)) seen.OfScript _ refl none in
-    let change = passed (begins_record line) seen.NoChange _ refl script.1 in
-    let call = passed (begins_with (codes "whatif") (words_of line)) seen.NoCall _ refl change.1 in
-    let topic = passed (begins_with (codes "help") (words_of line)) seen.NoTopic _ refl call.1 in
-    let inner = passed (begins_inner line) seen.OfInner seen.Nothing refl topic.1 in
-    record {
-      signed = unsigned;
-      of_script = script.0;
-      records = change.0;
-      foresees = call.0;
-      helps = topic.0;
-      inner = inner.0;
-    }
+  module _ (returns : has_return k line ≡ ends_in_return (faulty k line)) (quotes : has_quote k line ≡ list_any is_quote (faulty k line)) where
+    -- in the word that has the fault, or else
+    in_word : (other : Hint) → (IsPlain (faulty k line) → Says k line Else other) → Says k line Else (word_hint (faulty k line) other)
+    in_word other plain =
+        tell (ends_in_return (faulty k line)) seen.CarriageReturn _ refl (λ e. returns ∙ e) (λ no_return.
+        tell (list_any is_strange (faulty k line)) seen.Strange _ refl (λ e. e) (λ none_strange.
+        tell (list_any is_quote (faulty k line)) seen.Quotes _ refl (λ e. quotes ∙ e) (λ no_quote.
+        tell (list_any is_capital_letter (faulty k line)) seen.Capitals other refl (λ e. e) (λ no_capital.
+        plain (record { returns = no_return; strange = none_strange; quotes = no_quote; capitals = no_capital })))))
 
--- of a line without a sign something is told
-tells_some : (returns capitals : Bool) → is_nothing (cond returns seen.CarriageReturn (cond capitals seen.Capitals seen.NoSign)) ≡ false
-tells_some false true = refl
-tells_some returns capitals = refl
+    in_line : IsOfCommand k → (other : Hint)
+        → (is_cut line ≡ false → begins_signed (first_word (words_of line)) ≡ false → IsPlain (faulty k line) → Says k line Else other)
+        → Says k line Else (line_hint line (faulty k line) other)
+    in_line is other plain =
+        tell (is_cut line) seen.TooLong _ refl (λ e. e) (λ whole.
+        tell (begins_signed (first_word (words_of line))) seen.OfBody _ refl (λ e. (is, e)) (λ unsigned.
+        in_word other (plain whole unsigned)))
 
-plus : (test : Bool) (other : Hint) → is_nothing other ≡ false → cond test seen.Nothing other ≡ seen.Nothing → test ≡ true
-plus true other some none = refl
-plus false other some none = absurd (false≢true (sym some ∙ ap is_nothing none))
+module _ (line : List ℕ) where
+  in_form : {Else : Type 0} → begins_signed (first_word (words_of line)) ≡ false → (HasNoForm line → Else)
+      → Says kind.UnknownCommand line Else (form_hint line)
+  in_form unsigned free =
+      tell kind.UnknownCommand line (begins_with (codes "client") (words_of line)) seen.OfScript _ refl (λ e. (refl, e)) (λ script.
+      tell kind.UnknownCommand line (begins_record line) seen.NoChange _ refl (λ e. (refl, e)) (λ change.
+      tell kind.UnknownCommand line (begins_with (codes "whatif") (words_of line)) seen.NoCall _ refl (λ e. (refl, e)) (λ call.
+      tell kind.UnknownCommand line (begins_with (codes "help") (words_of line)) seen.NoTopic _ refl (λ e. (refl, e)) (λ topic.
+      tell kind.UnknownCommand line (begins_inner line) seen.OfInner seen.Nothing refl (λ e. (refl, e)) (λ inner.
+      nothing kind.UnknownCommand line (free (record {
+        signed = unsigned;
+        of_script = script;
+        records = change;
+        foresees = call;
+        helps = topic;
+        inner = inner;
+      })))))))
 
-new_line : (line : List ℕ) → edit_hint line ≡ seen.Nothing → ShowsNothing kind.BadEdit line
-new_line line none =
-    let whole = passed (is_cut line) seen.TooLong _ refl none in
-    let empty = passed (is_empty line) seen.Empty _ refl whole.1 in
-    let blank = passed (begins_blank line) seen.Blank _ refl empty.1 in
-    let end = passed (is_end line) seen.NoLine _ refl blank.1 in
-    let more = passed (begins_end line) seen.MoreThanEnd _ refl end.1 in
-    let old = passed (begins (codes "-") line) seen.OldBehindNew _ refl more.1 in
-    (whole.0, plus (begins (codes "+") line) (unsigned_hint line) (tells_some (is_returned_end line) (is_capital_end line)) old.1)
+  unsigned : {Else : Type 0} → begins_signed line ≡ false → is_end line ≡ false → is_empty line ≡ false
+      → Says kind.BadEdit line Else (unsigned_hint line)
+  unsigned none_signed no_end some =
+      tell kind.BadEdit line (is_returned_end line) seen.CarriageReturn _ refl (returned_end line) (λ none.
+      tell kind.BadEdit line (is_capital_end line) seen.Capitals seen.NoSign refl (capital_end line) (λ none.
+      record { is_seen = (refl, none_signed, no_end, some); else_so = λ none. absurd (false≢true (ap is_nothing none)) }))
 
-shows_nothing : (kind : FaultKind) (line : List ℕ) → hint kind line ≡ seen.Nothing → ShowsNothing kind line
-shows_nothing kind.UnknownCommand line none =
-    let found = plain_line line (command_word line) (form_hint line) none in
-    (found.0, found.2, no_form line found.1 found.3)
-shows_nothing kind.BadGroup line none =
-    let found = plain_line line (first_word (words_of line)) seen.Nothing none in (found.0, found.1, found.2)
-shows_nothing kind.BadName line none = (plain (misnamed (words_of line)) seen.Nothing none).0
-shows_nothing kind.WrongNumberOfWords line none =
-    let returns = passed (list_any is_return (words_of line)) seen.CarriageReturn _ refl none in
-    (returns.0, (passed (list_any begins_quoted (words_of line)) seen.Quotes seen.Nothing refl returns.1).0)
-shows_nothing kind.BadPath line none =
-    let returns = passed (ends_in_return (path_word line)) seen.CarriageReturn _ refl none in
-    (returns.0, (passed (list_any is_strange (path_word line)) seen.Strange seen.Nothing refl returns.1).0)
-shows_nothing kind.BadNumber line none =
-    let end = passed (is_end line) seen.TooFar _ refl none in
-    let returns = passed (ends_in_return (number_word line)) seen.CarriageReturn _ refl end.1 in
-    let zero = passed (is_zero (number_word line)) seen.Zero _ refl returns.1 in
-    (end.0, returns.0, zero.0, (passed (has_zero_in_front line) seen.ZeroInFront seen.Nothing refl zero.1).0)
-shows_nothing kind.BadLine line none = (passed (is_cut line) seen.TooLong seen.Nothing refl none).0
-shows_nothing kind.BadEdit line none = new_line line none
-shows_nothing other line none = tt
+  in_body : Says kind.BadEdit line (ShowsNothing kind.BadEdit line) (edit_hint line)
+  in_body =
+      tell kind.BadEdit line (is_cut line) seen.TooLong _ refl (λ e. e) (λ whole.
+      tell kind.BadEdit line (is_empty line) seen.Empty _ refl (λ e. (refl, e)) (λ some.
+      tell kind.BadEdit line (begins_blank line) seen.Blank _ refl (λ e. (refl, e)) (λ none.
+      tell kind.BadEdit line (is_end line) seen.NoLine _ refl (λ e. (refl, e)) (λ no_end.
+      tell kind.BadEdit line (begins_end line) seen.MoreThanEnd _ refl (λ e. (refl, e)) (λ none.
+      tell kind.BadEdit line (begins (codes "-") line) seen.OldBehindNew _ refl (λ e. (refl, e)) (λ minus.
+      elim (begins (codes "+") line) as (λ b. begins (codes "+") line ≡ b → Says kind.BadEdit line (ShowsNothing kind.BadEdit line) (cond b seen.Nothing (unsigned_hint line))) [
+        | true ↦ λ plus. nothing kind.BadEdit line (whole, plus)
+        | false ↦ λ plus. unsigned (no_sign line minus plus) no_end some
+      ] refl))))))
+
+says : (k : FaultKind) (line : List ℕ) → Says k line (ShowsNothing k line) (hint k line)
+says kind.UnknownCommand line =
+    in_line kind.UnknownCommand line refl refl (inl refl) (form_hint line) (λ whole unsigned plain. in_form line unsigned (λ free. (whole, plain, free)))
+says kind.BadGroup line =
+    in_line kind.BadGroup line refl refl (inr refl) seen.Nothing (λ whole unsigned plain. nothing kind.BadGroup line (whole, unsigned, plain))
+says kind.BadName line = in_word kind.BadName line refl refl seen.Nothing (nothing kind.BadName line)
+says kind.WrongNumberOfWords line =
+    tell kind.WrongNumberOfWords line (list_any is_return (words_of line)) seen.CarriageReturn _ refl (λ e. e) (λ returns.
+    tell kind.WrongNumberOfWords line (list_any begins_quoted (words_of line)) seen.Quotes seen.Nothing refl (λ e. e) (λ quotes.
+    nothing kind.WrongNumberOfWords line (returns, quotes)))
+says kind.BadPath line =
+    tell kind.BadPath line (ends_in_return (path_word line)) seen.CarriageReturn _ refl (λ e. e) (λ returns.
+    tell kind.BadPath line (list_any is_strange (path_word line)) seen.Strange seen.Nothing refl (λ e. e) (λ strange.
+    nothing kind.BadPath line (returns, strange)))
+says kind.BadNumber line =
+    tell kind.BadNumber line (is_end line) seen.TooFar _ refl (λ e. (refl, e)) (λ end.
+    tell kind.BadNumber line (ends_in_return (number_word line)) seen.CarriageReturn _ refl (λ e. e) (λ returns.
+    tell kind.BadNumber line (is_zero (number_word line)) seen.Zero _ refl (λ e. e) (λ zero.
+    tell kind.BadNumber line (has_zero_in_front line) seen.ZeroInFront seen.Nothing refl
+    (and_parts (begins_with (codes "help") (words_of line)) (begins_zero (number_word line))) (λ front.
+    nothing kind.BadNumber line (end, returns, zero, front)))))
+says kind.BadEdit line = in_body line
+says kind.BadLine line = tell kind.BadLine line (is_cut line) seen.TooLong seen.Nothing refl (λ e. e) (nothing kind.BadLine line)
+says other line = nothing other line tt
 
 pub are_seen : HintsAreSeen
-are_seen = record { told = is_so; none = shows_nothing }
+are_seen = record { told = λ k line. (says k line).is_seen; none = λ k line. (says k line).else_so }
