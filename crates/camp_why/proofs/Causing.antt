@@ -59,56 +59,35 @@ long_behind at change changes cause rest =
       long = rest.long;
     }
 
-long_by : (at : ℕ) (hunk : Edit) (changes : List Primitive) (cause : Cause)
-    → (first_long (suc (suc at)) changes ≡ Some cause → LongBehind (suc at) changes cause)
-    → (b : Bool) → has_long_side (Hunk hunk) ≡ b
-    → cause_or (cond b (Some (long_at (suc at) hunk)) None) (first_long (suc (suc at)) changes) ≡ Some cause
-    → LongBehind at (Hunk hunk ∷ changes) cause
-long_by at hunk changes cause behind true is e =
-    let place : suc at ≡ suc (at + 0) = omega arith in
-    record { before = 0; hunk = hunk; is = sym (same_Some _ _ e) ∙ ap (λ n. long_at n hunk) place; found = refl; long = is }
-long_by at hunk changes cause behind false is e = long_behind at (Hunk hunk) changes cause (behind e)
+-- the first long side is one; where there is no first, no side is too long
+abbrev Finds : ℕ → List Primitive → Option Cause → Type 0
+Finds at changes None = list_any has_long_side changes ≡ false
+Finds at changes (Some cause) = LongBehind at changes cause × (list_any has_long_side changes ≡ true)
 
--- the first long side is one
-long_told : (at : ℕ) (changes : List Primitive) (cause : Cause) → first_long (suc at) changes ≡ Some cause → LongBehind at changes cause
-long_told at [] cause e = absurd (none-some cause e)
-long_told at (Add path ∷ changes) cause e = long_behind at (Add path) changes cause (long_told (suc at) changes cause e)
-long_told at (Remove path ∷ changes) cause e = long_behind at (Remove path) changes cause (long_told (suc at) changes cause e)
-long_told at (Hunk hunk ∷ changes) cause e =
-    long_by at hunk changes cause (long_told (suc at) changes cause) (has_long_side (Hunk hunk)) refl e
+-- behind a change whose sides are not
+found_behind : (at : ℕ) (change : Primitive) (changes : List Primitive) (found : Option Cause) → has_long_side change ≡ false → Finds (suc at) changes found
+    → Finds at (change ∷ changes) found
+found_behind at change changes None short none = (λ j. short j || none j)
+found_behind at change changes (Some cause) short (behind, some) = (long_behind at change changes cause behind, (λ j. short j || some j))
 
-module _ (at : ℕ) (hunk : Edit) (changes : List Primitive) where
-  -- by whether the first change has a long side
-  abbrev by_first : Bool → Option Cause
-  by_first b = cause_or (cond b (Some (long_at at hunk)) None) (first_long (suc at) changes)
+finds : (at : ℕ) (changes : List Primitive) → Finds at changes (first_long (suc at) changes)
+finds at [] = refl
+finds at (Add path ∷ changes) = found_behind at (Add path) changes (first_long (suc (suc at)) changes) refl (finds (suc at) changes)
+finds at (Remove path ∷ changes) = found_behind at (Remove path) changes (first_long (suc (suc at)) changes) refl (finds (suc at) changes)
+finds at (Hunk hunk ∷ changes) = by (has_long_side (Hunk hunk)) refl (finds (suc at) changes)
+  where
+    by : (b : Bool) → has_long_side (Hunk hunk) ≡ b → Finds (suc at) changes (first_long (suc (suc at)) changes)
+        → Finds at (Hunk hunk ∷ changes) (cause_or (cond b (Some (long_at (suc at) hunk)) None) (first_long (suc (suc at)) changes))
+    by true is behind =
+        let place : suc at ≡ suc (at + 0) = omega arith in (
+          record { before = 0; hunk = hunk; is = ap (λ n. long_at n hunk) place; found = refl; long = is },
+          ap (λ b. b || list_any has_long_side changes) is,
+        )
+    by false is behind = found_behind at (Hunk hunk) changes (first_long (suc (suc at)) changes) is behind
 
-  there_by : (list_any has_long_side changes ≡ true → (cause : Cause) × (first_long (suc at) changes ≡ Some cause))
-      → (b : Bool) → has_long_side (Hunk hunk) ≡ b → b || list_any has_long_side changes ≡ true
-      → (cause : Cause) × (by_first (has_long_side (Hunk hunk)) ≡ Some cause)
-  there_by behind true is e = (long_at at hunk, ap by_first is)
-  there_by behind false is e =
-      let (cause, first) = behind e in
-      (cause, ap by_first is ∙ first)
-
-  none_by : (list_any has_long_side changes ≡ false → first_long (suc at) changes ≡ None)
-      → (b : Bool) → has_long_side (Hunk hunk) ≡ b → b || list_any has_long_side changes ≡ false
-      → by_first (has_long_side (Hunk hunk)) ≡ None
-  none_by behind true is e = absurd (false≢true (sym e))
-  none_by behind false is e = ap by_first is ∙ behind e
-
--- where some side is too long, there is a first
-long_there : (at : ℕ) (changes : List Primitive) → list_any has_long_side changes ≡ true → (cause : Cause) × (first_long at changes ≡ Some cause)
-long_there at [] e = absurd (false≢true e)
-long_there at (Add path ∷ changes) e = long_there (suc at) changes e
-long_there at (Remove path ∷ changes) e = long_there (suc at) changes e
-long_there at (Hunk hunk ∷ changes) e = there_by at hunk changes (long_there (suc at) changes) (has_long_side (Hunk hunk)) refl e
-
--- where none is, there is no first
-none_long : (at : ℕ) (changes : List Primitive) → list_any has_long_side changes ≡ false → first_long at changes ≡ None
-none_long at [] e = refl
-none_long at (Add path ∷ changes) e = none_long (suc at) changes e
-none_long at (Remove path ∷ changes) e = none_long (suc at) changes e
-none_long at (Hunk hunk ∷ changes) e = none_by at hunk changes (none_long (suc at) changes) (has_long_side (Hunk hunk)) refl e
+none_found : (changes : List Primitive) (found : Option Cause) → Finds 0 changes found → list_any has_long_side changes ≡ false → found ≡ None
+none_found changes None found none = refl
+none_found changes (Some cause) found none = absurd (false≢true (sym none ∙ found.1))
 
 is_sized : (changes : List Primitive) → IsPatchSized changes → not (is_patch_sized changes) ≡ false
 is_sized changes size = (λ j. not (le-leb 1 (length changes) size.0 j && le-leb (length changes) 64 size.1 j))
@@ -142,27 +121,29 @@ module _ (state : Contents) (branch name : List ℕ) (changes : List Primitive) 
   })
 
   is_long : nat_lt most_catches (length catches + length changes) ≡ false → list_any has_long_side changes ≡ true → IsExplained state asked TooLarge
-  is_long few any =
-      let (cause, first) = long_there 1 changes any in
-      let at_first = long_told 0 changes cause first in
-      let place : suc (0 + at_first.before) ≡ suc at_first.before = omega arith in
-      let told : cause_or (first_long 1 changes) (stop_from changes (tree_of catches)) ≡ Some (long_at (suc (0 + at_first.before)) at_first.hunk) =
-      ap (λ o. cause_or o (stop_from changes (tree_of catches))) first ∙ ap Some at_first.is in
-      explains (long_at (suc (0 + at_first.before)) at_first.hunk) (cond-false _ _ _ few ∙ told) (record {
-        catches = catches;
-        changes = changes;
-        in_branch = in_branch;
-        is_long = record {
-          before = at_first.before;
-          numbered = place;
-          hunk = at_first.hunk;
-          is = at_first.found;
-          of_file = refl;
-          counts_old = refl;
-          counts_new = refl;
-          long = at_first.long;
-        };
-      })
+  is_long few any = by_first (first_long 1 changes) refl (finds 0 changes)
+    where
+      by_first : (found : Option Cause) → first_long 1 changes ≡ found → Finds 0 changes found → IsExplained state asked TooLarge
+      by_first None first none = absurd (false≢true (sym none ∙ any))
+      by_first (Some cause) first (at_first, some) =
+          let place : suc (0 + at_first.before) ≡ suc at_first.before = omega arith in
+          let told : cause_or (first_long 1 changes) (stop_from changes (tree_of catches)) ≡ Some (long_at (suc (0 + at_first.before)) at_first.hunk) =
+          ap (λ o. cause_or o (stop_from changes (tree_of catches))) first ∙ ap Some at_first.is in
+          explains (long_at (suc (0 + at_first.before)) at_first.hunk) (cond-false _ _ _ few ∙ told) (record {
+            catches = catches;
+            changes = changes;
+            in_branch = in_branch;
+            is_long = record {
+              before = at_first.before;
+              numbered = place;
+              hunk = at_first.hunk;
+              is = at_first.found;
+              of_file = refl;
+              counts_old = refl;
+              counts_new = refl;
+              long = at_first.long;
+            };
+          })
 
   -- too many changes, or too long sides
   large_by : (full long : Bool) → nat_lt most_catches (length catches + length changes) ≡ full → list_any has_long_side changes ≡ long
@@ -180,7 +161,7 @@ module _ (state : Contents) (branch name : List ℕ) (changes : List Primitive) 
       let (few, others) = or_parts (nat_lt most_catches (length catches + length changes)) _ small in
       let short = (or_parts (list_any has_long_side changes) _ others).0 in
       let told : cause_or (first_long 1 changes) (stop_from changes (tree_of catches)) ≡ Some (Stops with_stop.stop) =
-      (λ j. cause_or (none_long 1 changes short j) (stop_from changes (tree_found catches tree leads j))) ∙ ap stop_cause with_stop.first in
+      (λ j. cause_or (none_found changes (first_long 1 changes) (finds 0 changes) short j) (stop_from changes (tree_found catches tree leads j))) ∙ ap stop_cause with_stop.first in
       explains (Stops with_stop.stop) (cond-false _ _ _ few ∙ told) (record {
         catches = catches;
         changes = changes;
