@@ -196,34 +196,28 @@ module _ (state : Contents) (lawful : IsLawfulState state) (refusal : Refusal) w
       (λ some e3. by_outcome refusal state branch (obliterated catches names) e3
       (λ why is same. ground asked (refusal_of why) same (blocked_ground state asked why (catches, has, is))))))
 
-  of_tree : (branch : List ℕ) → step state (call.Tree branch) ≡ refused refusal → IsGround state (call.Tree branch) refusal
-  of_tree branch e =
-      by_branch refusal (catches_of state.branches branch) branch _ e
-      (λ none same. ground (call.Tree branch) (NoBranch branch) same (refl, none))
-      (λ catches has e1.
-      let by = lawful_branch state lawful branch catches has in
-      not_refused refusal (shown (Some by.tree)) refl (ap shown (sym (tree_found catches by.tree by.leads)) ∙ e1))
-
-  of_conflicts : (branch : List ℕ) → step state (call.Conflicts branch) ≡ refused refusal → IsGround state (call.Conflicts branch) refusal
-  of_conflicts branch e =
-      by_branch refusal (catches_of state.branches branch) branch _ e
-      (λ none same. ground (call.Conflicts branch) (NoBranch branch) same (refl, none))
-      (λ catches has e1. not_refused refusal _ refl e1)
-
-  of_names : (branch : List ℕ) → step state (call.Names branch) ≡ refused refusal → IsGround state (call.Names branch) refusal
-  of_names branch e =
-      by_branch refusal (catches_of state.branches branch) branch _ e
-      (λ none same. ground (call.Names branch) (NoBranch branch) same (refl, none))
-      (λ catches has e1. not_refused refusal _ refl e1)
+  -- a question is refused only where there is no branch
+  of_question : (asked : Call) (branch : List ℕ) (tells : List Catch → Decision)
+      → option_map_or tells (catches_of state.branches branch) (refused (NoBranch branch)) ≡ refused refusal
+      → (catches_of state.branches branch ≡ None → IsGround state asked (NoBranch branch))
+      → ((catches : List Catch) → Has state branch catches → ¬ (tells catches ≡ refused refusal)) → IsGround state asked refusal
+  of_question asked branch tells e lacks never =
+      by_branch refusal (catches_of state.branches branch) branch tells e
+      (λ none same. ground asked (NoBranch branch) same (lacks none)) (λ catches has e1. absurd (never catches has e1))
 
 pub have_grounds : RefusalsHaveGrounds
 have_grounds state (call.Branch new from) refusal lawful is range e = of_branch state lawful refusal new from e
 have_grounds state (call.Record branch name changes) refusal lawful is range e = of_record state lawful refusal branch name changes is range e
 have_grounds state (call.Pull from to names) refusal lawful is range e = of_pull state lawful refusal from to names e
 have_grounds state (call.Obliterate branch names) refusal lawful is range e = of_obliterate state lawful refusal branch names e
-have_grounds state (call.Tree branch) refusal lawful is range e = of_tree state lawful refusal branch e
-have_grounds state (call.Conflicts branch) refusal lawful is range e = of_conflicts state lawful refusal branch e
-have_grounds state (call.Names branch) refusal lawful is range e = of_names state lawful refusal branch e
+have_grounds state (call.Tree branch) refusal lawful is range e =
+    of_question state lawful refusal (call.Tree branch) branch _ e (λ none. (refl, none)) (λ catches has e1.
+    let by = lawful_branch state lawful branch catches has in
+    not_refused refusal (shown (Some by.tree)) refl (ap shown (sym (tree_found catches by.tree by.leads)) ∙ e1))
+have_grounds state (call.Conflicts branch) refusal lawful is range e =
+    of_question state lawful refusal (call.Conflicts branch) branch _ e (λ none. (refl, none)) (λ catches has. not_refused refusal _ refl)
+have_grounds state (call.Names branch) refusal lawful is range e =
+    of_question state lawful refusal (call.Names branch) branch _ e (λ none. (refl, none)) (λ catches has. not_refused refusal _ refl)
 
 -- ---- where a refusal does not say all, its ground is a cause
 
