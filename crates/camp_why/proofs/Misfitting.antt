@@ -1,5 +1,5 @@
 -- Where a change does not apply, and where it does.
-use Rattle.camp_why.proofs.Words.{Bool, true, false, cond, ◌++◌, ◌+◌, ◌-◌, ◌≡◌, ◌≢◌, ◌≤◌, ◌<◌, ◌∙◌, ◌∷◌, ℕ, zero, suc, List, [], Option, Some, None, get, insert, ap, append_assoc, arith, bytes_eq, bytes_eq-Decides, drop, drop-drop, drop_all, false≢true, length, length-append, length-drop, length-take-le, ltb-false, ltb-true, nat_lt, none-some, not, not-false, not-true, refl, same_Some, slice_get, slice_get_past, subst, sym, take, take-append-drop, Files, Lines, SplicesLines, Applies, InRange, Edit, Primitive, Add, Hunk, Remove, IsMisfit, why_not, other_line, Misfit, EndsBefore, FileIsThere, HasLines, NoFile, OtherLine}
+use Rattle.camp_why.proofs.Words.{Bool, true, false, cond, ◌++◌, ◌+◌, ◌-◌, ◌≡◌, ◌≢◌, ◌≤◌, ◌<◌, ◌∙◌, ◌∷◌, ℕ, zero, suc, List, [], Option, Some, None, get, insert, ap, append_assoc, arith, bytes_eq, bytes_eq-Decides, drop, drop-drop, drop_all, drop_at, false≢true, length, length-append, length-drop, length-take-le, ltb-false, ltb-true, nat_lt, none-some, not, not-false, not-true, refl, same_Some, slice_get, slice_get_past, subst, sym, take, take-append-drop, Files, Lines, SplicesLines, Applies, InRange, Edit, Primitive, Add, Hunk, Remove, IsMisfit, why_not, other_line, Misfit, EndsBefore, FileIsThere, HasLines, NoFile, OtherLine}
 use Rattle.camp_why.specs.Misfits.{Edits, StandThere, add_misfit, edit_misfit, ends_before, lacking, lacking_at, misfit_or, remove_misfit}
 
 -- ---- lists from a place on
@@ -209,14 +209,6 @@ none_applies change tree range e = subst (Verdict change tree) e (verdict change
 
 -- ---- where it is one, the change does not apply
 
-get_behind : (front back : Lines) (k p : ℕ) → p ≡ length front + k → slice_get (front ++ back) p ≡ slice_get back k
-get_behind [] back k p e =
-    let same : p ≡ k = omega (arith, e) in
-    ap (slice_get back) same
-get_behind (line ∷ front) back k p e =
-    let same : p ≡ suc (length front + k) = omega (arith, e) in
-    ap (slice_get (line ∷ (front ++ back))) same ∙ get_behind front back k (length front + k) refl
-
 get_in_front : (front back : Lines) (k : ℕ) (line : List ℕ) → slice_get front k ≡ Some line → slice_get (front ++ back) k ≡ Some line
 get_in_front [] back k line is = absurd (none-some line is)
 get_in_front (first ∷ front) back zero line is = is
@@ -236,10 +228,11 @@ module _ (hunk : Edit) (lines other changed : Lines) (same : lines ≡ other) (s
   not_other : (before : ℕ) (stands expected : List ℕ) → slice_get hunk.old before ≡ Some expected
       → slice_get lines (hunk.line - 1 + before) ≡ Some stands → ¬ (stands ≢ expected)
   not_other before stands expected is_expected is_there differs =
-      let place : hunk.line - 1 + before ≡ length splices.before + before = omega (arith, splices.at) in
+      let start : length splices.before ≡ hunk.line - 1 = omega (arith, splices.at) in
+      let behind : drop (hunk.line - 1) lines ≡ hunk.old ++ splices.after =
+      ap (drop (hunk.line - 1)) is ∙ drop_at splices.before (hunk.old ++ splices.after) (hunk.line - 1) start in
       let expects : slice_get lines (hunk.line - 1 + before) ≡ Some expected =
-      ap (λ (ls : Lines). slice_get ls (hunk.line - 1 + before)) is
-      ∙ get_behind splices.before (hunk.old ++ splices.after) before (hunk.line - 1 + before) place
+      sym (get_drop lines (hunk.line - 1) before) ∙ ap (λ (ls : Lines). slice_get ls before) behind
       ∙ get_in_front hunk.old splices.after before expected is_expected in
       differs (same_Some _ _ (sym is_there ∙ expects))
 

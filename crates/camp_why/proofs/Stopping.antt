@@ -193,8 +193,3 @@ module _ (change : Primitive) (tree next : Files) (free : why_not change tree �
   made_so path same result is =
       is ∙ ap (λ (p : List ℕ). long_file (get next p)) same
       ∙ sym (λ j. hindrance_or (free j) (made_long (path_of change) (applied-from_Applies change tree next applies j)))
-
--- a change in range of which no reason is told applies
-pub applies_or_not : (change : Primitive) (tree : Files) → InRange change → why_not change tree ≡ None
-    → ¬ ((next : Files) → ¬ (Applies change tree next))
-applies_or_not change tree range free never = let (next, applies) = none_applies change tree range free in never next applies

@@ -1,12 +1,14 @@
 use Rattle.camp_why.proofs.Words.{applied-from_Applies, sym, ◌∙◌}
-use Rattle.camp_why.proofs.Stopping.{applies_or_not, made_so}
+use Rattle.camp_why.proofs.Misfitting.{none_applies}
+use Rattle.camp_why.proofs.Stopping.{made_so}
 use Rattle.camp_why.proofs.stops.make.Goals as goal
 
 pub unreachable-requires : goal.unreachable-requires
 unreachable-requires c =
     let free = sym c.in_ok-why.ensures.exact ∙ c.in_default.is in
     let never = rw c.in-Err-DoesNotApply.field-0-is at c.in-Err-DoesNotApply.ensures.exact in
-    applies_or_not c.args.change.now c.args.tree.now c.path-path.ensures.in_range free never.0
+    let (next, applies) = none_applies c.args.change.now c.args.tree.now c.path-path.ensures.in_range free in
+    never.0 next applies
 
 pub returns-clause-tells : goal.returns-clause-tells
 returns-clause-tells c =
