@@ -1,7 +1,7 @@
 //! Why a change does not apply to a tree.
 ghost use Rattle.std.specs.Prelude.{◌≡◌, ◌-◌, IfOk, Some, drop};
-ghost use Rattle.camp_prim.specs.declared.primitives.Primitive.TheVariants.{Add, Hunk as AHunk, Remove};
-ghost use Rattle.camp_why.specs.Misfits.{ends_before, lines_misfit, other_line, why_not};
+ghost use Rattle.camp_prim.specs.declared.primitives.Primitive.TheVariants.{Hunk as AHunk, Remove};
+ghost use Rattle.camp_why.specs.Misfits.{ends_before, other_line, why_not};
 
 use camp_base::{Line, Path, Tree};
 use camp_prim::{Hunk, Primitive};
@@ -38,16 +38,10 @@ pub fn why_not(change: &Primitive, tree: &Tree) -> Result<Option<Misfit>, AllocE
     ensures exact { IfOk result (λ found. found ≡ why_not change.now tree.now) }
 {
     match change {
-        Primitive::Add(path) => Ok(add_misfit(path, tree)),
+        Primitive::Add(path) => Ok(tree.file(path).map(|_| Misfit::FileIsThere)),
         Primitive::Remove(path) => Ok(remove_misfit(path, tree)),
         Primitive::Hunk(hunk) => edit_misfit(hunk, tree),
     }
-}
-
-fn add_misfit(path: &Path, tree: &Tree) -> Option<Misfit>
-    ensures { result ≡ why_not (Add path.now) tree.now }
-{
-    tree.file(path).map(|_| Misfit::FileIsThere)
 }
 
 fn remove_misfit(path: &Path, tree: &Tree) -> Option<Misfit>
@@ -68,13 +62,6 @@ fn edit_misfit(hunk: &Hunk, tree: &Tree) -> Result<Option<Misfit>, AllocError>
     let Some(lines) = tree.file(hunk.path()) else {
         return Ok(Some(Misfit::NoFile));
     };
-    lines_misfit(hunk, lines)
-}
-
-// Why an edit does not apply to the lines of a file.
-fn lines_misfit(hunk: &Hunk, lines: &SharedList<Line>) -> Result<Option<Misfit>, AllocError>
-    ensures { IfOk result (λ found. found ≡ lines_misfit hunk.now lines.now) }
-{
     match other_line(hunk, lines)? {
         Some(other) => Ok(Some(other)),
         None => ends_before(hunk, lines.len()),
