@@ -1,6 +1,6 @@
 -- Refusals of calls, and their causes.
 use Rattle.std.specs.List.{list_any}
-use Rattle.camp_why.proofs.Words.{◌&&◌, ◌||◌, ◌+◌, ◌≡◌, ◌∙◌, ◌∷◌, ℕ, suc, Bool, true, false, not, cond, List, [], length, None, Some, Option, ap, arith, false≢true, ltb-true, nat_lt, none-some, refl, same_Some, slice_get, sym, Files, Edit, Primitive, Add, Hunk, Remove}
+use Rattle.camp_why.proofs.Words.{◌&&◌, ◌||◌, ◌+◌, ◌≡◌, ◌∙◌, ◌∷◌, ℕ, suc, Bool, true, false, not, cond, List, [], length, None, Some, Option, ap, arith, false≢true, ltb-true, nat_lt, refl, slice_get, sym, Files, Edit, Primitive, Add, Hunk, Remove}
 use Rattle.std.proofs.lemmas.Bool.{cond-false, cond-true, le-leb, or_parts}
 use Rattle.camp_why.proofs.Stopping.{StopsWith, is_stop}
 use Rattle.camp_branch.specs.Branches.{LeadsTo}

@@ -8,7 +8,7 @@ use Rattle.camp_script.specs.Lines.{words_of}
 use Rattle.camp_script.specs.Pieces.{begins_with}
 use Rattle.camp_script.specs.declared.faults.FaultKind.{FaultKind}
 use Rattle.camp_script.specs.declared.faults.FaultKind.TheVariants as kind
-use Rattle.camp_why.specs.Hints.{HasNoForm, HintsAreSeen, IsOfCommand, IsPlain, IsSeen, ShowsNothing, begins, begins_blank, begins_end, begins_inner, begins_quoted, begins_record, begins_signed, begins_zero, command_word, edit_hint, ends_in_return, faulty, first_word, form_hint, has_quote, has_return, has_zero_in_front, hint, is_capital_end, is_cut, is_empty, is_end, is_quote, is_return, is_returned_end, is_strange, is_zero, line_hint, misnamed, number_word, path_word, unsigned_hint, word_hint}
+use Rattle.camp_why.specs.Hints.{HasNoForm, HintsAreSeen, IsOfCommand, IsPlain, IsSeen, ShowsNothing, begins, begins_blank, begins_end, begins_inner, begins_quoted, begins_record, begins_signed, begins_zero, edit_hint, ends_in_return, faulty, first_word, form_hint, has_quote, has_return, has_zero_in_front, hint, is_capital_end, is_cut, is_empty, is_end, is_quote, is_return, is_returned_end, is_strange, is_zero, line_hint, number_word, path_word, unsigned_hint, word_hint}
 use Rattle.camp_why.specs.declared.hints.Hint.{Hint}
 use Rattle.camp_why.specs.declared.hints.Hint.TheVariants as seen
 

@@ -1,6 +1,6 @@
 -- Words that the proofs of this crate have in common: of the standard library, of definitions, and of crates below.
 pub use Rattle.std.proofs.Common.{◌&&◌, ◌++◌, ◌+◌, ◌-◌, ◌<◌, ◌||◌, ◌∙◌, ◌∷◌, ◌≡◌, ◌≢◌, ◌≤◌, Bool, Err, List, None, Ok, Option, Result, Some, [], ap, append_assoc, arith, bytes_eq, cond, drop, false, length, length-append, nat_le, nat_lt, not, refl, rules, slice_get, subst, suc, sym, take, true, zero, ℕ}
-pub use Rattle.std.proofs.lemmas.Bool.{and_parts, false≢true, le-ltb, ltb-false, ltb-true, not-false, not-true}
+pub use Rattle.std.proofs.lemmas.Bool.{and_parts, false≢true, ltb-false, ltb-true, not-false, not-true}
 pub use Rattle.std.proofs.lemmas.List.{drop-drop, drop_all, drop_at, length-drop, length-take-le, take-append-drop}
 pub use Rattle.std.proofs.lemmas.Option.{none-some, same_Some, slice_get_read, slice_get_past}
 pub use Rattle.std.proofs.lemmas.Slice.Eq.{bytes_eq-Decides}
@@ -15,6 +15,6 @@ pub use Rattle.camp_prim.specs.Hunks.{Edit}
 pub use Rattle.camp_prim.specs.Commuting.{path_of}
 pub use Rattle.camp_prim.specs.declared.primitives.Primitive.{Primitive}
 pub use Rattle.camp_prim.specs.declared.primitives.Primitive.TheVariants.{Add, Hunk, Remove}
-pub use Rattle.camp_why.specs.Misfits.{IsMisfit, MeetsOther, lines_misfit, why_not, other_line}
+pub use Rattle.camp_why.specs.Misfits.{IsMisfit, why_not, other_line}
 pub use Rattle.camp_why.specs.declared.misfits.Misfit.{Misfit}
 pub use Rattle.camp_why.specs.declared.misfits.Misfit.TheVariants.{EndsBefore, FileIsThere, HasLines, NoFile, OtherLine}
