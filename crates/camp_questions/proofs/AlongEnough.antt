@@ -1,46 +1,41 @@
 -- A pull of what comes along is not refused for want of a patch.
-use Rattle.camp_questions.proofs.Words.{and_from, and_parts, ◌≡◌, ℕ, Bool, true, false, not, ◌&&◌, List, [], ◌∷◌, ◌++◌, map, filter, Option, None, Some, Ok, Err, refl, sym, ap, ◌∙◌, inl, inr, subst, Key, Catch, has_patch, is_among, name_of, names_of, among_kept, among_once, Arrange, AreAlike, Contents, catches_of, first_lacked, is_empty, step, AreAmong, ComeToFront, StickOn, MatchOption, filter_image, is_among_is, not_among, MergesBehind, Outcome, PullGives, WantedNext, common_names, NoBranch, NoPatch, NothingToDo, TooLarge, keep_labels, lists_are_unique, lists_succeed_or_stick, KeysPart, keys_of, Decision, becomes, is_full_with, refused, refused_if, wanted, AnswerOf, OfBranch, OfPatches, AlongIsEnough, map-map, catch_key, ◌≢◌, ArrangeSticks, arrange_by_members, in_order, GrowsToFront, Result, IfOk, IsTold, Unanswered}
+use Rattle.camp_questions.proofs.Words.{and_from, and_parts, ◌≡◌, ℕ, Bool, true, false, not, ◌&&◌, List, [], ◌∷◌, ◌++◌, map, filter, None, Some, Ok, Err, refl, sym, ap, ◌∙◌, inl, inr, subst, Key, Catch, has_patch, is_among, name_of, names_of, among_kept, among_once, Arrange, AreAlike, Contents, catches_of, first_lacked, is_empty, step, AreAmong, ComeToFront, StickOn, filter_image, is_among_is, not_among, MergesBehind, Outcome, PullGives, WantedNext, common_names, NoBranch, NoPatch, NothingToDo, TooLarge, keep_labels, lists_are_unique, lists_succeed_or_stick, KeysPart, keys_of, Decision, becomes, is_full_with, refused, refused_if, wanted, AnswerOf, OfBranch, OfPatches, AlongIsEnough, map-map, catch_key, ◌≢◌, ArrangeSticks, arrange_by_members, in_order, GrowsToFront, Result, IfOk, IsTold, Unanswered, Refusal, Has, outcomes_are_determined, StandBehind}
 use Rattle.camp_branch.proofs.Words.{cond-false, cond-true}
-use Rattle.camp_branch.proofs.OutcomesDetermined.{outcomes_are_determined}
 use Rattle.camp_branch.specs.declared.faults.Blocked.TheVariants as blocked
 use Rattle.camp_call.specs.declared.calls.Call.TheVariants as call
-use Rattle.camp_call.specs.declared.replies.Refusal.TheVariants.{Depends}
+use Rattle.camp_call.specs.declared.replies.Refusal.TheVariants.{Depends, Diverged, SameBranch}
 use Rattle.camp_repo.specs.Outcomes.{pulled}
+use Rattle.camp_questions.proofs.Answering.{by_branch, by_patches, no_refusal, same_answer}
 use Rattle.camp_questions.proofs.BranchGrowths.{none_lacked, none_lacked_among, to_front, contains_alike}
 use Rattle.camp_questions.proofs.Growths.{all_done, all_own, in_order_there, names_differ, same_in_order}
 use Rattle.camp_questions.specs.Along.{AlongOr, ComesAlong, OfTwo, HaveDiverged, TellsAlong}
 use Rattle.camp_questions.proofs.Growing.{grown_in_order}
-use Rattle.camp_questions.specs.Inside.Alongside.{StandBehind}
 
-diverged_not : {A : Type 0} (name patch on : List ℕ) (outcome : Outcome) → outcome ≡ Err (blocked.Diverged name) → outcome ≡ Err (blocked.Depends patch on) → A
-diverged_not name patch on outcome e f = cc
+-- an outcome is not that one patch stands on another
+abbrev pub IsFree : Outcome → Type 0
+IsFree (Err (blocked.Depends patch on)) = ⊥
+IsFree other = Unit {0}
 
-no_merge_not : {A : Type 0} (left right patch on : List ℕ) (outcome : Outcome) → outcome ≡ Err (blocked.NoMerge left right) → outcome ≡ Err (blocked.Depends patch on) → A
-no_merge_not left right patch on outcome e f = cc
+-- no outcome behind the common patches is
+merges_freely : (common : List (List ℕ)) (from_common chosen to : List Catch) (outcome : Outcome) → MergesBehind common from_common chosen to outcome → IsFree outcome
+merges_freely common from_common chosen to outcome (inr (stuck, other, sticks, e)) = subst IsFree (sym e) tt
+merges_freely common from_common chosen to outcome (inl (to_common, others, first, inl (align, inl (x, y, merge, e)))) = subst IsFree (sym e) tt
+merges_freely common from_common chosen to outcome (inl (to_common, others, first, inl (align, inr (left, right, sticks, e)))) = subst IsFree (sym e) tt
+merges_freely common from_common chosen to outcome (inl (to_common, others, first, inr (inl (stuck, sticks, e)))) = subst IsFree (sym e) tt
+merges_freely common from_common chosen to outcome (inl (to_common, others, first, inr (inr (aligned, name, align, differs, e)))) = subst IsFree (sym e) tt
 
-comes_not : {A : Type 0} (list : List Catch) (patch on : List ℕ) (outcome : Outcome) → outcome ≡ Ok list → outcome ≡ Err (blocked.Depends patch on) → A
-comes_not list patch on outcome e f = cc
-
--- no outcome behind the common patches is that one patch stands on another
-merges_not_depend : (common : List (List ℕ)) (from_common chosen to : List Catch) (patch on : List ℕ) (outcome : Outcome) → MergesBehind common from_common chosen to outcome → outcome ≡ Err (blocked.Depends patch on) → ⊥
-merges_not_depend common from_common chosen to patch on outcome (inr (stuck, other, sticks, e)) is = diverged_not stuck.name patch on outcome e is
-merges_not_depend common from_common chosen to patch on outcome (inl (to_common, others, first, inl (align, inl (x, y, merge, e)))) is = comes_not (to ++ x) patch on outcome e is
-merges_not_depend common from_common chosen to patch on outcome (inl (to_common, others, first, inl (align, inr (left, right, sticks, e)))) is = no_merge_not left.name right.name patch on outcome e is
-merges_not_depend common from_common chosen to patch on outcome (inl (to_common, others, first, inr (inl (stuck, sticks, e)))) is = diverged_not stuck.name patch on outcome e is
-merges_not_depend common from_common chosen to patch on outcome (inl (to_common, others, first, inr (inr (aligned, name, align, differs, e)))) is = diverged_not name patch on outcome e is
-
-wanted_not_depend : (names common : List (List ℕ)) (from_common list to : List Catch) (patch on : List ℕ) (outcome : Outcome) → ComeToFront list names → WantedNext names list (λ chosen left. MergesBehind common from_common chosen to) outcome → outcome ≡ Err (blocked.Depends patch on) → ⊥
-wanted_not_depend names common from_common list to patch on outcome front (inl (chosen, left, arranged, merges)) is =
-    merges_not_depend common from_common chosen to patch on outcome merges is
-wanted_not_depend names common from_common list to patch on outcome front (inr (stuck, other, sticks, e)) is =
+wanted_freely : (names common : List (List ℕ)) (from_common list to : List Catch) (outcome : Outcome) → ComeToFront list names → WantedNext names list (λ chosen left. MergesBehind common from_common chosen to) outcome → IsFree outcome
+wanted_freely names common from_common list to outcome front (inl (chosen, left, arranged, merges)) =
+    merges_freely common from_common chosen to outcome merges
+wanted_freely names common from_common list to outcome front (inr (stuck, other, sticks, e)) =
     absurd ((lists_succeed_or_stick.arranges names list).1 front (stuck, other, sticks))
 
 -- where names come next behind the common patches, no pull of them is refused since one stands on another
-not_depends : (from to : List Catch) (names : List (List ℕ)) (common behind : List Catch) (patch on : List ℕ) (outcome : Outcome) → Arrange (common_names from to) from common behind → ComeToFront behind names → PullGives from to names outcome → outcome ≡ Err (blocked.Depends patch on) → ⊥
-not_depends from to names common behind patch on outcome arranged front (inl (first, list, also, next)) is =
+pub pulls_freely : (from to : List Catch) (names : List (List ℕ)) (common behind : List Catch) (outcome : Outcome) → Arrange (common_names from to) from common behind → ComeToFront behind names → PullGives from to names outcome → IsFree outcome
+pulls_freely from to names common behind outcome arranged front (inl (first, list, also, next)) =
     let same = lists_are_unique.arranged (common_names from to) from common first behind list arranged also in
-    wanted_not_depend names (common_names from to) first list to patch on outcome (subst (λ l. ComeToFront l names) same.1 front) next is
-not_depends from to names common behind patch on outcome arranged front (inr (stuck, other, sticks, e)) is = diverged_not stuck.name patch on outcome e is
+    wanted_freely names (common_names from to) first list to outcome (subst (λ l. ComeToFront l names) same.1 front) next
+pulls_freely from to names common behind outcome arranged front (inr (stuck, other, sticks, e)) = subst IsFree (sym e) tt
 
 -- what is left behind those that are arranged by names fails their test
 left_by : (names : List (List ℕ)) (keys first rest : List Key) → KeysPart names keys first rest → rest ≡ filter (λ k. not (is_among names k.name)) keys
@@ -98,22 +93,22 @@ module _ (theirs ours : List Catch) (names told : List (List ℕ)) (none : first
       (to_front along.1).done_alike (wanted ours names ++ along.3.0) (wanted ours told) (λ n. sym (told_are n))
       (all_done (map name_of along.1) (ComeToFront along.1) (StickOn along.1) (to_front along.1) (wanted ours names) along.3.0 along.3.1)
 
-  none_left : first_lacked theirs told ≡ None
+  pub none_left : first_lacked theirs told ≡ None
   none_left =
       none_lacked theirs told (λ n there. in_order_there theirs (wanted ours names ++ along.3.0) n (ap (λ l. is_among l n) (sym along.3.2) ∙ there))
 
-  pulls_not_depend : (patch on : List ℕ) → pulled theirs ours (wanted ours told) ≡ Err (blocked.Depends patch on) → ⊥
-  pulls_not_depend patch on =
-      not_depends theirs ours (wanted ours told) along.0 along.1 patch on (pulled theirs ours (wanted ours told)) along.2 come_next (outcomes_are_determined.pulls theirs ours (wanted ours told)).1
+  is_free : IsFree (pulled theirs ours (wanted ours told))
+  is_free =
+      pulls_freely theirs ours (wanted ours told) along.0 along.1 (pulled theirs ours (wanted ours told)) along.2 come_next (outcomes_are_determined.pulls theirs ours (wanted ours told)).1
 
 -- a decision refuses neither for a patch that is not there nor for one that another stands on
 record Goes (decision : Decision) : Type 0 where
   there : (name : List ℕ) → ¬ (decision ≡ refused (NoPatch name))
   free : (patch on : List ℕ) → ¬ (decision ≡ refused (Depends patch on))
 
-becomes_goes : (state : Contents) (to : List ℕ) (outcome : Outcome) → ((patch on : List ℕ) → outcome ≡ Err (blocked.Depends patch on) → ⊥) → Goes (becomes state to outcome)
+becomes_goes : (state : Contents) (to : List ℕ) (outcome : Outcome) → IsFree outcome → Goes (becomes state to outcome)
 becomes_goes state to (Ok list) free = record { there = λ name e. cc; free = λ patch on e. cc }
-becomes_goes state to (Err (blocked.Depends patch on)) free = absurd (free patch on refl)
+becomes_goes state to (Err (blocked.Depends patch on)) free = absurd free
 becomes_goes state to (Err (blocked.Diverged name)) free = record { there = λ n e. cc; free = λ patch on e. cc }
 becomes_goes state to (Err (blocked.NoMerge left right)) free = record { there = λ n e. cc; free = λ patch on e. cc }
 
@@ -125,36 +120,23 @@ none_goes : (b : Bool) (decision : Decision) → Goes decision → Goes (refused
 none_goes true decision goes = record { there = λ name e. cc; free = λ patch on e. cc }
 none_goes false decision goes = goes
 
--- there is a branch of the name, where a question has an answer
-goes_on : {A : Type 0} (o : Option (List Catch)) (branch : List ℕ) (GoesOn : List Catch → AnswerOf A → Type 0) (told : A) → MatchOption o (Ok told ≡ Err (NoBranch branch)) (λ catches. GoesOn catches (Ok told)) → (catches : List Catch) × (o ≡ Some catches) × GoesOn catches (Ok told)
-goes_on None branch GoesOn told w = cc
-goes_on (Some catches) branch GoesOn told w = (catches, refl, w)
-
-has_all : {A : Type 0} (o : Option (List ℕ)) (GoesOn : AnswerOf A → Type 0) (told : A) → MatchOption o (GoesOn (Ok told)) (λ name. Ok told ≡ Err (NoPatch name)) → (o ≡ None) × GoesOn (Ok told)
-has_all None GoesOn told w = (refl, w)
-has_all (Some name) GoesOn told w = cc
-
-same_told : (told other : List (List ℕ)) (answer : AnswerOf (List (List ℕ))) → answer ≡ Ok told → answer ≡ Ok other → other ≡ told
-same_told told other answer e f = cc
-
-goes : (state : Contents) (from to : List ℕ) (names told : List (List ℕ)) (theirs ours : List Catch) → catches_of state.branches from ≡ Some theirs → catches_of state.branches to ≡ Some ours → OfTwo from to (OfPatches theirs names (AlongOr theirs ours names)) (Ok told) → Goes (step state (call.Pull from to (Some told)))
-goes state from to names told theirs ours is_from is_to (inl (same, e)) = cc
-goes state from to names told theirs ours is_from is_to (inr (two, w)) =
-    let v = has_all (first_lacked theirs names) (AlongOr theirs ours names) told w in
-    answered v.1
-  where
-    answered : AlongOr theirs ours names (Ok told) → Goes (step state (call.Pull from to (Some told)))
-    answered (inr (name, e, diverged)) = cc
-    answered (inl (other, e, along)) =
-        let none = (has_all (first_lacked theirs names) (AlongOr theirs ours names) told w).0 in
-        let comes = subst (ComesAlong theirs ours names) (same_told told other (Ok told) refl e) along in
-        rw is_from (rw is_to (rw (names_differ from to two) (rw (none_left theirs ours names told none comes) (none_goes (is_empty (wanted ours told)) _ (full_goes (is_full_with ours theirs (wanted ours told)) _ (becomes_goes state to (pulled theirs ours (wanted ours told)) (pulls_not_depend theirs ours names told none comes)))))))
+goes : (state : Contents) (from to : List ℕ) (names told : List (List ℕ)) (theirs ours : List Catch) → Has state from theirs → Has state to ours → from ≢ to → first_lacked theirs names ≡ None → ComesAlong theirs ours names told → Goes (step state (call.Pull from to (Some told)))
+goes state from to names told theirs ours is_from is_to two none comes =
+    rw is_from (rw is_to (rw (names_differ from to two) (rw (none_left theirs ours names told none comes) (none_goes (is_empty (wanted ours told)) _ (full_goes (is_full_with ours theirs (wanted ours told)) _ (becomes_goes state to (pulled theirs ours (wanted ours told)) (is_free theirs ours names told none comes)))))))
 
 pub along_is_enough : AlongIsEnough
 along_is_enough state from to names told w =
-    let a = goes_on (catches_of state.branches from) from (λ theirs. OfBranch state to (λ ours. OfTwo from to (OfPatches theirs names (AlongOr theirs ours names)))) told w in
-    let b = goes_on (catches_of state.branches to) to (λ ours. OfTwo from to (OfPatches a.0 names (AlongOr a.0 ours names))) told a.2 in
-    let done = goes state from to names told a.0 b.0 a.1 b.1 b.2 in
+    let Between : List Catch → List Catch → AnswerOf (List (List ℕ)) → Type 0 = λ theirs ours. OfTwo from to (OfPatches theirs names (AlongOr theirs ours names)) in
+    let never : (refusal : Refusal) → Ok told ≡ Err refusal → Goes (step state (call.Pull from to (Some told))) = λ refusal e. absurd (no_refusal refusal told (Ok told) e refl) in
+    let done : Goes (step state (call.Pull from to (Some told))) =
+    by_branch state from (λ theirs. OfBranch state to (Between theirs)) (Ok told) w (λ none. never (NoBranch from)) (λ theirs is_from v.
+    by_branch state to (Between theirs) (Ok told) v (λ none. never (NoBranch to)) (λ ours is_to u. elim u [
+      | inl one ↦ never (SameBranch to) one.1
+      | inr two ↦ by_patches theirs names (AlongOr theirs ours names) (Ok told) two.1 (λ name lacks. never (NoPatch name)) (λ none t. elim t [
+        | inl it ↦ goes state from to names told theirs ours is_from is_to two.0 none (subst (ComesAlong theirs ours names) (same_answer (Ok told) it.0 told it.1 refl) it.2)
+        | inr apart ↦ never (Diverged apart.0) apart.1
+      ])
+    ])) in
     (done.there, done.free)
 
 -- ---- what comes along with patches, and why it may not

@@ -1,9 +1,13 @@
 -- Questions, and what is told of them.
-use Rattle.camp_questions.proofs.Words.{Catch, Contents, catches_of, ◌≡◌, ℕ, List, Result, Ok, Err, Some, refl, subst, AnswerOf, IfOk, Tells, IsFound, IsTold, Unanswered, MatchOption, Refusal, NoBranch, NoPatch, OfBranch, OfPatches, TellsOrWants}
+use Rattle.camp_questions.proofs.Words.{Catch, Contents, catches_of, ◌≡◌, ℕ, List, Option, None, first_lacked, Has, Result, Ok, Err, Some, refl, subst, AnswerOf, IfOk, Tells, IsFound, IsTold, Unanswered, MatchOption, Refusal, NoBranch, NoPatch, OfBranch, OfPatches, TellsOrWants}
 
 -- an answer is no refusal
 pub no_refusal : {A : Type 0} (refusal : Refusal) (answer : A) (is : AnswerOf A) → is ≡ Err refusal → is ≡ Ok answer → ⊥
 no_refusal refusal answer is e f = cc
+
+-- and one answer
+pub same_answer : {A : Type 0} (is : AnswerOf A) (one other : A) → is ≡ Ok one → is ≡ Ok other → one ≡ other
+same_answer is one other e f = cc
 
 -- what has to be such is answered
 abbrev pub Such : {A : Type 0} → (A → Type 0) → AnswerOf A → Type 0
@@ -13,6 +17,24 @@ Such {A} Is answer = (told : A) × (answer ≡ Ok told) × Is told
 goes_on : {A : Type 0} (state : Contents) (branch : List ℕ) {catches : List Catch} → catches_of state.branches branch ≡ Some catches → (GoesOn : List Catch → AnswerOf A → Type 0) (answer : AnswerOf A) → OfBranch state branch GoesOn answer → GoesOn catches answer
 goes_on state branch found GoesOn answer w =
     subst (λ o. MatchOption o (answer ≡ Err (NoBranch branch)) (λ c. GoesOn c answer)) found w
+
+-- an answer, by whether there is the branch
+pub by_branch : {A X : Type 0} (state : Contents) (branch : List ℕ) (GoesOn : List Catch → AnswerOf A → Type 0) (answer : AnswerOf A) → OfBranch state branch GoesOn answer
+    → (catches_of state.branches branch ≡ None → answer ≡ Err (NoBranch branch) → X) → ((catches : List Catch) → Has state branch catches → GoesOn catches answer → X) → X
+by_branch {A} {X} state branch GoesOn answer w none there = at (catches_of state.branches branch) refl w
+  where
+    at : (o : Option (List Catch)) → catches_of state.branches branch ≡ o → MatchOption o (answer ≡ Err (NoBranch branch)) (λ catches. GoesOn catches answer) → X
+    at None is e = none is e
+    at (Some catches) is v = there catches is v
+
+-- and by whether the branch has the patches
+pub by_patches : {A X : Type 0} (catches : List Catch) (names : List (List ℕ)) (GoesOn : AnswerOf A → Type 0) (answer : AnswerOf A) → OfPatches catches names GoesOn answer
+    → ((name : List ℕ) → first_lacked catches names ≡ Some name → answer ≡ Err (NoPatch name) → X) → (first_lacked catches names ≡ None → GoesOn answer → X) → X
+by_patches {A} {X} catches names GoesOn answer w lacks all = at (first_lacked catches names) refl w
+  where
+    at : (o : Option (List ℕ)) → first_lacked catches names ≡ o → MatchOption o (GoesOn answer) (λ name. answer ≡ Err (NoPatch name)) → X
+    at None is v = all is v
+    at (Some name) is e = lacks name is e
 
 -- it is told what was made, or that memory ran out: where there is an answer
 module _ {A E : Type 0} (state : Contents) (branch : List ℕ) {catches : List Catch} (found : catches_of state.branches branch ≡ Some catches) where

@@ -1,10 +1,10 @@
 -- The arrows of a graph lead backwards.
 use Rattle.camp_questions.proofs.Words.{◌⊎◌, ◌≡◌, ◌≢◌, ℕ, Bool, true, false, true≢false, ◌||◌, cond, List, [], ◌∷◌, ◌++◌, map, bytes_eq, refl, sym, ap, ◌∙◌, subst, inl, inr, Key, Catch, SticksBehind, is_among, is_among_is, name_of, names_of, same_name, ComeToFront, StickOn, AreAmong, NeedsDirectly, NeedsPatch, Node, ◌↔◌, HasPatches, Patch, IsLawfulBranch, has_patch, among_once, names_of_patches, ArrowsLeadBackwards, StandsBefore, false_from_ne_true, has_image, map-map, node_of}
 use Rattle.camp_questions.proofs.Arrows.{arrows_are_direct_needs}
-use Rattle.camp_questions.proofs.Growths.{all_within, among_cases}
+use Rattle.camp_questions.proofs.Growths.{all_within, alone_among, among_cases}
 use Rattle.camp_questions.proofs.BranchGrowths.{in_order_among}
 use Rattle.camp_questions.proofs.PatchFronts.{AreNotOf, AreOf, StandFirst, ends, stand_first, up_to}
-use Rattle.camp_questions.proofs.ReachedNeeds.{alone_among, fact_of}
+use Rattle.camp_questions.proofs.KeptElements.{fact_of}
 use Rattle.camp_questions.proofs.Stuck.{sticks_between}
 
 module _ (names : List (List ℕ)) where
@@ -76,16 +76,19 @@ earlier_stands (n ∷ names) last name has there different =
     ]
     at false e w v later = next later w (among_cases n (up_to names last) name v)
 
--- what a patch needs stands before it
-pub needs_stand_before : (branch : List Catch) (name other : List ℕ) → IsLawfulBranch branch → has_patch branch name ≡ true → NeedsPatch branch name other → StandsBefore (names_of branch) other name
-needs_stand_before branch name other lawful has needs =
+-- what a patch needs is up to it
+pub needs_up_to : (branch : List Catch) (name other : List ℕ) → IsLawfulBranch branch → is_among (names_of branch) name ≡ true → NeedsPatch branch name other → is_among (up_to (names_of branch) name) other ≡ true
+needs_up_to branch name other lawful there needs =
     let own = names_of branch in
-    let there : is_among own name ≡ true = among_once (map name_of branch) name ∙ has in
     let grown = needs.1.1 in
     let among : AreAmong (name ∷ []) (up_to own name) = alone_among name (up_to own name) (ends own name there) in
-    let within = all_within (ComeToFront branch) (StickOn branch) (up_to own name) (stuck_up_to branch lawful.patches lawful.has name) (name ∷ []) grown.0 among grown.1 in
-    let earlier = within other (in_order_among branch ((name ∷ []) ++ grown.0) other (ap (λ l. is_among l other) (sym grown.2) ∙ needs.1.2)) in
-    earlier_stands own name other there earlier needs.0
+    all_within (ComeToFront branch) (StickOn branch) (up_to own name) (stuck_up_to branch lawful.patches lawful.has name) (name ∷ []) grown.0 among grown.1 other (in_order_among branch ((name ∷ []) ++ grown.0) other (ap (λ l. is_among l other) (sym grown.2) ∙ needs.1.2))
+
+-- and stands before it
+needs_stand_before : (branch : List Catch) (name other : List ℕ) → IsLawfulBranch branch → has_patch branch name ≡ true → NeedsPatch branch name other → StandsBefore (names_of branch) other name
+needs_stand_before branch name other lawful has needs =
+    let there : is_among (names_of branch) name ≡ true = among_once (map name_of branch) name ∙ has in
+    earlier_stands (names_of branch) name other there (needs_up_to branch name other lawful there needs) needs.0
 
 pub arrows_lead_backwards : ArrowsLeadBackwards
 arrows_lead_backwards branch graph lawful is name other arrow =

@@ -1,7 +1,5 @@
 -- Names that grow until they come to the front of a branch, or until they can be taken out of it.
-use Rattle.camp_questions.proofs.Words.{and_parts, not-true, ◌≡◌, ◌≢◌, ℕ, Bool, true, false, true≢false, not, cond, ◌||◌, List, [], ◌∷◌, ◌++◌, map, None, Some, Ok, Err, bytes_eq, refl, sym, ap, ◌∙◌, inl, inr, ◌↔◌, Contains, Key, Catch, has_patch, is_among, name_of, is_among_is, name_itself, or_true, Next, Has, first_lacked, is_empty, step, AreHeldIn, CanGo, ComeToFront, StickOn, other_names, among_others, Contents, after, with_catches, AreAlike, obliterate_alike, AreAmong, HeldCanGo, HeldIsDetermined, NeedsAreDetermined, NeedsComeFirst, arrange_by_members, lists_are_unique, lists_succeed_or_stick, Outcome, subst, ArrangeSticks, names_of, among_kept, in_order, IsPlain, NeedsAreLeast, what_stops_comes_along}
-use Rattle.camp_branch.specs.declared.faults.Blocked.TheVariants.{Depends}
-use Rattle.camp_branch.proofs.OutcomesDetermined.{outcomes_are_determined}
+use Rattle.camp_questions.proofs.Words.{and_parts, not-true, ◌≡◌, ◌≢◌, ℕ, Bool, true, false, true≢false, not, cond, ◌||◌, List, [], ◌∷◌, ◌++◌, map, None, Some, Ok, Err, bytes_eq, refl, sym, ap, ◌∙◌, inl, inr, ◌↔◌, Contains, Key, Catch, has_patch, is_among, name_of, is_among_is, name_itself, or_true, Next, Has, first_lacked, is_empty, step, AreHeldIn, CanGo, ComeToFront, StickOn, other_names, among_others, Contents, after, with_catches, AreAlike, obliterate_alike, AreAmong, HeldCanGo, HeldIsDetermined, NeedsAreDetermined, NeedsComeFirst, arrange_by_members, lists_are_unique, lists_succeed_or_stick, Outcome, subst, ArrangeSticks, names_of, among_kept, in_order, IsPlain, NeedsAreLeast, what_stops_comes_along, outcomes_are_determined, Depends}
 use Rattle.camp_call.specs.declared.calls.Call.TheVariants as call
 use Rattle.camp_questions.proofs.Growths.{Grow, among_cases, grew, grows_to_one, in_order_there, all_within}
 use Rattle.camp_questions.proofs.Stuck.{sticks_between}

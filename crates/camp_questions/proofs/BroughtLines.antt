@@ -1,9 +1,7 @@
 -- Each line of a file was brought by a hunk of the patch whose name it has.
-use Rattle.camp_questions.proofs.Words.{◌≡◌, ℕ, ◌+◌, ◌-◌, ◌==◌, ◌||◌, Bool, true, false, cond, List, [], ◌∷◌, ◌++◌, map, Option, None, Some, length, take, drop, bytes_eq, refl, sym, ap, ◌∙◌, subst, arith, empty, get, get-empty, get-insert, slice_range, splice, nat_cmp, eq_by_cmp, slice_cmp, bytes_eq-Decides, Edit, key_cmp, key_of, key_total, label_of, Key, Named, Primitive, Add, Remove, Hunk, Catch, name_of, name_itself, is_among, Known, behind_all, behind_catches, behind_change, behind_hunk, names_coming, names_of_lines, nothing_known, lines_or_none, annotated, append_assoc, drop_at, length-append, none-some, same_Some, take_at, AllByRecursion, flat_map, Applies, Files, Lines, Splices, FitsAll, effect_of, Contains, catches_named, patch_in, All-contains_itself, All-weaker, recursion_from_All, AllZip, has_image, Plain, SameKey, AppliesAll, own_names, brought_by, ComeAgainAsInverses, EachIsBrought, IsBrought, LinesAreBrought, PutsBack, changes_in, cond_both}
-use Rattle.camp_branch.proofs.ConflictsDetermined.{has_of_each}
-use Rattle.camp_prim.proofs.FilesAtPaths.{get-with_file_other, get-with_file_same}
+use Rattle.camp_questions.proofs.Words.{◌≡◌, ℕ, ◌+◌, ◌-◌, ◌==◌, ◌||◌, Bool, true, false, cond, List, [], ◌∷◌, ◌++◌, map, Option, None, Some, length, take, drop, bytes_eq, refl, sym, ap, ◌∙◌, subst, arith, empty, get, get-empty, get-insert, slice_range, splice, nat_cmp, eq_by_cmp, slice_cmp, bytes_eq-Decides, Edit, key_cmp, key_of, key_total, label_of, Key, Named, Primitive, Add, Remove, Hunk, Catch, name_of, name_itself, is_among, Known, behind_all, behind_catches, behind_change, behind_hunk, names_coming, names_of_lines, nothing_known, lines_or_none, annotated, append_assoc, drop_at, length-append, none-some, same_Some, take_at, AllByRecursion, flat_map, Applies, Files, Lines, Splices, FitsAll, effect_of, Contains, catches_named, patch_in, AllZip, has_image, Plain, SameKey, AppliesAll, own_names, brought_by, ComeAgainAsInverses, EachIsBrought, IsBrought, LinesAreBrought, PutsBack, changes_in, cond_both, has_of_each, get-with_file_other, get-with_file_same}
 use Rattle.camp_questions.proofs.LineNames.{alike, other_path, same_key}
-use Rattle.camp_questions.proofs.KeptElements.{kept_has}
+use Rattle.camp_questions.proofs.KeptElements.{kept_has, of_each}
 use Rattle.camp_questions.proofs.PlainLabels.{inverses_alone, plain_effects}
 use Rattle.camp_questions.proofs.ZippedLines.{own_zipped, zipped_append, zipped_drop, zipped_take}
 use Rattle.camp_questions.specs.declared.annotations.Annotated.TheVariants.{File}
@@ -131,11 +129,6 @@ module _ (R : List ℕ → List ℕ → Type 0) (path : List ℕ) where
     names = subst (λ o. AllZip R [] (lines_or_none o)) (sym (get-empty (slice_cmp nat_cmp) path)) tt;
     taken = λ key gone e. absurd (none-some gone (sym (get-empty key_cmp key) ∙ e));
   }
-
--- what each element of a list has is known of all
-of_each : {X : Type 0} (P : X → Type 0) (xs : List X) → ((x : X) → Contains xs x → P x) → AllByRecursion P xs
-of_each P xs each =
-    recursion_from_All P xs (All-weaker (Contains xs) P each xs (All-contains_itself xs))
 
 -- the changes of a catch are among those that its patch has in the branch
 own_change : (branch : List Catch) (k : Catch) (p : Named) → Contains branch k → Contains (effect_of k) p → Contains (patch_in branch (name_of k)).changes p.prim

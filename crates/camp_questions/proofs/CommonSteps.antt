@@ -1,6 +1,5 @@
 -- What two lists of lines have in common at their ends, line by line.
-use Rattle.camp_questions.proofs.Words.{◌≡◌, ◌≤◌, ◌<◌, ℕ, zero, suc, ◌+◌, ◌-◌, Bool, true, false, cond, List, [], ◌∷◌, ◌++◌, bytes_eq, drop, length, take, replicate, get_or, refl, sym, ap, ◌∙◌, arith, drop_more, length-append, length-drop, length-replicate, length-take-le, Lines, Edit, get_or-reverse, length-reverse, reverse, own_names, common_end, common_front, cond_both}
-use Rattle.std.proofs.Math.ListN.{drop_of_length-le}
+use Rattle.camp_questions.proofs.Words.{◌≡◌, ◌≤◌, ◌<◌, ℕ, zero, suc, ◌+◌, ◌-◌, Bool, true, false, cond, List, [], ◌∷◌, ◌++◌, bytes_eq, drop, length, take, replicate, get_or, sym, ap, ◌∙◌, arith, drop_more, length-append, length-drop, length-replicate, length-take-le, Lines, Edit, get_or-reverse, length-reverse, reverse, own_names, common_end, common_front, cond_both}
 
 module _ (lines others : Lines) (at : ℕ) (so_far : common_front lines others ≡ at + common_front (drop at lines) (drop at others)) where
   module _ (x y : List ℕ) (within : at < length lines) (within_too : at < length others) (is : x ≡ get_or lines at x) (is_too : y ≡ get_or others at y) where
@@ -21,22 +20,6 @@ module _ (lines others : Lines) (at : ℕ) (so_far : common_front lines others �
     no_more_common other =
         let next = next_of_both false other in
         omega (arith, so_far, next)
-
-  front_of_none : (list : Lines) → common_front list [] ≡ zero
-  front_of_none [] = refl
-  front_of_none (line ∷ list) = refl
-
-  -- the second list has ended
-  pub second_ended : length others ≤ at → at ≡ common_front lines others
-  second_ended past =
-      let none = ap (common_front (drop at lines)) (drop_of_length-le others past) ∙ front_of_none (drop at lines) in
-      omega (arith, so_far, none)
-
-  -- the first list has
-  pub first_ended : length lines ≤ at → at ≡ common_front lines others
-  first_ended past =
-      let none = ap (λ l. common_front l (drop at others)) (drop_of_length-le lines past) in
-      omega (arith, so_far, none)
 
 -- the same of the lines from the end
 module _ (lines others : Lines) (at : ℕ) (so_far : common_front (reverse lines) (reverse others) ≡ at + common_front (drop at (reverse lines)) (drop at (reverse others))) where

@@ -1,10 +1,7 @@
 -- Patches that change other files than those of what goes come before it as they are.
-use Rattle.camp_questions.proofs.Words.{not-true, or_parts, or_true, Err, Ok, Result, ◌≡◌, ◌<◌, ◌==◌, ℕ, ◌+◌, Bool, true, false, true≢false, not, ◌||◌, List, [], ◌∷◌, ◌++◌, map, length, get_or, bytes_eq, refl, sym, ap, ◌∙◌, subst, inl, inr, arith, AllByRecursion, list_any, All, all_append, eq-eqb, name_itself, Key, Catch, Named, Primitive, ArrangesBehind, ComesBefore, get_or-map, length-map, All-head, All-tail, ◌*◌, ◌%◌, IfOk, OnOk, InRange, PrimitivesCommute, Commute, path_of, inverse_all, Plain, Going, PatchCatches, AreApart, AreOfPatch, AreFilesOf, AreMarkedToo, GoMarked, IsMarkedPlain, IsPlainInRange, file_number, how_many, is_marked, number_behind, number_of, IsInverted, AllStay, StandsAside}
+use Rattle.camp_questions.proofs.Words.{not-true, or_parts, or_true, Err, Ok, Result, ◌≡◌, ◌<◌, ◌==◌, ℕ, ◌+◌, Bool, true, false, true≢false, not, ◌||◌, List, [], ◌∷◌, ◌++◌, map, length, get_or, bytes_eq, refl, sym, ap, ◌∙◌, subst, inl, inr, arith, AllByRecursion, list_any, All, all_append, eq-eqb, name_itself, Key, Catch, Named, Primitive, ArrangesBehind, ComesBefore, get_or-map, length-map, All-head, All-tail, ◌*◌, ◌%◌, IfOk, OnOk, InRange, PrimitivesCommute, Commute, path_of, inverse_all, Plain, Going, PatchCatches, AreApart, AreOfPatch, AreFilesOf, AreMarkedToo, GoMarked, IsMarkedPlain, IsPlainInRange, file_number, how_many, is_marked, number_behind, number_of, IsInverted, AllStay, StandsAside, CommuteCatch, HasFiles, here}
 use Rattle.std.proofs.lemmas.Nat.{mod_below}
-use Rattle.camp_seq.specs.Room.{here}
-use Rattle.camp_catch.specs.Commuting.{CommuteCatch}
 use Rattle.camp_questions.specs.declared.fast.changed_files.PatchFiles.{PatchFiles}
-use Rattle.camp_questions.specs.Inside.ChangedFiles.{HasFiles}
 use Rattle.camp_questions.proofs.PartsArranged.{of_its_name}
 use Rattle.camp_questions.proofs.ReachedPatches.{catches_at}
 

@@ -30,9 +30,7 @@ written_by (call.Branch new from) old next effect =
 written_by (call.Record branch name changes) old next effect = (branch, refl, (_, effect.becomes))
 written_by (call.Pull from to names) old next effect = (to, refl, (_, effect.becomes))
 written_by (call.Obliterate branch names) old next effect = (branch, refl, (effect.left, effect.becomes))
-written_by (call.Tree branch) old next effect = absurd effect
-written_by (call.Conflicts branch) old next effect = absurd effect
-written_by (call.Names branch) old next effect = absurd effect
+written_by other old next effect = absurd effect
 
 writes : (call : Call) (next : Contents) → LedTo call next → Writes call next
 writes call next led = written_by call led.state next (accepted_calls led.state call next led.lawful led.leads)

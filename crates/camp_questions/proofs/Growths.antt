@@ -1,6 +1,5 @@
 -- Names to which others are added, one by one, until they do what they are to do.
-use Rattle.camp_questions.proofs.Words.{◌≢◌, and_from, and_parts, not-true, or_cases, or_none, or_parts, or_true, passes_is_kept, ExactlyOne, append_assoc, list_any-append, Catch, has_patch, is_among, name_of, names_of, name_itself, same_name, among_kept, among_once, AreAlike, AreAdded, AreGrown, in_order, AreAmong, GrewFrom, WasMet, ◌≡◌, ◌⊎◌, ◌<◌, ◌≤◌, ℕ, zero, suc, Bool, true, false, true≢false, not, ◌||◌, ◌&&◌, List, [], ◌∷◌, ◌++◌, filter, length, map, bytes_eq, append-nil, refl, sym, ap, ◌∙◌, subst, inl, inr, arith, false_from_ne_true, filter_within}
-use Rattle.std.proofs.lemmas.List.Filters.{length-filter_both}
+use Rattle.camp_questions.proofs.Words.{◌≢◌, and_from, and_parts, not-true, or_cases, or_none, or_parts, or_true, passes_is_kept, ExactlyOne, append_assoc, list_any-append, Catch, has_patch, is_among, name_of, names_of, name_itself, same_name, among_kept, among_once, AreAlike, AreAdded, AreGrown, in_order, AreAmong, GrewFrom, WasMet, ◌≡◌, ◌⊎◌, ◌<◌, ◌≤◌, ℕ, zero, suc, Bool, true, false, true≢false, not, ◌||◌, ◌&&◌, List, [], ◌∷◌, ◌++◌, filter, length, map, bytes_eq, append-nil, refl, sym, ap, ◌∙◌, subst, inl, inr, arith, false_from_ne_true, filter_within, length-filter_both}
 
 -- names are done, or one of their own, which they lack, stops them; both go by which names there are
 pub record Grow (own : List (List ℕ)) (Done : List (List ℕ) → Type 0) (Stops : List (List ℕ) → List ℕ → Type 0) : Type 0 where
@@ -31,6 +30,13 @@ pub among_cases : (n : List ℕ) (names : List (List ℕ)) (name : List ℕ) →
 among_cases n names name there = elim (or_cases (bytes_eq name n) (is_among names name) there) [
   | inl e ↦ inl (same_name name n e)
   | inr e ↦ inr e
+]
+
+-- one name alone, among others that have it
+pub alone_among : (name : List ℕ) (others : List (List ℕ)) → is_among others name ≡ true → AreAmong (name ∷ []) others
+alone_among name others has n there = elim (among_cases name [] n there) [
+  | inl e ↦ ap (is_among others) e ∙ has
+  | inr e ↦ absurd (true≢false (sym e))
 ]
 
 pub names_differ : (name other : List ℕ) → name ≢ other → bytes_eq name other ≡ false

@@ -1,5 +1,5 @@
 -- What a test keeps of a list.
-use Rattle.camp_questions.proofs.Words.{◌≡◌, Bool, true, cond, List, [], ◌∷◌, filter, sym, ap, ◌∙◌, subst, inl, inr, Contains, cond_both, All-contains, All-filter, All-contains_itself, filter_passes, first_or_later, has_first, has_later, no_member}
+use Rattle.camp_questions.proofs.Words.{All-from_recursion, All-weaker, AllByRecursion, recursion_from_All, ◌≡◌, Bool, true, cond, List, [], ◌∷◌, filter, sym, ap, ◌∙◌, subst, inl, inr, Contains, cond_both, All-contains, All-filter, All-contains_itself, filter_passes, first_or_later, has_first, has_later, no_member}
 
 -- what passes a test is kept
 pub kept_has : {X : Type 0} (p : X → Bool) (list : List X) (x : X) → Contains list x → p x ≡ true → Contains (filter p list) x
@@ -15,3 +15,11 @@ kept_has p (y ∷ list) x c is = elim (first_or_later y x list c) [
 pub is_kept : {X : Type 0} (p : X → Bool) (list : List X) (x : X) → Contains (filter p list) x → Contains list x × (p x ≡ true)
 is_kept p list x c =
     (All-contains (Contains list) (filter p list) x (All-filter p (Contains list) list (All-contains_itself list)) c, All-contains (λ y. p y ≡ true) (filter p list) x (filter_passes p list) c)
+
+-- what each element of a list has is known of all
+pub of_each : {X : Type 0} (P : X → Type 0) (xs : List X) → ((x : X) → Contains xs x → P x) → AllByRecursion P xs
+of_each P xs each = recursion_from_All P xs (All-weaker (Contains xs) P each xs (All-contains_itself xs))
+
+-- and what is known of all, each has
+pub fact_of : {X : Type 0} (P : X → Type 0) (xs : List X) (x : X) → AllByRecursion P xs → Contains xs x → P x
+fact_of P xs x all there = All-contains P xs x (All-from_recursion P xs all) there

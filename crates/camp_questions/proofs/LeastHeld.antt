@@ -1,11 +1,8 @@
 -- What names hold is the least that can go, where all catches are plain and have room; and what a patch needs is what holds it.
-use Rattle.camp_questions.proofs.Words.{◌≡◌, ℕ, true, false, true≢false, not, ◌&&◌, ◌||◌, List, [], ◌∷◌, ◌++◌, map, Ok, Err, refl, sym, ap, ◌∙◌, subst, inl, inr, Contains, ArrangeSticks, Key, Catch, has_patch, is_among, name_of, name_itself, is_among_is, among_others, other_names, AreHeldIn, CanGo, ComeToFront, HeldBy, Needs, StickOn, AreAmong, IsPlain, false_from_ne_true, true_from_ne_false, HeldIsLeast, NeedsAndHeldAreOne}
-use Rattle.camp_branch.specs.declared.faults.Blocked.TheVariants.{Depends}
+use Rattle.camp_questions.proofs.Words.{◌≡◌, ℕ, true, false, true≢false, not, ◌&&◌, ◌||◌, List, [], ◌∷◌, ◌++◌, map, Ok, Err, refl, sym, ap, ◌∙◌, subst, inl, inr, Contains, ArrangeSticks, Key, Catch, has_patch, is_among, name_of, name_itself, is_among_is, among_others, other_names, AreHeldIn, CanGo, ComeToFront, HeldBy, Needs, StickOn, AreAmong, IsPlain, false_from_ne_true, true_from_ne_false, HeldIsLeast, NeedsAndHeldAreOne, Depends, both_ways}
 use Rattle.camp_questions.proofs.PlainGoing.{what_comes_never_sticks}
 use Rattle.camp_questions.proofs.BranchGrowths.{apart_outcomes, same_patch, stays, to_front, to_go, in_order_among, needs_are_least}
-use Rattle.camp_questions.proofs.Growths.{all_within, grew, in_order_there}
-use Rattle.std.specs.Cmp.{both_ways}
-use Rattle.camp_questions.proofs.ReachedNeeds.{alone_among}
+use Rattle.camp_questions.proofs.Growths.{alone_among, all_within, grew, in_order_there}
 
 -- where names can go, the others come to the front, and back
 pub others_come : (branch : List Catch) (names : List (List ℕ)) → CanGo branch names → ComeToFront branch (other_names branch names)

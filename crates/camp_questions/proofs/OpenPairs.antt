@@ -1,10 +1,7 @@
 -- The open conflicts of a branch: which they are.
-use Rattle.camp_questions.proofs.Words.{◌≡◌, ◌≤◌, ℕ, suc, ◌+◌, Bool, true, false, cond, List, [], ◌∷◌, ◌++◌, append-nil, map, filter, filter-append, take, Some, refl, sym, ap, ◌∙◌, subst, arith, map-append, Contains, flat_map, get, keys, name_of, Catch, Key, key_cmp, key_total, take_all, entries, entries_sorted, get-entries, len, slice_get, member_name, has_image, IsInOrder, Pair, no_member, Plain, found_at, take_push, count_of_members, members_of, AreKeyed, ContextedPatch, ContextedPatches, context_key, AreOpenAmong, OpensWith, is_open}
+use Rattle.camp_questions.proofs.Words.{◌≡◌, ◌≤◌, ℕ, suc, ◌+◌, Bool, true, false, cond, List, [], ◌∷◌, ◌++◌, append-nil, map, filter, filter-append, take, Some, refl, sym, ap, ◌∙◌, subst, arith, map-append, Contains, flat_map, get, keys, name_of, Catch, Key, key_cmp, key_total, take_all, entries, entries_sorted, get-entries, len, slice_get, member_name, has_image, IsInOrder, Pair, no_member, Plain, found_at, take_push, count_of_members, members_of, AreKeyed, ContextedPatch, ContextedPatches, context_key, AreOpenAmong, OpensWith, is_open, is_image, key_is_listed, listed_has_member, listed_joined, pair_of, open_against, open_in, open_with, open_within}
 use Rattle.camp_questions.proofs.KeptElements.{is_kept, kept_has}
-use Rattle.camp_branch.proofs.ConflictsDetermined.{is_image, key_is_listed, listed_has_member, listed_joined}
 use Rattle.camp_branch.proofs.Words.{flat_map_more}
-use Rattle.camp_branch.specs.Inside.Collecting.{pair_of}
-use Rattle.camp_questions.specs.Inside.OpenPairs.{open_against, open_in, open_with, open_within}
 
 module _ (seen : ContextedPatches) where
   -- those that a catch names are in an open conflict with it

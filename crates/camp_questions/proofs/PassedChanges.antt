@@ -1,6 +1,5 @@
 -- Labels that changes pass by, as they are or on their way to another line.
-use Rattle.camp_questions.proofs.Words.{◌≡◌, ◌<◌, ◌≤◌, ◌+◌, ◌-◌, ℕ, List, [], ◌∷◌, ◌++◌, length, take, drop, get_or, refl, sym, ap, ◌∙◌, subst, inl, inr, arith, drop-drop, drop_all, drop_more, length-take-le, take-append-drop, Edit, Named, Hunk, drop-append-le, Adds, AddsAll, commute, ContextedPatch, bare, InRange, IsInRange, SameKey, PrimitivesCommute, Commute, at_line, path_of, Passes, hunk_at}
-use Rattle.camp_base.specs.Limits.{greatest_reach}
+use Rattle.camp_questions.proofs.Words.{◌≡◌, ◌<◌, ◌≤◌, ◌+◌, ◌-◌, ℕ, List, [], ◌∷◌, ◌++◌, length, take, drop, get_or, refl, sym, ap, ◌∙◌, subst, inl, inr, arith, drop-drop, drop_all, drop_more, length-take-le, take-append-drop, Edit, Named, Hunk, drop-append-le, Adds, AddsAll, commute, ContextedPatch, bare, InRange, IsInRange, SameKey, PrimitivesCommute, Commute, at_line, path_of, Passes, hunk_at, greatest_reach}
 use Rattle.camp_questions.specs.Inside.Moving.{ComesBefore}
 
 -- what is added behind, and then what stands before that

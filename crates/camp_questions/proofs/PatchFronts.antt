@@ -1,5 +1,5 @@
--- The patches of a lawful branch up to one come to its front, as they stand there.
-use Rattle.camp_questions.proofs.Words.{false_from_ne_true, ◌≡◌, ◌≢◌, ◌<◌, ℕ, zero, suc, ◌+◌, Bool, true, false, true≢false, ◌||◌, cond, List, [], ◌∷◌, ◌++◌, bytes_eq, append-nil, refl, sym, ap, ◌∙◌, subst, inl, inr, arith, AllByRecursion, append_assoc, Key, Catch, all_append, is_among_is, name_itself, or_true, same_name, ComeToFront, ArrangesBehind, AreDistinct, HasPatches, Patch, is_among, labels_from, labels_of, name_of, names_of, patch_names, keys_of, names_of_patches, list_any, or_cases, map}
+-- The patches of a lawful branch up to one stand at its front.
+use Rattle.camp_questions.proofs.Words.{false_from_ne_true, ◌≡◌, ◌≢◌, ◌<◌, ℕ, zero, suc, ◌+◌, Bool, true, false, true≢false, ◌||◌, cond, List, [], ◌∷◌, ◌++◌, bytes_eq, append-nil, refl, sym, ap, ◌∙◌, subst, inl, inr, arith, AllByRecursion, append_assoc, Key, Catch, all_append, is_among_is, name_itself, or_true, same_name, ArrangesBehind, AreDistinct, Patch, is_among, labels_from, labels_of, name_of, patch_names, keys_of, list_any, or_cases, map}
 
 -- names up to one
 abbrev pub up_to : List (List ℕ) → List ℕ → List (List ℕ)
@@ -163,9 +163,3 @@ stand_first (p ∷ patches) list name distinct e =
       are = all_append (λ k. is_among (p.name ∷ up_to (patch_names patches) name) (name_of k) ≡ true) parts.first next.front (all_are (λ k is. at_first p.name (up_to (patch_names patches) name) (name_of k) is) parts.first own) (all_are (λ k there. or_true (bytes_eq (name_of k) p.name) _ there) next.front next.are);
       others = both_are (λ k there not. ap (λ b. b || is_among (up_to (patch_names patches) name) (name_of k)) (is_other (name_of k) p.name (patch_names patches) distinct.0 there) ∙ not) next.behind (all_behind (λ k. is_among (patch_names patches) (name_of k) ≡ true) next.front next.behind (subst (AreOf (patch_names patches)) next.is theirs)) next.others;
     }
-
--- the patches of a branch up to one come to its front
-pub up_to_come : (branch : List Catch) (patches : List Patch) (name : List ℕ) → HasPatches branch patches → ComeToFront branch (up_to (names_of branch) name)
-up_to_come branch patches name has =
-    let first = stand_first patches branch name has.distinct has.labels in
-    subst (λ names. ComeToFront branch (up_to names name)) (sym (names_of_patches branch patches has)) (subst (λ list. ComeToFront list (up_to (patch_names patches) name)) (sym first.is) (first.front, first.behind, those_come (up_to (patch_names patches) name) first.front first.behind first.are first.others))

@@ -1,6 +1,6 @@
 -- Plain patches, taken back one by one.
-use Rattle.camp_questions.proofs.Words.{◌≡◌, ℕ, false, List, [], ◌∷◌, ◌++◌, map, refl, sym, ap, ◌∙◌, subst, AllByRecursion, map-append, Catch, is_among, name_of, all_append, AreDistinct, Named, reverse, distinct_append, inverse_of, inverse_all-append, inverse_all-cons, inverse_all, Plain, AreOfPatch, ArePatches, ArePatchesOf, catches_in_order, names_in_order, GrowsToFront, GrowsToGo, AreInverses, AreTakenBack, HaveRoom, PatchCatches, reverse-cons, flat_map_more, AllZip}
-use Rattle.camp_branch.proofs.BranchLabels.{none_else}
+use Rattle.camp_questions.proofs.Words.{effect_of, flat_map, ◌≡◌, ℕ, false, List, [], ◌∷◌, ◌++◌, map, refl, sym, ap, ◌∙◌, subst, AllByRecursion, map-append, Catch, is_among, name_of, all_append, AreDistinct, Named, reverse, distinct_append, inverse_of, inverse_all-append, inverse_all-cons, inverse_all, Plain, AreOfPatch, ArePatches, ArePatchesOf, catches_in_order, names_in_order, GrowsToFront, GrowsToGo, AreInverses, AreTakenBack, HaveRoom, PatchCatches, reverse-cons, flat_map_more, AllZip, none_else}
+use Rattle.camp_questions.proofs.PlainLabels.{plain_effects}
 use Rattle.camp_questions.proofs.TakenBack.{needed_as_held}
 
 pub map-reverse : {X Y : Type 0} (f : X → Y) (xs : List X) → map f (reverse xs) ≡ reverse (map f xs)
@@ -32,13 +32,7 @@ called_back (p ∷ patches) [] w = absurd w
 called_back (p ∷ patches) (b ∷ backs) w = λ i. w.0.0 i ∷ called_back patches backs w.1 i
 
 same_plain : (xs ys : List Named) → map Plain xs ≡ map Plain ys → xs ≡ ys
-same_plain [] [] e = refl
-same_plain [] (y ∷ ys) e = cc
-same_plain (x ∷ xs) [] e = cc
-same_plain (x ∷ xs) (y ∷ ys) e =
-    let head : x ≡ y = cc in
-    let rest : map Plain xs ≡ map Plain ys = cc in
-    λ i. head i ∷ same_plain xs ys rest i
+same_plain xs ys e = sym (plain_effects xs) ∙ ap (flat_map effect_of) e ∙ plain_effects ys
 
 pub catches-append : (backs : List PatchCatches) (b : PatchCatches) → catches_in_order (backs ++ b ∷ []) ≡ catches_in_order backs ++ b.catches.items
 catches-append backs b = sym (flat_map_more (λ (patch : PatchCatches). patch.catches.items) [] backs b)

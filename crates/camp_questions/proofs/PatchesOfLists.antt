@@ -1,6 +1,5 @@
 -- The patches that a list of catches is of, found one after the other.
-use Rattle.camp_questions.proofs.Words.{IsLawfulBranch, ◌≡◌, ◌<◌, ◌≤◌, ℕ, zero, suc, ◌+◌, ◌-◌, ◌==◌, cond, List, [], ◌∷◌, ◌++◌, length, take, drop, get_or, append-nil, refl, sym, ap, ◌∙◌, subst, arith, AllByRecursion, append_assoc, drop-drop, drop_all, drop_more, length-append, length-drop, map-append, take_at, drop_at, Key, Catch, all_append, name_of, AreDistinct, HasPatches, Patch, labels_from, labels_of, patch_names, take_all, ne_eqb, names_of_patches, IsSized, names_of, catch_key, keys_of, AreOfPatch, ArePatchesOf, catches_in_order, names_in_order, until_next, PatchCatches, take-add, length-map}
-use Rattle.camp_branch.proofs.BranchLabels.{labels_count}
+use Rattle.camp_questions.proofs.Words.{IsLawfulBranch, ◌≡◌, ◌<◌, ◌≤◌, ℕ, zero, suc, ◌+◌, ◌-◌, ◌==◌, cond, List, [], ◌∷◌, ◌++◌, length, take, drop, get_or, append-nil, refl, sym, ap, ◌∙◌, subst, arith, AllByRecursion, append_assoc, drop-drop, drop_all, drop_more, length-append, length-drop, map-append, take_at, drop_at, Key, Catch, all_append, name_of, AreDistinct, HasPatches, Patch, labels_from, labels_of, patch_names, take_all, ne_eqb, names_of_patches, IsSized, names_of, catch_key, keys_of, AreOfPatch, ArePatchesOf, catches_in_order, names_in_order, until_next, PatchCatches, take-add, length-map, labels_count}
 use Rattle.camp_questions.proofs.PatchFronts.{of_one_patch, parts_by_labels, same_head}
 use Rattle.camp_questions.proofs.PatchesBack.{catches-append}
 

@@ -1,7 +1,5 @@
 -- How a file with its places is made, one place after the other.
-use Rattle.camp_questions.proofs.Words.{append-nil, arith, length-drop, slice_range, ◌≡◌, ◌<◌, ◌≤◌, ℕ, ◌+◌, ◌-◌, Bool, true, false, cond, List, [], ◌∷◌, ◌++◌, drop, filter, get_or, length, map, take, sym, ap, ◌∙◌, append_assoc, drop_more, map-append, Lines, get_or-map, take_all, File, Place, at_place, differs_within, file_from, place_from, range_of, Version, Range, take_more, filter-append}
-use Rattle.std.proofs.Math.ListN.{drop_of_length-le}
-use Rattle.camp_questions.specs.Inside.Placing.{is_within}
+use Rattle.camp_questions.proofs.Words.{append-nil, ◌≡◌, ◌<◌, ◌≤◌, ℕ, ◌+◌, ◌-◌, Bool, true, false, cond, List, [], ◌∷◌, ◌++◌, drop, filter, get_or, length, map, take, sym, ap, ◌∙◌, append_assoc, drop_more, map-append, Lines, get_or-map, File, Place, at_place, differs_within, file_from, place_from, range_of, Version, Range, take_more, filter-append, drop_of_length-le, is_within}
 
 -- a file with places before its own
 abbrev pub behind_places : List Place → File → File
@@ -33,10 +31,6 @@ one_more_place lines versions found i range d at places next place whole within 
     let here : drop i found ≡ range ∷ drop (i + 1) found = drop_more found i d within ∙ ap (λ r. r ∷ drop (i + 1) found) (sym is) in
     ap (λ l. behind_places l rest) (becomes ∙ ap (λ p. places ++ p ∷ []) made) ∙ ap (λ l. record { places = l; rest = rest.rest }) (append_assoc places (place_from lines versions at range ∷ []) rest.places)
     ∙ ap (λ l. behind_places places (file_from lines versions at l)) (sym here) ∙ was
-
--- the lines behind the last place
-pub rest_from : (lines : Lines) (at n : ℕ) → n ≡ length lines → slice_range lines at n ≡ drop at lines
-rest_from lines at n is = take_all (n - at) (drop at lines) (omega (arith, length-drop at lines))
 
 -- a file of places and the lines behind them
 abbrev pub file_of : List Place → Lines → File

@@ -1,5 +1,6 @@
 -- In a lawful branch with plain catches alone no label comes again.
-use Rattle.camp_questions.proofs.Words.{◌≡◌, ◌≢◌, ◌≤◌, ℕ, zero, suc, ◌+◌, true≢false, List, [], ◌∷◌, ◌++◌, map, refl, sym, ap, ◌∙◌, subst, inl, inr, arith, key_of, label_of, Key, Named, AreDistinct, Contains, IsLawfulBranch, Patch, effect_of, flat_map, is_among_is, labels_from, labels_of, patch_names, All-contains_itself, All-weaker, Contains-append_cases, recursion_from_All, has_image, first_or_later, has_first, has_later, no_member, Plain, ComeAgainAsInverses, PutsBack, map-map, catch_key}
+use Rattle.camp_questions.proofs.Words.{◌≡◌, ◌≢◌, ◌≤◌, ℕ, zero, suc, ◌+◌, true≢false, List, [], ◌∷◌, ◌++◌, map, refl, sym, ap, ◌∙◌, subst, inl, inr, arith, key_of, label_of, Key, Named, AreDistinct, Contains, IsLawfulBranch, Patch, effect_of, flat_map, is_among_is, labels_from, labels_of, patch_names, Contains-append_cases, has_image, first_or_later, has_first, has_later, no_member, Plain, ComeAgainAsInverses, PutsBack, map-map, catch_key}
+use Rattle.camp_questions.proofs.KeptElements.{of_each}
 
 -- none of some labels is there twice
 abbrev AreApart : List Key → Type 0
@@ -51,8 +52,8 @@ own_keys s = map (λ p. key_of (label_of p)) s
 none_again : (s : List Named) → AreApart (own_keys s) → ComeAgainAsInverses s
 none_again [] apart = tt
 none_again (p ∷ s) apart = (
-  (λ hunk is. recursion_from_All (λ q. key_of (label_of p) ≡ key_of (label_of q) → PutsBack hunk q.prim) s
-      (All-weaker (Contains s) (λ q. key_of (label_of p) ≡ key_of (label_of q) → PutsBack hunk q.prim) (λ q c same. absurd (apart.0 (subst (Contains (own_keys s)) (sym same) (has_image (λ (r : Named). key_of (label_of r)) s q c)))) s (All-contains_itself s))),
+  (λ hunk is. of_each (λ q. key_of (label_of p) ≡ key_of (label_of q) → PutsBack hunk q.prim) s (λ q c same.
+      absurd (apart.0 (subst (Contains (own_keys s)) (sym same) (has_image (λ (r : Named). key_of (label_of r)) s q c))))),
   none_again s apart.1,
 )
 

@@ -1,35 +1,21 @@
 -- What a patch needs is reached from it along the arrows of the graph, where all catches are plain and have room.
-use Rattle.camp_questions.proofs.Words.{inl, inr, and_from, and_parts, ◌≡◌, ◌<◌, ◌≤◌, ℕ, zero, suc, ◌+◌, true, false, true≢false, not, ◌||◌, cond, List, [], ◌∷◌, map, bytes_eq, None, Some, refl, sym, ap, ◌∙◌, subst, arith, ◌↔◌, Contains, AllByRecursion, list_any, Catch, name_itself, same_name, among_once, first_lacked, Needs, Drawn, IsGraph, Needing, NeedsThese, goes_between, needs_other, node_of, Node, AreAmong, Arrow, IsPlain, IsReached, NeedsAreReached, NeedsDirectly, NeedsPatch, itself, along, IsLawfulBranch, has_patch, is_among, name_of, names_of, map-map, All-contains, All-from_recursion, is_among_is, cases_Bool}
-use Rattle.camp_branch.proofs.ConflictsDetermined.{is_image}
+use Rattle.camp_questions.proofs.Words.{inl, inr, and_from, and_parts, ◌≡◌, ◌<◌, ◌≤◌, ℕ, zero, suc, ◌+◌, true, false, true≢false, not, ◌||◌, cond, List, [], ◌∷◌, map, bytes_eq, None, Some, refl, sym, ap, ◌∙◌, subst, arith, ◌↔◌, Contains, AllByRecursion, list_any, Catch, name_itself, same_name, among_once, first_lacked, Needs, Drawn, IsGraph, Needing, NeedsThese, goes_between, needs_other, node_of, Node, Arrow, IsPlain, IsReached, NeedsAreReached, NeedsDirectly, NeedsPatch, itself, along, IsLawfulBranch, has_patch, is_among, name_of, names_of, map-map, is_among_is, cases_Bool, is_image}
 use Rattle.camp_questions.proofs.Arrows.{arrow_is_need, arrows_are_direct_needs, is_there, known_needs, needs_known, one_needed}
 use Rattle.camp_questions.proofs.BranchGrowths.{needs_are_determined, needs_come_first, needs_are_least}
-use Rattle.camp_questions.proofs.Growths.{among_cases}
-use Rattle.camp_questions.proofs.PatchFronts.{earlier, ends, one_passing, place_of, up_to, up_to_come}
-
--- one name alone, among others that have it
-pub alone_among : (name : List ℕ) (others : List (List ℕ)) → is_among others name ≡ true → AreAmong (name ∷ []) others
-alone_among name others has n there = elim (among_cases name [] n there) [
-  | inl e ↦ ap (is_among others) e ∙ has
-  | inr e ↦ absurd (true≢false (sym e))
-]
+use Rattle.camp_questions.proofs.BackwardArrows.{needs_up_to}
+use Rattle.camp_questions.proofs.Growths.{alone_among}
+use Rattle.camp_questions.proofs.KeptElements.{fact_of}
+use Rattle.camp_questions.proofs.PatchFronts.{earlier, one_passing, place_of}
 
 pub reached_through : {graph : Drawn} {a b c : List ℕ} → IsReached graph a b → IsReached graph b c → IsReached graph a c
 reached_through itself w = w
 reached_through (along arrow rest) w = along arrow (reached_through rest w)
 
-module _ (P : Node → Type 0) where
-  pub fact_of : (nodes : List Node) (node : Node) → AllByRecursion P nodes → Contains nodes node → P node
-  fact_of nodes node all there = All-contains P nodes node (All-from_recursion P nodes all) there
-
-  -- a node of a name, of which the fact holds
-  abbrev Found : List Node → List ℕ → Type 0
-  Found nodes name = (node : Node) × Contains nodes node × (node.name ≡ name) × P node
-
-  -- one of the nodes has the name
-  find : (nodes : List Node) (name : List ℕ) → AllByRecursion P nodes → is_among (map (λ (n : Node). n.name) nodes) name ≡ true → Found nodes name
-  find nodes name all there =
-      let image = is_image (λ (n : Node). n.name) nodes name ((is_among_is (map (λ (n : Node). n.name) nodes) name).1 there) in
-      (image.0, image.1, image.2, fact_of nodes image.0 all image.1)
+-- one of the nodes has the name, and the fact holds of it
+find : (P : Node → Type 0) (nodes : List Node) (name : List ℕ) → AllByRecursion P nodes → is_among (map (λ (n : Node). n.name) nodes) name ≡ true → (node : Node) × Contains nodes node × (node.name ≡ name) × P node
+find P nodes name all there =
+    let image = is_image (λ (n : Node). n.name) nodes name ((is_among_is (map (λ (n : Node). n.name) nodes) name).1 there) in
+    (image.0, image.1, image.2, fact_of P nodes image.0 all image.1)
 
 module _ (branch : List Catch) (graph : Drawn) (plain : IsPlain branch) (is : IsGraph branch graph) where
   abbrev own : List (List ℕ)
@@ -75,10 +61,7 @@ module _ (branch : List Catch) (graph : Drawn) (plain : IsPlain branch) (is : Is
   module _ (lawful : IsLawfulBranch branch) where
     -- what a patch needs stands before it
     stands_before : (name other : List ℕ) → is_among own name ≡ true → NeedsPatch branch name other → place_of own other < place_of own name
-    stands_before name other there needs =
-        let come = up_to_come branch lawful.patches name lawful.has in
-        let among = needs_are_least branch (name ∷ []) needs.1.0 (up_to own name) plain needs.1.1 (alone_among name (up_to own name) (ends own name there)) come other needs.1.2 in
-        earlier own name other among needs.0
+    stands_before name other there needs = earlier own name other (needs_up_to branch name other lawful there needs) needs.0
 
     -- by how far it stands before
     need_is_reached : (n : ℕ) (name other : List ℕ) → is_among own name ≡ true → NeedsPatch branch name other → place_of own name ≤ n + place_of own other → IsReached graph name other

@@ -1,6 +1,5 @@
 -- How labels in conflict are seen, from the last catch of a branch to the first.
-use Rattle.camp_questions.proofs.Words.{true≢false, ◌<◌, ◌≤◌, ◌+◌, arith, drop, drop_more, get_or, length, take, ◌≡◌, ℕ, suc, Bool, true, false, cond, List, [], ◌∷◌, ◌++◌, map, Option, Some, None, refl, sym, ap, ◌∙◌, subst, none-some, eq_by_cmp, empty, get, get-empty, get-insert, contains_key, insert, find, flat_map, effect_of, Catch, Key, key_cmp, key_total, key_ties, Named, entries, entries_sorted, get-entries, len, values, MatchOption, is_some, slice_get, take_all, found_at, take_push, count_of_members, members_of, AddsAll, AreKeyed, ContextedPatch, ContextedPatches, context_key, with_member, inverse_all-append, inverse_all, AllSeenToo, SeenToo, first_with, AreSeen, IsSeen, TellNothing, told_by, append-nil, bytes_eq, filter, filter-append, ComesIf, ComesIfNamed, ComeBehind, ComesBehind, IsSideAmong}
-use Rattle.std.specs.Cmp.{Equal-is}
+use Rattle.camp_questions.proofs.Words.{true≢false, ◌≤◌, ◌+◌, arith, drop, drop_more, get_or, length, take, ◌≡◌, ℕ, suc, Bool, true, false, cond, List, [], ◌∷◌, ◌++◌, map, Option, Some, None, refl, sym, ap, ◌∙◌, subst, none-some, eq_by_cmp, empty, get, get-empty, get-insert, contains_key, insert, find, flat_map, effect_of, Catch, Key, key_cmp, key_total, key_ties, Named, entries, entries_sorted, get-entries, len, values, MatchOption, is_some, slice_get, take_all, found_at, take_push, count_of_members, members_of, AddsAll, AreKeyed, ContextedPatch, ContextedPatches, context_key, with_member, inverse_all-append, inverse_all, AllSeenToo, SeenToo, first_with, AreSeen, IsSeen, TellNothing, told_by, append-nil, bytes_eq, filter, filter-append, ComesIf, ComesIfNamed, ComeBehind, ComesBehind, IsSideAmong, Equal-is}
 use Rattle.camp_catch.specs.declared.catches.Conflictor.{Conflictor}
 use Rattle.camp_ctx.proofs.AddResults.{same_key_of_sum}
 
@@ -84,10 +83,6 @@ conflictor_told undone k was seen i n keyed counted past all key =
     let whole : take i (members_of k.conflicts) ≡ members_of k.conflicts = take_all i (members_of k.conflicts) (omega arith) in
     subst (λ o. SeenToo undone (get was key) o (get seen key)) (ap (λ o. cond (eq_by_cmp key_cmp key (context_key k.identity)) (Some k.identity) o) (ap (first_with key) whole ∙ members_tell k.conflicts keyed key)) (all key)
 
--- at first nothing is seen
-pub none_seen : AreSeen [] empty
-none_seen key = subst (λ o. MatchOption o (TellNothing [] key) (IsSeen [] key)) (sym (get-empty key_cmp key)) tt
-
 seen_before : (k : Catch) (behind : List Catch) (key : Key) (x : ContextedPatch) → IsSeen behind key x → IsSeen (k ∷ behind) key x
 seen_before k behind key x seen = record {
   before = k ∷ seen.before;
@@ -131,14 +126,10 @@ pub record IsSoFar (catches : List Catch) (undone : List Named) (seen : Contexte
 
 pub nothing_so_far : (catches : List Catch) (undone : List Named) (seen : ContextedPatches) → catches ≡ [] → undone ≡ [] → seen ≡ empty → IsSoFar catches undone seen
 nothing_so_far catches undone seen none nothing is =
-    rw (none, nothing, is) (record { back = refl; are = none_seen })
-
--- what stands at one place is one
-pub same_at : (catches : List Catch) (i : ℕ) (k j : Catch) → i < length catches → k ≡ get_or catches i k → j ≡ get_or catches i j → k ≡ j
-same_at catches i k j within is also =
-    let first : drop i catches ≡ get_or catches i k ∷ drop (i + 1) catches = drop_more catches i k within in
-    let second : drop i catches ≡ get_or catches i j ∷ drop (i + 1) catches = drop_more catches i j within in
-    cc
+    rw (none, nothing, is) (record {
+      back = refl;
+      are = λ key. subst (λ o. MatchOption o (TellNothing [] key) (IsSeen [] key)) (sym (get-empty key_cmp key)) tt;
+    })
 
 -- the catch before those
 pub catch_before : (catches : List Catch) (i at : ℕ) (k d : Catch) → i + 1 ≡ at → at ≤ length catches → k ≡ get_or catches i d → drop i catches ≡ k ∷ drop at catches

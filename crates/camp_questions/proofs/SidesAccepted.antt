@@ -51,18 +51,12 @@ module _ (state : Contents) (branch new_name : List ℕ) (catches : List Catch) 
   recorded_so next small led =
       (after state (with_catches state.branches branch (catches ++ recorded new_name 1 changes)), comes_to false (Ok next) small led)
 
-  too_large : is_too_large catches changes ≡ true → step state (call.Record branch new_name changes) ≡ refused TooLarge
-  too_large large = comes_to true (changed changes tree) large refl
-
-  too_long : is_too_large catches changes ≡ false → changed changes tree ≡ Err TooLarge → step state (call.Record branch new_name changes) ≡ refused TooLarge
-  too_long small led = comes_to false (Err TooLarge) small led
-
   accepted_or_large : (next : Files) → AppliesEach changes tree next → Accepted ⊎ (step state (call.Record branch new_name changes) ≡ refused TooLarge)
   accepted_or_large next applies = elim (cases_Bool (is_too_large catches changes)) [
-    | inl large ↦ inr (too_large large)
+    | inl large ↦ inr (comes_to true (changed changes tree) large refl)
     | inr small ↦ elim (leads_or_large changes tree next applies) [
       | inl led ↦ inl (recorded_so next small led)
-      | inr long ↦ inr (too_long small long)
+      | inr long ↦ inr (comes_to false (Err TooLarge) small long)
     ]
   ]
 

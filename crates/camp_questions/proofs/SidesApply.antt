@@ -1,6 +1,5 @@
 -- The changes of a side apply to the tree of the branch.
-use Rattle.camp_questions.proofs.Words.{◌≡◌, ℕ, suc, Bool, true, false, cond, List, [], ◌∷◌, map, bytes_eq, Some, refl, sym, ◌∙◌, subst, none-some, same_Some, eq_by_cmp, empty, get, flat_map, AllByRecursion, Files, FitsAll, LeadsTo, effect_of, Catch, Key, key_cmp, key_total, Named, entries, entries_sorted, get-entries, values, MatchOption, slice_get, all_filter, IsSeenFrom, Plain, found_at, AddsAll, AreValid, ContextedPatch, ContextedPatches, Valid, context_key, whole, joined_runs, runs_back, AppliesAll, inverse_all, AppliesEach, SidesApply, changes_in, AreSeen, ComeBehind, ComesUnless, IsSeen, IsSideAmong, TellNothing, has_key, labels_of_patch, told_by}
-use Rattle.camp_branch.proofs.BranchTrees.{tree_of_effects}
+use Rattle.camp_questions.proofs.Words.{◌≡◌, ℕ, suc, Bool, true, false, cond, List, [], ◌∷◌, map, bytes_eq, Some, refl, sym, ◌∙◌, subst, none-some, same_Some, eq_by_cmp, empty, get, flat_map, AllByRecursion, Files, FitsAll, LeadsTo, effect_of, Catch, Key, key_cmp, key_total, Named, entries, entries_sorted, get-entries, values, MatchOption, slice_get, all_filter, IsSeenFrom, Plain, found_at, AddsAll, AreValid, ContextedPatch, ContextedPatches, Valid, context_key, whole, joined_runs, runs_back, AppliesAll, inverse_all, AppliesEach, SidesApply, changes_in, AreSeen, ComeBehind, ComesUnless, IsSeen, IsSideAmong, TellNothing, has_key, labels_of_patch, told_by, tree_of_effects}
 use Rattle.camp_branch.proofs.EffectSteps.{second_fits}
 use Rattle.camp_ctx.proofs.AddValid.{valid_by_adding_all}
 

@@ -1,12 +1,10 @@
 -- Two changes that change places give the same names to lines, in whatever order they come.
-use Rattle.camp_questions.proofs.Words.{◌≡◌, ◌≢◌, ◌≤◌, ℕ, ◌+◌, ◌-◌, Bool, true, false, true≢false, cond, List, [], ◌∷◌, ◌++◌, map, Some, length, take, drop, bytes_eq, refl, sym, ap, ◌∙◌, subst, inl, inr, arith, empty, get, get-insert, insert, same_map, slice_range, splice, eq_by_cmp, bytes_eq-Decides, Edit, key_cmp, key_of, key_ties, key_total, label_of, Key, Named, Primitive, Add, Remove, Hunk, Catch, Known, behind_catches, behind_change, behind_hunk, names_coming, nothing_known, annotated, Annotated, StandsWithin, AreKnownIn, append_assoc, drop_at, length-append, length-take-le, take-append-drop, take_at, drop-drop, Files, Splices, FitsAll, false_from_ne_true, FinMap, SplicesLines, Align, ComesFirst, Plain, Leads, PrimitivesCommute, Commute, at_line, path_of, cut_run, equivalent_run, AppliesAll, Annotates, own_names, AnnotateAlike, OrderKeepsNames}
-use Rattle.camp_branch.proofs.BranchTrees.{tree_of_effects}
-use Rattle.camp_catch.specs.Commuting.{BothPlain, CommuteCatch}
+use Rattle.camp_questions.proofs.Words.{◌≡◌, ◌≢◌, ◌≤◌, ℕ, ◌+◌, ◌-◌, Bool, true, false, true≢false, cond, List, [], ◌∷◌, ◌++◌, map, Some, length, take, drop, bytes_eq, refl, sym, ap, ◌∙◌, subst, inl, inr, arith, empty, get, get-insert, insert, same_map, slice_range, splice, eq_by_cmp, bytes_eq-Decides, Edit, key_cmp, key_of, key_ties, key_total, label_of, Key, Named, Primitive, Add, Remove, Hunk, Catch, Known, behind_catches, behind_change, behind_hunk, names_coming, nothing_known, annotated, Annotated, StandsWithin, AreKnownIn, append_assoc, drop_at, length-append, length-take-le, take-append-drop, take_at, drop-drop, Files, Splices, FitsAll, false_from_ne_true, FinMap, SplicesLines, Align, ComesFirst, Plain, Leads, PrimitivesCommute, Commute, at_line, path_of, cut_run, equivalent_run, AppliesAll, Annotates, own_names, AnnotateAlike, OrderKeepsNames, tree_of_effects, BothPlain, CommuteCatch}
 use Rattle.camp_prim.proofs.HunksOfOneFile.{SplicesTwice, lower_first, upper_first}
 use Rattle.camp_seq.proofs.ExchangeSteps.{shared}
 use Rattle.camp_seq.proofs.ListEquivalence.{after_one, swapped}
 use Rattle.camp_seq.specs.Equivalence.{CommutesOnce, backwards, exchanged, same, through, ◌~◌}
-use Rattle.camp_questions.proofs.LineNames.{change_counts, coming_count, gone_count, hunk_counts, none_known, stands_within, same_key}
+use Rattle.camp_questions.proofs.LineNames.{catches_count, coming_count, gone_count, hunk_counts, none_known, stands_within, same_key}
 use Rattle.camp_questions.proofs.PlainLabels.{plain_effects}
 
 abbrev Taken : Type 0
@@ -172,12 +170,12 @@ module _ (n m : List ℕ) (a b : Key) (apart : a ≢ b) where
         ∙ two_hunks_at s.h s.k s.k.line (s.k.line + length s.k.new + s.gap) old new known (bytes_eq s.h.path path) refl s.path (turned_above s.h s.k s.gap s.stands) (leads_as p q (Hunk s.h) (Hunk s.k) old new s.is_p s.is_q leads) are
         ∙ sym (λ i. behind_change path n a (s.first i) (behind_change path m b ((s.second ∙ s.is_q) i) known))
 
-module _ (path : List ℕ) where
-  plain_counts : (s : List Named) (old new : Files) (known : Known) → AppliesAll s old new → AreKnownIn path old known → AreKnownIn path new (behind_catches path (map Plain s) known)
-  plain_counts [] old new known w are = subst (λ t. AreKnownIn path t known) (sym w) are
-  plain_counts (p ∷ s) old new known w are =
-      plain_counts s w.0 new (behind_change path p.name (key_of (label_of p)) p.prim known) w.2 (change_counts path p.name (key_of (label_of p)) p.prim old w.0 known w.1 are)
+plain_leads : (s : List Named) (old new : Files) → AppliesAll s old new → FitsAll (map Plain s) old new
+plain_leads [] old new w = w
+plain_leads (p ∷ s) old new w =
+    (w.0, record { effect = (w.0, w.1, refl); seen = tt }, plain_leads s w.0 new w.2)
 
+module _ (path : List ℕ) where
   behind_both : (before s : List Named) (known : Known) → behind_catches path (map Plain (before ++ s)) known ≡ behind_catches path (map Plain s) (behind_catches path (map Plain before) known)
   behind_both [] s known = refl
   behind_both (p ∷ before) s known =
@@ -199,16 +197,11 @@ module _ (path : List ℕ) where
   exchange_keeps tree known s t e (runs, is) =
       let cut = cut_run e.before (e.p ∷ e.q ∷ e.after) empty tree (subst (λ l. AppliesAll l empty tree) e.was runs) in
       let at : Known = behind_catches path (map Plain e.before) nothing_known in
-      let are : AreKnownIn path cut.0 at = plain_counts e.before empty cut.0 nothing_known cut.1 (none_known path) in
+      let are : AreKnownIn path cut.0 at = catches_count path (map Plain e.before) empty cut.0 nothing_known (plain_leads e.before empty cut.0 cut.1) (none_known path) in
       let two = two_swapped e.p e.q e.q' e.p' cut.0 cut.2.2.0 at e.turns (record { between = cut.2.0; first = cut.2.1; second = cut.2.2.1 }) are in (
         (equivalent_run s t (exchanged e) empty tree).0 runs,
         ap (λ l. behind_catches path (map Plain l) nothing_known) e.becomes ∙ behind_both e.before (e.q' ∷ e.p' ∷ e.after) nothing_known ∙ ap (behind_catches path (map Plain e.after)) (sym two) ∙ sym (behind_both e.before (e.p ∷ e.q ∷ e.after) nothing_known) ∙ sym (ap (λ l. behind_catches path (map Plain l) nothing_known) e.was) ∙ is,
       )
-
-plain_leads : (s : List Named) (old new : Files) → AppliesAll s old new → FitsAll (map Plain s) old new
-plain_leads [] old new w = w
-plain_leads (p ∷ s) old new w =
-    (w.0, record { effect = (w.0, w.1, refl); seen = tt }, plain_leads s w.0 new w.2)
 
 half : (patches others : List Named) (path : List ℕ) (told : Annotated) → patches ~ others → Annotates (map Plain patches) path told → Annotates (map Plain others) path told
 half patches others path told e (tree, leads, is) =

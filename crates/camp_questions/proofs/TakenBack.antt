@@ -1,10 +1,8 @@
 -- What plain patches need is what they hold in the list taken back.
-use Rattle.camp_questions.proofs.Words.{◌≡◌, ℕ, Bool, true, false, true≢false, ◌||◌, List, [], ◌∷◌, ◌++◌, map, bytes_eq, refl, sym, ap, ◌∙◌, subst, AllByRecursion, map-append, list_any-append, Arrange, Catch, has_patch, is_among, name_of, is_among_is, or_true, Named, other_names, AreHeldIn, CanGo, ComeToFront, StickOn, AreAmong, IsPlain, inverse_of, inverse_all-cons, inverse_all-inverse_all, inverse_all, Plain, GrowsToFront, GrowsToGo, not, ◌&&◌, among_others, or_comm, or_none, true_from_ne_false}
-use Rattle.camp_seq.specs.Room.{HasRoom}
+use Rattle.camp_questions.proofs.Words.{◌≡◌, ℕ, Bool, true, false, true≢false, ◌||◌, List, [], ◌∷◌, ◌++◌, map, bytes_eq, refl, sym, ap, ◌∙◌, subst, AllByRecursion, map-append, list_any-append, Arrange, Catch, has_patch, is_among, name_of, is_among_is, or_true, Named, other_names, AreHeldIn, CanGo, ComeToFront, StickOn, AreAmong, IsPlain, inverse_of, inverse_all-cons, inverse_all-inverse_all, inverse_all, Plain, GrowsToFront, GrowsToGo, not, ◌&&◌, among_others, or_comm, or_none, true_from_ne_false, HasRoom, both_ways}
 use Rattle.camp_questions.proofs.PlainGoing.{IsEither, comes_taken_back}
 use Rattle.camp_questions.proofs.BranchGrowths.{to_front, to_go, stops_within}
 use Rattle.camp_questions.proofs.Growths.{all_done, all_within, among_first, are_added}
-use Rattle.std.specs.Cmp.{both_ways}
 use Rattle.camp_questions.proofs.LeastHeld.{can_go, held_within, others_come}
 use Rattle.camp_questions.proofs.PatchFronts.{all_are, at_first}
 

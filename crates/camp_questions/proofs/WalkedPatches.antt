@@ -1,6 +1,5 @@
 -- One walk over patches: those that are held go, and the others come before them.
-use Rattle.camp_questions.proofs.Words.{or_none, ◌≡◌, ℕ, true, false, not, ◌&&◌, ◌||◌, List, [], ◌∷◌, ◌++◌, map, Err, bytes_eq, get_or, length, take, drop, take_more, arith, zero, suc, ◌+◌, ◌<◌, ◌≤◌, refl, sym, ap, ◌∙◌, subst, inl, inr, insert, keys, Catch, ArrangesBehind, SticksBehind, AllByRecursion, has_patch, is_among, name_of, all_append, name_itself, or_parts, or_true, among_others, other_names, AreHeldIn, CanGo, ObliterateGives, take_all, All-from_recursion, All-get_or, Names, PatchCatches, AreApart, AreOfPatch, ArePatches, catches_in_order, names_in_order, GrowsToGo, ComeBeforeAll, StickBehind, take-append-drop, flat_map-append, drop_more}
-use Rattle.camp_branch.specs.declared.faults.Blocked.TheVariants.{Depends}
+use Rattle.camp_questions.proofs.Words.{or_none, ◌≡◌, ℕ, true, false, not, ◌&&◌, ◌||◌, List, [], ◌∷◌, ◌++◌, map, Err, bytes_eq, get_or, length, take, drop, take_more, arith, zero, suc, ◌+◌, ◌<◌, ◌≤◌, refl, sym, ap, ◌∙◌, subst, inl, inr, insert, keys, Catch, ArrangesBehind, SticksBehind, AllByRecursion, has_patch, is_among, name_of, all_append, name_itself, or_parts, or_true, among_others, other_names, AreHeldIn, CanGo, ObliterateGives, take_all, All-from_recursion, All-get_or, Names, PatchCatches, AreApart, AreOfPatch, ArePatches, catches_in_order, names_in_order, GrowsToGo, ComeBeforeAll, StickBehind, take-append-drop, flat_map-append, drop_more, Depends}
 use Rattle.camp_questions.proofs.PatchesBack.{catches-append}
 use Rattle.camp_questions.proofs.BranchGrowths.{to_go}
 use Rattle.camp_questions.proofs.Growing.{IsGrownSoFar, all_grown, none_grown, one_grown, one_more}
@@ -12,10 +11,6 @@ module _ (all : List Catch) where
   pub record IsWalked (held : List (List ℕ)) (done going : List Catch) : Type 0 where
     pub first : List Catch
     pub arranged : ArrangesBehind (other_names all held) [] done first going
-
-  -- at first none have
-  pub none_walked : (held : List (List ℕ)) → IsWalked held [] []
-  none_walked held = record { first = []; arranged = (refl, refl) }
 
   -- the catches of a patch of the branch
   abbrev pub AreThere : List ℕ → List Catch → Type 0
@@ -85,7 +80,7 @@ module _ (all : List Catch) where
 
   pub none_held : (names : List (List ℕ)) → IsGrown names names [] []
   none_held names = record {
-    walked = none_walked names;
+    walked = record { first = []; arranged = (refl, refl) };
     grown = none_grown (map name_of all) (CanGo all) (AreHeldIn all) (to_go all) names;
   }
 

@@ -56,11 +56,11 @@ pub use Rattle.camp_repo.proofs.NameSteps.{none_lacked}
 pub use Rattle.std.proofs.lemmas.Bool.{cases_Bool, and_from, and_parts, eq-eqb, eqb-false, eqb-true, not-true, or_cases, cases_eq, cases_lt, cases_order, cond_both, false_from_ne_true, ne_eqb, or_from, true_from_ne_false}
 pub use Rattle.std.proofs.lemmas.List.Elements.{All-contains, all_zip_more, filter_passes, All-append, All-drop, All-nil, All-replicate, All-take, filter-append, All-contains_itself, All-filter, All-from_recursion, All-get_or, All-head, All-tail, All-weaker, Contains-append_cases, Contains-append_right, Contains-get_or, recursion_from_All}
 pub use Rattle.camp_branch.proofs.BranchFields.{Names, contains_more}
-pub use Rattle.camp_branch.proofs.BranchLabels.{names_of_patches}
-pub use Rattle.camp_branch.proofs.ConflictsDetermined.{conflicts_are_determined, member_name, some_member}
+pub use Rattle.camp_branch.proofs.BranchLabels.{names_of_patches, labels_count, none_else}
+pub use Rattle.camp_branch.proofs.ConflictsDetermined.{conflicts_are_determined, member_name, some_member, has_of_each, is_image, key_is_listed, listed_has_member, listed_joined}
 pub use Rattle.camp_branch.proofs.SortedPairs.{IsInOrder, Pair, first_or_later, has_first, has_later, no_member, sorted_once}
 pub use Rattle.camp_branch.specs.Pulling.{MergesBehind, Outcome, PullGives, WantedNext, common_names}
-pub use Rattle.camp_branch.specs.declared.faults.Blocked.TheVariants.{Diverged, NoMerge}
+pub use Rattle.camp_branch.specs.declared.faults.Blocked.TheVariants.{Depends}
 pub use Rattle.camp_call.specs.declared.replies.Refusal.{Refusal}
 pub use Rattle.camp_call.specs.declared.replies.Refusal.TheVariants.{DoesNotApply, NoBranch, NoPatch, NothingToDo, PatchExists, TooLarge}
 pub use Rattle.camp_catch.proofs.KeptLabels.{keep_labels}
@@ -76,7 +76,7 @@ pub use Rattle.camp_prim.specs.Commuting.{Commute, PrimitivesCommute, at_line, p
 pub use Rattle.camp_questions.specs.CommonLines.{brought_by, common_end, common_front}
 pub use Rattle.camp_questions.specs.Inside.ByPatch.{AreApart, AreOfPatch, ArePatches, ArePatchesOf, catches_in_order, names_in_order, until_next}
 pub use Rattle.camp_questions.specs.Inside.ByPlace.{AreSettled, EndInPlace, name_at, needs_place, node_in, up_to}
-pub use Rattle.camp_questions.specs.Inside.ChangedFiles.{AreFilesOf, AreMarkedToo, GoMarked, IsMarkedPlain, IsPlainInRange, file_number, how_many, is_marked, number_behind, number_of}
+pub use Rattle.camp_questions.specs.Inside.ChangedFiles.{AreFilesOf, AreMarkedToo, GoMarked, IsMarkedPlain, IsPlainInRange, file_number, how_many, is_marked, number_behind, number_of, HasFiles}
 pub use Rattle.camp_questions.specs.Inside.Growing.{Grows, GrowsToFront, GrowsToGo}
 pub use Rattle.camp_questions.specs.Inside.Moving.{Passes, hunk_at}
 pub use Rattle.camp_questions.specs.Inside.Seeing.{AllSeenToo, ComesIf, ComesIfNamed, SeenToo, first_with}
@@ -86,7 +86,7 @@ pub use Rattle.camp_questions.specs.Inside.TakingBack.{AreInverses, AreTakenBack
 pub use Rattle.camp_questions.specs.Marks.{AreVersions, Makes, MarksAt, is_in_pair, names_in_pairs, with_made}
 pub use Rattle.camp_questions.specs.OpenConflicts.{AreOpenAmong, AreOpenIn, OpensWith, is_open}
 pub use Rattle.camp_questions.specs.Pictures.{Picture, drawn_about, hangs_on, kept_node, part_with, whole_picture, with_needing, with_needing_one, with_needs, with_needs_of}
-pub use Rattle.camp_questions.specs.Places.{File, Place, at_place, differs_within, file_from, joined, place_from, range_of, touch, with_marks, with_range}
+pub use Rattle.camp_questions.specs.Places.{File, Place, at_place, differs_within, file_from, is_within, joined, place_from, range_of, touch, with_marks, with_range}
 pub use Rattle.camp_questions.specs.Sides.{AreSeen, ComeBehind, ComesBehind, ComesUnless, IsSeen, IsSideAmong, IsSideIn, TellNothing, has_key, labels_of_patch, told_by}
 pub use Rattle.camp_questions.specs.declared.fast.going.Going.{Going}
 pub use Rattle.camp_questions.specs.declared.fast.patch_catches.PatchCatches.{PatchCatches}
@@ -100,3 +100,15 @@ pub use Rattle.std.proofs.Math.Bool.{or_assoc, or_comm}
 pub use Rattle.std.proofs.Math.Seq.{take-add}
 pub use mathlib.Core.List.{map-id, map-map, reverse-cons}
 pub use Rattle.std.proofs.lemmas.List.Concat.{flat_map-append}
+pub use Rattle.camp_base.specs.Limits.{greatest_reach}
+pub use Rattle.camp_branch.proofs.BranchTrees.{tree_of_effects}
+pub use Rattle.camp_branch.proofs.OutcomesDetermined.{outcomes_are_determined}
+pub use Rattle.camp_branch.specs.Inside.Collecting.{pair_of}
+pub use Rattle.camp_catch.specs.Commuting.{BothPlain, CommuteCatch}
+pub use Rattle.camp_prim.proofs.FilesAtPaths.{get-with_file, get-with_file_other, get-with_file_same, same_path, with_file}
+pub use Rattle.camp_questions.specs.Inside.Alongside.{StandBehind}
+pub use Rattle.camp_questions.specs.Inside.OpenPairs.{open_against, open_in, open_with, open_within}
+pub use Rattle.camp_seq.specs.Room.{HasRoom, here}
+pub use Rattle.std.proofs.Math.ListN.{drop_of_length-le}
+pub use Rattle.std.proofs.lemmas.List.Filters.{dedup_is, length-filter_both}
+pub use Rattle.std.specs.Cmp.{Equal-is, both_ways, eq_by_cmp_equiv, second_so}

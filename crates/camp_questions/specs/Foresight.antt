@@ -16,9 +16,7 @@ branch_written (call.Branch new from) = Some new
 branch_written (call.Record branch name changes) = Some branch
 branch_written (call.Pull from to names) = Some to
 branch_written (call.Obliterate branch names) = Some branch
-branch_written (call.Tree branch) = None
-branch_written (call.Conflicts branch) = None
-branch_written (call.Names branch) = None
+branch_written other = None
 
 -- a branch stands so in a state: with the tree and the conflicts that the questions for them are answered
 pub record StandsIn (state : Contents) (standing : Standing) : Type 0 where

@@ -9,7 +9,6 @@ pub mod Graphing
 pub mod Growing
 pub mod Moving
 pub mod OpenPairs
-pub mod Placing
 pub mod Seeing
 pub mod StandingAside
 pub mod TakingBack

@@ -32,10 +32,13 @@ with_range places range =
 abbrev pub places_of : Lines → List Version → List Range
 places_of lines versions = fold with_range [] (map (λ (version : Version). range_of lines version.lines) versions)
 
+-- whether a range lies within a place
+abbrev pub is_within : Range → Range → Bool
+is_within range place = nat_le place.from range.from && nat_le range.to place.to
+
 -- whether a version differs from a file within a place
 abbrev pub differs_within : Lines → Range → Version → Bool
-differs_within lines place version =
-    let range = range_of lines version.lines in nat_le place.from range.from && nat_le range.to place.to
+differs_within lines place version = is_within (range_of lines version.lines) place
 
 -- what a version has at a place: its lines from there up to as many before its end as the file has behind the place
 abbrev pub at_place : Lines → Range → Version → Version

@@ -10,15 +10,13 @@ pub(crate) fn common_front(lines: &[Line], others: &[Line]) -> usize
     ensures within { result ≤ length lines.now }
     ensures within_too { result ≤ length others.now }
 {
-    for at in 0..lines.len() {
-        if at >= others.len() {
-            return at;
-        }
+    let most = lines.len().min(others.len());
+    for at in 0..most {
         if !is_same(&lines[at], &others[at]) {
             return at;
         }
     }
-    lines.len()
+    most
 }
 
 /// How many lines are the same at the end of both.
@@ -27,15 +25,13 @@ pub(crate) fn common_end(lines: &[Line], others: &[Line]) -> usize
     ensures within { result ≤ length lines.now }
     ensures within_too { result ≤ length others.now }
 {
-    for at in 0..lines.len() {
-        if at >= others.len() {
-            return at;
-        }
+    let most = lines.len().min(others.len());
+    for at in 0..most {
         if !is_same(&lines[lines.len() - 1 - at], &others[others.len() - 1 - at]) {
             return at;
         }
     }
-    lines.len()
+    most
 }
 
 fn is_same(line: &Line, other: &Line) -> bool

@@ -1,6 +1,6 @@
 ghost use Rattle.std.specs.Prelude.{◌≡◌, ◌++◌, ◌&&◌, IfOk, OnOk, bytes_eq, codes, string_bytes};
 ghost use Rattle.std.specs.List.{flat_map};
-ghost use Rattle.camp_questions.specs.GraphTexts.{arrow_text, conflict_style, conflict_text, graph_text, is_pair_among, node_text, quoted};
+ghost use Rattle.camp_questions.specs.GraphTexts.{arrow_text, conflict_style, conflict_text, graph_text, is_pair_among, node_text};
 
 use crate::{Node, Picture};
 use camp_base::Name;
@@ -35,9 +35,7 @@ fn append_nodes(text: &mut String, nodes: &[Node]) -> Result<(), AllocError>
 fn append_node(text: &mut String, node: &Node) -> Result<(), AllocError>
     ensures { OnOk result (string_bytes text.new ≡ string_bytes text.old ++ node_text node.now) }
 {
-    text.push_str("  ")?;
-    append_name(text, &node.name)?;
-    text.push_str(";\n")?;
+    writeln!(text, "  \"{}\";", node.name)?;
     append_needs(text, &node.name, node.needs.as_slice())
 }
 
@@ -107,18 +105,5 @@ fn append_arrow(
     ensures { OnOk result
         (string_bytes text.new ≡ string_bytes text.old ++ arrow_text name.now other.now behind.now) }
 {
-    text.push_str("  ")?;
-    append_name(text, name)?;
-    text.push_str(" -> ")?;
-    append_name(text, other)?;
-    text.push_str(behind)?;
-    text.push('\n')
-}
-
-fn append_name(text: &mut String, name: &Name) -> Result<(), AllocError>
-    ensures { OnOk result (string_bytes text.new ≡ string_bytes text.old ++ quoted name.now) }
-{
-    text.push('"')?;
-    write!(text, "{name}")?;
-    text.push('"')
+    writeln!(text, "  \"{name}\" -> \"{other}\"{behind}")
 }

@@ -1,6 +1,5 @@
 //! A file with the open sides of its conflicts.
-ghost use Rattle.std.specs.Prelude.{◌≡◌, ◌++◌, [], bytes_eq, IfOk, OnOk};
-ghost use Rattle.std.specs.Cmp.Lexicographic.{pointwise};
+ghost use Rattle.std.specs.Prelude.{◌≡◌, ◌++◌, [], IfOk, OnOk};
 ghost use Rattle.std.specs.FinMap.{get};
 ghost use Rattle.camp_branch.specs.Branches.{LeadsTo};
 ghost use Rattle.camp_ctx.specs.Contexts.{AreValid};
@@ -16,10 +15,11 @@ use crate::places::with_marks;
 use crate::sides::{labels_seen, side_among};
 use crate::telling::told;
 use camp_base::{Apply, Line, Name, Path, Tree};
+use camp_branch::set_of;
 use camp_ctx::CtxSet;
 use camp_repo::{Branch, Names, State};
 use camp_seq::apply_all;
-use camp_share::{SharedList, SharedMap};
+use camp_share::SharedList;
 use std::alloc::{AllocError, Global};
 use std::marker::Model;
 
@@ -34,8 +34,8 @@ pub enum Marked {
 /// A file with its places, and the lines behind them.
 #[derive(Drop)]
 pub struct MarkedFile {
-    places: Vec<Place>,
-    rest: SharedList<Line>,
+    pub(crate) places: Vec<Place>,
+    pub(crate) rest: SharedList<Line>,
 }
 
 impl Model for MarkedFile {
@@ -47,12 +47,6 @@ impl Model for MarkedFile {
 }
 
 impl MarkedFile {
-    pub(crate) fn new(places: Vec<Place>, rest: SharedList<Line>) -> MarkedFile
-        ensures { result ≡ record { places = places.items; rest = rest } }
-    {
-        MarkedFile { places, rest }
-    }
-
     /// The places, from the top.
     pub fn places(&self) -> &[Place]
         ensures value { result.now ≡ self.now.places }
@@ -72,9 +66,9 @@ impl MarkedFile {
 /// have there.
 #[derive(Drop)]
 pub struct Place {
-    before: SharedList<Line>,
-    lines: SharedList<Line>,
-    sides: Vec<Version>,
+    pub(crate) before: SharedList<Line>,
+    pub(crate) lines: SharedList<Line>,
+    pub(crate) sides: Vec<Version>,
 }
 
 impl Model for Place {
@@ -86,20 +80,6 @@ impl Model for Place {
 }
 
 impl Place {
-    pub(crate) fn new(
-        before: SharedList<Line>,
-        lines: SharedList<Line>,
-        sides: Vec<Version>,
-    ) -> Place
-        ensures { result ≡ record { before = before; lines = lines; sides = sides.items } }
-    {
-        Place {
-            before,
-            lines,
-            sides,
-        }
-    }
-
     /// The lines before it, up to the place above.
     pub fn before(&self) -> &SharedList<Line>
         ensures value { result.now ≡ self.now.before }
@@ -157,11 +137,12 @@ fn marks_at(branch: &Branch, tree: &Tree, path: &Path) -> Result<Marked, AllocEr
 fn names_in_pairs(branch: &Branch, pairs: &[(Name, Name)]) -> Result<Names, AllocError>
     ensures { IfOk result (λ names. names ≡ names_in_pairs branch.now pairs.now) }
 {
-    let mut set = SharedMap::new(branch.catches().allocator());
+    let alloc = branch.catches().allocator();
+    let mut names = Vec::new(alloc);
     for pair in pairs {
-        let first = set.inserted(pair.0, ())?;
-        set = first.inserted(pair.1, ())?;
+        names.extend_from_slice(&[pair.0, pair.1])?;
     }
+    let set = set_of(alloc, &names)?;
     in_order(branch, &set)
 }
 
@@ -197,7 +178,7 @@ fn push_made(
     let Some(made) = made else {
         return Ok(());
     };
-    if is_same(lines, &made) {
+    if *lines == made {
         return Ok(());
     }
     versions.push(Version {
@@ -205,12 +186,6 @@ fn push_made(
         lines: made,
     })?;
     Ok(())
-}
-
-fn is_same(lines: &SharedList<Line>, others: &SharedList<Line>) -> bool
-    ensures { result ≡ pointwise bytes_eq lines.now others.now }
-{
-    lines == others
 }
 
 /// What a patch would make of a path: what is there behind the changes of its side.

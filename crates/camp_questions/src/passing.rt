@@ -207,22 +207,15 @@ fn moved_to(alloc: Global, x: &Contexted, hunk: &Hunk, line: u32) -> Result<Cont
     if line == hunk.line() {
         return x.try_clone();
     }
+    let Some(moved) = hunk.moved(line)? else {
+        unreachable!();
+    };
     let patch = x.patch();
     let moved = Named {
         name: patch.name,
         place: patch.place,
         inverse: patch.inverse,
-        prim: hunk_moved(hunk, line)?,
+        prim: Primitive::Hunk(moved),
     };
     Contexted::new(alloc, Seq::empty(alloc), moved)
-}
-
-fn hunk_moved(hunk: &Hunk, line: u32) -> Result<Primitive, AllocError>
-    requires { IsInRange (at_line line hunk.now) }
-    ensures { IfOk result (λ moved. moved ≡ primitive.Hunk (at_line line hunk.now)) }
-{
-    let Some(moved) = hunk.moved(line)? else {
-        unreachable!();
-    };
-    Ok(Primitive::Hunk(moved))
 }

@@ -1,8 +1,7 @@
 //! The places of a file where versions of it differ from it.
 ghost use Rattle.std.specs.Prelude.{◌≡◌, [], ◌∷◌, ◌++◌, map, filter, fold, if◌then◌else◌, IfOk, OnOk};
 ghost use Rattle.std.specs.List.{slice_range};
-ghost use Rattle.camp_questions.specs.Inside.Placing.{is_within};
-ghost use Rattle.camp_questions.specs.Places.{at_place, differs_within, file_from, joined, place_from, range_of, touch, with_marks, with_range};
+ghost use Rattle.camp_questions.specs.Places.{at_place, differs_within, file_from, is_within, joined, place_from, range_of, touch, with_marks, with_range};
 
 use crate::common_lines::{common_end, common_front};
 use crate::marking::{MarkedFile, Place, Version};
@@ -48,7 +47,7 @@ fn file_with(
         at = place.to;
     }
     let rest = part(lines, at, lines.len())?;
-    Ok(MarkedFile::new(places, rest))
+    Ok(MarkedFile { places, rest })
 }
 
 /// The lines of a file where each version differs from it.
@@ -150,7 +149,11 @@ fn place_from(
     let before = part(lines, at, place.from)?;
     let within = part(lines, place.from, place.to)?;
     let sides = sides_at(lines, versions, ranges, place)?;
-    Ok(Place::new(before, within, sides))
+    Ok(Place {
+        before,
+        lines: within,
+        sides,
+    })
 }
 
 /// What those versions have at a place that differ within it.

@@ -89,8 +89,9 @@ pub(crate) fn labels_seen(branch: &Branch) -> Result<CtxSet, AllocError>
     let mut undone = Seq::empty(alloc);
     let mut seen = CtxSet::empty(alloc);
     for at in (0..catches.len()).rev() {
-        seen = with_told(alloc, seen, &catches[at], &undone)?;
-        append_inverse(&mut undone, catches[at].effect())?;
+        let catch = &catches[at];
+        seen = with_told(alloc, seen, catch, &undone)?;
+        append_inverse(&mut undone, catch.effect())?;
     }
     Ok(seen)
 }

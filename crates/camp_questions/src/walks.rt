@@ -26,7 +26,7 @@ pub(crate) fn names_of_lines(
     for catch in catches.iter() {
         walk.behind_all(path, catch.name(), catch.effect())?;
     }
-    Ok(walk.into_names())
+    Ok(walk.names)
 }
 
 /// What is known along the effects of a branch: of each line of a file the name of the patch that put
@@ -45,12 +45,6 @@ impl Walk {
             names: SharedList::new(alloc),
             taken: BTreeMap::new(alloc),
         }
-    }
-
-    fn into_names(self) -> SharedList<Name>
-        ensures { result ≡ (known_in self).names }
-    {
-        self.names
     }
 
     /// Goes on behind an effect of a patch of this name.

@@ -1,5 +1,5 @@
 -- What was answered to a question, and what comes of a call that goes by it.
-use Rattle.camp_uses.proofs.Words.{◌≡◌, ◌≢◌, ◌<◌, ◌||◌, ◌⊎◌, inl, inr, ℕ, Bool, true, false, not, ◌&&◌, List, [], ◌∷◌, ◌++◌, map, length, Option, None, Some, MatchOption, Result, Ok, Err, IsErrAnd, bytes_eq, refl, sym, ap, ◌∙◌, subst, arith, same_Some, Catch, has_patch, is_among, name_of, names_of, other_names}
+use Rattle.camp_uses.proofs.Words.{◌≡◌, ◌≢◌, ◌<◌, ◌||◌, ◌⊎◌, inl, inr, ℕ, Bool, true, false, not, ◌&&◌, List, [], ◌∷◌, ◌++◌, map, length, Option, None, Some, Result, Ok, Err, IsErrAnd, bytes_eq, refl, sym, ap, ◌∙◌, subst, arith, same_Some, Catch, has_patch, is_among, name_of, names_of, other_names}
 use Rattle.camp_uses.proofs.Words.{Outcome, Reply, Next, Answer, AcceptedCallsHaveEffect, Has, Contents, catches_of, Decision, becomes, first_lacked, is_empty, is_full_with, pull_wanted, refused, refused_if, step, wanted, with_patches, IsShown, Patch, patch_in, GoesWithHeld, HasThem, IsRefusal, MayRefuse, MayRefuseFor, PullsAlong}
 use Rattle.std.specs.Option.{option_map_or}
 use Rattle.std.proofs.lemmas.List.Folds.{list_any-append}
@@ -19,7 +19,9 @@ use Rattle.camp_questions.specs.Dependencies.{AreHeldBy, HeldBy}
 use Rattle.camp_questions.specs.Laws.{AlongIsEnough, HeldCanGo}
 use Rattle.camp_questions.specs.declared.faults.Unanswered.{Unanswered}
 use Rattle.camp_questions.specs.declared.faults.Unanswered.TheVariants.{Refused, Memory}
-use Rattle.camp_questions.proofs.BranchGrowths.{none_lacked, none_lacked_among}
+use Rattle.camp_questions.proofs.AlongEnough.{none_left}
+use Rattle.camp_questions.proofs.Answering.{by_branch, by_patches, no_refusal, same_answer}
+use Rattle.camp_questions.proofs.BranchGrowths.{none_lacked_among}
 use Rattle.camp_questions.proofs.Growths.{in_order_there}
 
 -- a question for patches of a branch
@@ -33,12 +35,6 @@ record IsAnswered {A : Type 0} (state : Contents) (branch : List ℕ) (names : L
   all : first_lacked catches names ≡ None
   is : Inner catches answer
 
-apart : {A B : Type 0} (result : AnswerOf A) (answer : A) (refusal : Refusal) → result ≡ Ok answer → result ≡ Err refusal → B
-apart result answer refusal e f = cc
-
-same_answer : {A : Type 0} (result : AnswerOf A) (one other : A) → result ≡ Ok one → result ≡ Ok other → one ≡ other
-same_answer result one other e f = cc
-
 same_refusal : {A : Type 0} (result : AnswerOf A) (one other : Refusal) → result ≡ Err one → result ≡ Err other → one ≡ other
 same_refusal result one other e f = cc
 
@@ -49,29 +45,25 @@ IsRefused state branch names refusal =
     ⊎ ((catches : List Catch) × (name : List ℕ) × Has state branch catches × (first_lacked catches names ≡ Some name) × (refusal ≡ NoPatch name))
 
 module _ {A : Type 0} (state : Contents) (branch : List ℕ) (names : List (List ℕ)) (Inner : List Catch → AnswerOf A → Type 0) (result : AnswerOf A) where
-  answered_names : (answer : A) → result ≡ Ok answer → (catches : List Catch) (o : Option (List ℕ)) → Has state branch catches → first_lacked catches names ≡ o → MatchOption o (Inner catches result) (λ name. result ≡ Err (NoPatch name)) → IsAnswered state branch names Inner result
-  answered_names answer is catches None has e w = record { catches = catches; has = has; all = e; is = w }
-  answered_names answer is catches (Some name) has e w = apart result answer (NoPatch name) is w
-
-  answered_at : (answer : A) → result ≡ Ok answer → (o : Option (List Catch)) → catches_of state.branches branch ≡ o → MatchOption o (result ≡ Err (NoBranch branch)) (λ catches. OfPatches catches names (Inner catches) result) → IsAnswered state branch names Inner result
-  answered_at answer is None e w = apart result answer (NoBranch branch) is w
-  answered_at answer is (Some catches) e w = answered_names answer is catches (first_lacked catches names) e refl w
+  asked : Asks state branch names Inner result → IsAnswered state branch names Inner result ⊎ ((refusal : Refusal) × (result ≡ Err refusal) × IsRefused state branch names refusal)
+  asked asks =
+      by_branch state branch (λ catches. OfPatches catches names (Inner catches)) result asks
+      (λ none e. inr (NoBranch branch, e, inl (none, refl))) (λ catches has w.
+      by_patches catches names (Inner catches) result w
+      (λ name lacks e. inr (NoPatch name, e, inr (catches, name, has, lacks, refl)))
+      (λ all is. inl (record { catches = catches; has = has; all = all; is = is })))
 
   answered : (answer : A) → result ≡ Ok answer → Asks state branch names Inner result → IsAnswered state branch names Inner result
-  answered answer is asks = answered_at answer is (catches_of state.branches branch) refl asks
-
-  refused_names : (refusal : Refusal) → result ≡ Err refusal → ((catches : List Catch) → ¬ (Inner catches result)) → (catches : List Catch) (o : Option (List ℕ)) → Has state branch catches → first_lacked catches names ≡ o → MatchOption o (Inner catches result) (λ name. result ≡ Err (NoPatch name)) → IsRefused state branch names refusal
-  refused_names refusal is never catches None has e w = absurd (never catches w)
-  refused_names refusal is never catches (Some name) has e w =
-      inr (catches, name, has, e, same_refusal result refusal (NoPatch name) is w)
-
-  refused_at : (refusal : Refusal) → result ≡ Err refusal → ((catches : List Catch) → ¬ (Inner catches result)) → (o : Option (List Catch)) → catches_of state.branches branch ≡ o → MatchOption o (result ≡ Err (NoBranch branch)) (λ catches. OfPatches catches names (Inner catches) result) → IsRefused state branch names refusal
-  refused_at refusal is never None e w = inl (e, same_refusal result refusal (NoBranch branch) is w)
-  refused_at refusal is never (Some catches) e w =
-      refused_names refusal is never catches (first_lacked catches names) e refl w
+  answered answer is asks = elim (asked asks) [
+    | inl w ↦ w
+    | inr w ↦ absurd (no_refusal w.0 answer result w.1 is)
+  ]
 
   refused_by : (refusal : Refusal) → result ≡ Err refusal → ((catches : List Catch) → ¬ (Inner catches result)) → Asks state branch names Inner result → IsRefused state branch names refusal
-  refused_by refusal is never asks = refused_at refusal is never (catches_of state.branches branch) refl asks
+  refused_by refusal is never asks = elim (asked asks) [
+    | inl w ↦ absurd (never w.catches w.is)
+    | inr w ↦ subst (IsRefused state branch names) (same_refusal result w.0 refusal w.1 is) w.2
+  ]
 
 -- what is told of an error is told of the result that has it
 pub told_as : {A : Type 0} (ComesTo : AnswerOf A → Type 0) (result : Result A Unanswered) (why : Unanswered) → IsErrAnd result (λ other. other ≡ why) → Tells ComesTo (Err why) → Tells ComesTo result
@@ -84,7 +76,7 @@ Related Relates names catches answer =
     (related : List (List ℕ)) × (answer ≡ Ok related) × Relates catches names related
 
 never_related : (Relates : List Catch → List (List ℕ) → List (List ℕ) → Type 0) (names : List (List ℕ)) (refusal : Refusal) (catches : List Catch) → ¬ (Related Relates names catches (Err refusal))
-never_related Relates names refusal catches w = apart (Err refusal) w.0 refusal w.1 refl
+never_related Relates names refusal catches w = no_refusal refusal w.0 (Err refusal) refl w.1
 
 relates : (Relates : List Catch → List (List ℕ) → List (List ℕ) → Type 0) (names : List (List ℕ)) (catches : List Catch) (answer : List (List ℕ)) → Related Relates names catches (Ok answer) → Relates catches names answer
 relates Relates names catches answer w =
@@ -104,82 +96,36 @@ module _ (state : Contents) (from to : List ℕ) (names : List (List ℕ)) where
   abbrev Between : List Catch → List Catch → AnswerOf (List (List ℕ)) → Type 0
   Between theirs ours = OfTwo from to (OfPatches theirs names (AlongOr theirs ours names))
 
-  -- it is refused so
-  abbrev Refusing : Refusal → AnswerOf (List (List ℕ))
-  Refusing refusal = Err refusal
+  -- what comes along is told, or for what the pull may be refused
+  abbrev Tell : AnswerOf (List (List ℕ)) → Type 0
+  Tell (Ok told) = IsAlong state from to names told
+  Tell (Err refusal) = MayRefuseFor state from to names refusal
 
-  -- for what the question is refused between two branches
-  may_refuse : (refusal : Refusal) (theirs ours : List Catch) (o : Option (List ℕ)) → Has state from theirs → first_lacked theirs names ≡ o → MatchOption o (AlongOr theirs ours names (Err refusal)) (λ name. Refusing refusal ≡ Err (NoPatch name)) → MayRefuseFor state from to names refusal
-  may_refuse refusal theirs ours (Some name) has lacks e =
-      subst (MayRefuseFor state from to names) (same_refusal (Refusing refusal) (NoPatch name) refusal e refl) (theirs, has, lacks)
-  may_refuse refusal theirs ours None has lacks (inl w) = apart (Err refusal) w.0 refusal w.1 refl
-  may_refuse refusal theirs ours None has lacks (inr w) =
-      subst (MayRefuseFor state from to names) (same_refusal (Refusing refusal) (Diverged w.0) refusal w.1 refl) tt
-
-  between_refused : (refusal : Refusal) (theirs ours : List Catch) → Has state from theirs → Between theirs ours (Err refusal) → MayRefuseFor state from to names refusal
-  between_refused refusal theirs ours has (inl w) =
-      subst (MayRefuseFor state from to names) (same_refusal (Refusing refusal) (SameBranch to) refusal w.1 refl) w.0
-  between_refused refusal theirs ours has (inr w) =
-      may_refuse refusal theirs ours (first_lacked theirs names) has refl w.1
-
-  into_refused : (refusal : Refusal) (theirs : List Catch) → Has state from theirs → (o : Option (List Catch)) → catches_of state.branches to ≡ o → MatchOption o (Refusing refusal ≡ Err (NoBranch to)) (λ ours. Between theirs ours (Err refusal)) → MayRefuseFor state from to names refusal
-  into_refused refusal theirs has None lacks e =
-      subst (MayRefuseFor state from to names) (same_refusal (Refusing refusal) (NoBranch to) refusal e refl) lacks
-  into_refused refusal theirs has (Some ours) is w = between_refused refusal theirs ours has w
-
-  from_refused : (refusal : Refusal) (o : Option (List Catch)) → catches_of state.branches from ≡ o → MatchOption o (Refusing refusal ≡ Err (NoBranch from)) (λ theirs. OfBranch state to (λ ours. Between theirs ours) (Err refusal)) → MayRefuseFor state from to names refusal
-  from_refused refusal None lacks e =
-      subst (MayRefuseFor state from to names) (same_refusal (Refusing refusal) (NoBranch from) refusal e refl) lacks
-  from_refused refusal (Some theirs) is w = into_refused refusal theirs is (catches_of state.branches to) refl w
+  told_along : (answer : AnswerOf (List (List ℕ))) → AreAlong state from to names answer → Tell answer
+  told_along answer asks =
+      by_branch state from (λ theirs. OfBranch state to (Between theirs)) answer asks (λ none e. subst Tell (sym e) none) (λ theirs from_has w.
+      by_branch state to (Between theirs) answer w (λ none e. subst Tell (sym e) none) (λ ours to_has v. elim v [
+        | inl one ↦ subst Tell (sym one.1) one.0
+        | inr two ↦ by_patches theirs names (AlongOr theirs ours names) answer two.1 (λ name lacks e. subst Tell (sym e) (theirs, from_has, lacks)) (λ all u. elim u [
+          | inl it ↦ subst Tell (sym it.1) (record { theirs = theirs; ours = ours; from_has = from_has; to_has = to_has; all = all; comes = it.2 })
+          | inr apart ↦ subst Tell (sym apart.1) tt
+        ])
+      ]))
 
   -- the question is refused as the pull is
   pub along_refused : (why : Unanswered) → TellsAlong state from to names (Err why) → MayRefuse state from to names why
   along_refused Memory told = tt
-  along_refused (Refused refusal) told = from_refused refusal (catches_of state.branches from) refl told
-
-  found_between : (told : List (List ℕ)) (theirs ours : List Catch) (o : Option (List ℕ)) → Has state from theirs → Has state to ours → first_lacked theirs names ≡ o → MatchOption o (AlongOr theirs ours names (Ok told)) (λ name. Ok told ≡ Err (NoPatch name)) → IsAlong state from to names told
-  found_between told theirs ours (Some name) from_has to_has lacks e = apart (Ok told) told (NoPatch name) refl e
-  found_between told theirs ours None from_has to_has lacks (inl w) = record {
-    theirs = theirs;
-    ours = ours;
-    from_has = from_has;
-    to_has = to_has;
-    all = lacks;
-    comes = subst (ComesAlong theirs ours names) (same_answer (Ok told) w.0 told w.1 refl) w.2;
-  }
-  found_between told theirs ours None from_has to_has lacks (inr w) = apart (Ok told) told (Diverged w.0) refl w.1
-
-  found_two : (told : List (List ℕ)) (theirs ours : List Catch) → Has state from theirs → Has state to ours → Between theirs ours (Ok told) → IsAlong state from to names told
-  found_two told theirs ours from_has to_has (inl w) = apart (Ok told) told (SameBranch to) refl w.1
-  found_two told theirs ours from_has to_has (inr w) =
-      found_between told theirs ours (first_lacked theirs names) from_has to_has refl w.1
-
-  found_into : (told : List (List ℕ)) (theirs : List Catch) → Has state from theirs → (o : Option (List Catch)) → catches_of state.branches to ≡ o → MatchOption o (Ok told ≡ Err (NoBranch to)) (λ ours. Between theirs ours (Ok told)) → IsAlong state from to names told
-  found_into told theirs has None lacks e = apart (Ok told) told (NoBranch to) refl e
-  found_into told theirs has (Some ours) is w = found_two told theirs ours has is w
-
-  found_from : (told : List (List ℕ)) (o : Option (List Catch)) → catches_of state.branches from ≡ o → MatchOption o (Ok told ≡ Err (NoBranch from)) (λ theirs. OfBranch state to (λ ours. Between theirs ours) (Ok told)) → IsAlong state from to names told
-  found_from told None lacks e = apart (Ok told) told (NoBranch from) refl e
-  found_from told (Some theirs) is w = found_into told theirs is (catches_of state.branches to) refl w
-
-  found_along : (told : List (List ℕ)) → AreAlong state from to names (Ok told) → IsAlong state from to names told
-  found_along told w = found_from told (catches_of state.branches from) refl w
+  along_refused (Refused refusal) told = told_along (Err refusal) told
 
 -- a pull is accepted, or refused for what it may be
 abbrev AnswersSo : Contents → List ℕ → List ℕ → List (List ℕ) → Decision → Type 0
 AnswersSo state from to names (Next next) = Unit {0}
 AnswersSo state from to names (Answer (reply.Refused refusal)) = MayRefuseFor state from to names refusal
-AnswersSo state from to names (Answer (reply.Done at)) = ⊥
-AnswersSo state from to names (Answer (reply.Tree tree)) = ⊥
-AnswersSo state from to names (Answer (reply.Conflicts pairs)) = ⊥
-AnswersSo state from to names (Answer (reply.Names told)) = ⊥
+AnswersSo state from to names (Answer other) = ⊥
 
 is_refusal : (state : Contents) (from to : List ℕ) (names : List (List ℕ)) (told : Reply) → AnswersSo state from to names (Answer told) → IsRefusal told
 is_refusal state from to names (reply.Refused refusal) w = (refusal, refl)
-is_refusal state from to names (reply.Done at) w = absurd w
-is_refusal state from to names (reply.Tree tree) w = absurd w
-is_refusal state from to names (reply.Conflicts pairs) w = absurd w
-is_refusal state from to names (reply.Names listed) w = absurd w
+is_refusal state from to names other w = absurd w
 
 -- a list without a name has none
 none_among : {A : Type 0} (names : List (List ℕ)) (n : List ℕ) → is_empty names ≡ true → is_among names n ≡ true → A
@@ -210,10 +156,6 @@ module _ (state : Contents) (from to : List ℕ) (names told : List (List ℕ)) 
       by_patch false e =
           none_among (wanted along.ours told) n none (among_kept (λ name. not (has_patch along.ours name)) told n ∙ (λ i. is_told n among e i && not (e i)))
 
-  none_left : first_lacked along.theirs told ≡ None
-  none_left =
-      none_lacked along.theirs told (λ n among. in_order_there along.theirs (wanted along.ours names ++ along.comes.3.0) n (ap (λ l. is_among l n) (sym along.comes.3.2) ∙ among))
-
   by_outcome : (outcome : Outcome) → UnlessHeld state from to names (becomes state to outcome)
   by_outcome (Ok catches) free = tt
   by_outcome (Err (blocked.Depends patch on)) free = absurd (free patch on refl)
@@ -232,14 +174,14 @@ module _ (state : Contents) (from to : List ℕ) (names told : List (List ℕ)) 
 
   by_two : (b : Bool) → bytes_eq from to ≡ b → UnlessHeld state from to names (refused_if b (SameBranch to) (with_patches along.theirs told (pull_wanted state to along.theirs along.ours (wanted along.ours told))))
   by_two true e free = same_name from to e
-  by_two false e free = by_lacked (first_lacked along.theirs told) none_left free
+  by_two false e free = by_lacked (first_lacked along.theirs told) (none_left along.theirs along.ours names told along.all along.comes) free
 
   answers_unless : UnlessHeld state from to names (step state (call.Pull from to (Some told)))
   answers_unless = rw along.from_has (rw along.to_has (by_two (bytes_eq from to) refl))
 
 module _ (state : Contents) (from to : List ℕ) (names told : List (List ℕ)) (enough : AlongIsEnough) (is : AreAlong state from to names (Ok told)) where
   found : IsAlong state from to names told
-  found = found_along state from to names told is
+  found = told_along state from to names (Ok told) is
 
   pull_answers : AnswersSo state from to names (step state (call.Pull from to (Some told)))
   pull_answers = answers_unless state from to names told found (enough state from to names told is).1

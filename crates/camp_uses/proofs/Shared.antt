@@ -1,5 +1,5 @@
 -- What the answers of a head say to callers.
-use Rattle.camp_uses.proofs.Words.{◌≡◌, ℕ, false, true, List, Option, None, Some, MatchOption, Result, Ok, Err, refl, subst, Files, LeadsTo, Catch, Call, Reply, Done, Refused, Tree, Conflicts, Names, Caller, Says, IsAnswered, IsLegal, own, Fault, Memory, Busy, Full, Next, Answer, Has, HistoriesTellTrees, repository, Contents, catches_of, Decision, step}
+use Rattle.camp_uses.proofs.Words.{◌≡◌, ℕ, false, true, List, Option, None, Some, MatchOption, Result, Ok, Err, refl, subst, Files, LeadsTo, Catch, Call, Reply, Done, Tree, Caller, Says, IsAnswered, IsLegal, own, Fault, Memory, Busy, Full, Answer, Has, HistoriesTellTrees, repository, Contents, catches_of, Decision, step}
 use Rattle.camp_call.specs.declared.calls.Call.TheVariants as call
 use Rattle.camp_object.specs.Asking.{Accepts}
 use Rattle.camp_object.proofs.Asks.{accepted_before, accepted_writes}
@@ -9,18 +9,14 @@ use Rattle.camp_uses.specs.Shared.{Grows, HoldsTree, LacksBranch, tree_in}
 -- the calls of a caller, by what it was answered
 pub grows : (caller : Caller) (seen now : List (ℕ × Call)) (asked : Call) (answer : Result Reply Fault) → Says repository caller seen asked answer now → Grows (own caller.seat seen) asked answer (own caller.seat now)
 grows caller seen now asked (Ok (Done at)) says = says.own_grows
-grows caller seen now asked (Ok (Refused refusal)) says = says.0.own_stays
-grows caller seen now asked (Ok (Tree tree)) says = says.0.own_stays
-grows caller seen now asked (Ok (Conflicts conflicts)) says = says.0.own_stays
-grows caller seen now asked (Ok (Names names)) says = says.0.own_stays
+grows caller seen now asked (Ok other) says = says.0.own_stays
 grows caller seen now asked (Err Memory) says = says.own_stays
 grows caller seen now asked (Err (Busy lost)) says = says.adds_nothing.own_stays
 grows caller seen now asked (Err Full) says = says.adds_nothing.own_stays
 
 -- one answer tells one tree
 same_tree : (one other : Files) (comes : Decision) → comes ≡ Answer (Tree one) → comes ≡ Answer (Tree other) → one ≡ other
-same_tree one other (Next next) first second = cc
-same_tree one other (Answer answer) first second = cc
+same_tree one other comes first second = cc
 
 -- a branch that has a tree is there
 is_there : (state : Contents) (branch : List ℕ) (tree : Files) (found : Option (List Catch)) → catches_of state.branches branch ≡ found → step state (call.Tree branch) ≡ Answer (Tree tree) → (catches : List Catch) × Has state branch catches
@@ -50,18 +46,14 @@ never_done caller seen now branch at legal accepts =
 pub asks_alone : (caller : Caller) (seen now : List (ℕ × Call)) (branch : List ℕ) (answer : Result Reply Fault) → IsLegal repository now → Says repository caller seen (call.Tree branch) answer now → own caller.seat now ≡ own caller.seat seen
 asks_alone caller seen now branch (Ok (Done at)) legal says =
     absurd (never_done caller seen now branch at legal says)
-asks_alone caller seen now branch (Ok (Refused refusal)) legal says = says.0.own_stays
-asks_alone caller seen now branch (Ok (Tree tree)) legal says = says.0.own_stays
-asks_alone caller seen now branch (Ok (Conflicts conflicts)) legal says = says.0.own_stays
-asks_alone caller seen now branch (Ok (Names names)) legal says = says.0.own_stays
+asks_alone caller seen now branch (Ok other) legal says = says.0.own_stays
 asks_alone caller seen now branch (Err Memory) legal says = says.own_stays
 asks_alone caller seen now branch (Err (Busy lost)) legal says = says.adds_nothing.own_stays
 asks_alone caller seen now branch (Err Full) legal says = says.adds_nothing.own_stays
 
 -- one state gives one answer
 same_answer : (one other : Reply) (comes : Decision) → comes ≡ Answer one → comes ≡ Answer other → one ≡ other
-same_answer one other (Next next) first second = cc
-same_answer one other (Answer answer) first second = cc
+same_answer one other comes first second = cc
 
 -- where the answer tells no tree, there is no branch
 module _ (law : HistoriesTellTrees) (history : List (ℕ × Call)) (branch : List ℕ) (answer : Reply) (none : tree_in answer ≡ None) (answered : IsAnswered repository history (call.Tree branch) answer) where
@@ -80,7 +72,4 @@ module _ (law : HistoriesTellTrees) (history : List (ℕ × Call)) (branch : Lis
 pub found : HistoriesTellTrees → (caller : Caller) (seen now : List (ℕ × Call)) (branch : List ℕ) (answer : Reply) → IsLegal repository now → Says repository caller seen (call.Tree branch) (Ok answer) now → MatchOption (tree_in answer) (LacksBranch now branch) (HoldsTree now branch)
 found law caller seen now branch (Done at) legal says = absurd (never_done caller seen now branch at legal says)
 found law caller seen now branch (Tree tree) legal says = holds law now branch tree says.1
-found law caller seen now branch (Refused refusal) legal says = lacks_branch law now branch (Refused refusal) refl says.1
-found law caller seen now branch (Conflicts conflicts) legal says =
-    lacks_branch law now branch (Conflicts conflicts) refl says.1
-found law caller seen now branch (Names names) legal says = lacks_branch law now branch (Names names) refl says.1
+found law caller seen now branch other legal says = lacks_branch law now branch other refl says.1

@@ -10,7 +10,7 @@ pub use Rattle.camp_branch.specs.Obliterating.{ObliterateGives, other_names}
 pub use Rattle.camp_branch.specs.Pulling.{Outcome, PullGives}
 pub use Rattle.camp_call.specs.declared.calls.Call.{Call}
 pub use Rattle.camp_call.specs.declared.replies.Reply.{Reply}
-pub use Rattle.camp_call.specs.declared.replies.Reply.TheVariants.{Conflicts, Done, Names, Refused, Tree}
+pub use Rattle.camp_call.specs.declared.replies.Reply.TheVariants.{Done, Tree}
 pub use Rattle.camp_catch.specs.MergingLists.{MergeLists}
 pub use Rattle.camp_catch.specs.declared.catches.Catch.{Catch}
 pub use Rattle.camp_clients.specs.Runs.{OneByOne, lists_of}

@@ -2,18 +2,14 @@
 use Rattle.std.specs.Prelude.{◌≡◌, ℕ, List, [], ◌∷◌, ◌++◌, length, Result, Ok, Err}
 use Rattle.camp_call.specs.declared.calls.Call.{Call}
 use Rattle.camp_call.specs.declared.replies.Reply.{Reply}
-use Rattle.camp_call.specs.declared.replies.Reply.TheVariants.{Done, Refused, Tree, Conflicts, Names}
+use Rattle.camp_call.specs.declared.replies.Reply.TheVariants.{Done}
 use Rattle.camp_object.specs.declared.faults.Fault.{Fault}
-use Rattle.camp_object.specs.declared.faults.Fault.TheVariants.{Memory, Busy, Full}
+use Rattle.camp_object.specs.declared.faults.Fault.TheVariants.{Memory}
 
 -- a call that is told a number is booked as the call of that number; a refusal, an answer to a question and a want of
 -- memory leave all as it was; there is no other fault
 abbrev pub Leaves : ℕ → List (ℕ × Call) → Call → Result Reply Fault → List (ℕ × Call) → Type 0
 Leaves seat old call (Ok (Done at)) new = (at ≡ length new) × (new ≡ old ++ (seat, call) ∷ [])
-Leaves seat old call (Ok (Refused refusal)) new = new ≡ old
-Leaves seat old call (Ok (Tree tree)) new = new ≡ old
-Leaves seat old call (Ok (Conflicts conflicts)) new = new ≡ old
-Leaves seat old call (Ok (Names names)) new = new ≡ old
+Leaves seat old call (Ok other) new = new ≡ old
 Leaves seat old call (Err Memory) new = new ≡ old
-Leaves seat old call (Err (Busy lost)) new = ⊥
-Leaves seat old call (Err Full) new = ⊥
+Leaves seat old call (Err other) new = ⊥

@@ -19,9 +19,8 @@ inserted numbers Show = None
 
 -- the numbers that a reply shows
 abbrev pub numbers_in : NumberReply → Option (List ℕ)
-numbers_in (Done at) = None
-numbers_in Present = None
 numbers_in (Shown numbers) = Some numbers.items
+numbers_in other = None
 
 -- a number that is there is refused; a question shows the numbers
 abbrev pub Replies : List ℕ → NumberCall → NumberReply → Type 0
@@ -34,8 +33,7 @@ is_insert Show = false
 
 abbrev pub position_of : NumberReply → Option ℕ
 position_of (Done at) = Some at
-position_of Present = None
-position_of (Shown numbers) = None
+position_of other = None
 
 -- the list as an object
 abbrev pub numbers_object : Sequential (List ℕ) NumberCall NumberReply

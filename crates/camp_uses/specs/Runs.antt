@@ -4,7 +4,7 @@ use Rattle.camp_call.specs.declared.calls.Call.{Call}
 use Rattle.camp_run.specs.Outputs.{IsOutput}
 use Rattle.camp_run.specs.Serial.{IsSerial}
 use Rattle.camp_run.specs.declared.faults.RunFault.{RunFault}
-use Rattle.camp_run.specs.declared.faults.RunFault.TheVariants.{Script, Foreign, Memory, Read, Write}
+use Rattle.camp_run.specs.declared.faults.RunFault.TheVariants.{Script, Foreign}
 use Rattle.camp_script.specs.Reading.{script_of}
 
 -- the bytes are a script, and a text is the output of its sections, asked one after the other
@@ -16,6 +16,4 @@ IsOutputOf bytes history text =
 abbrev pub IsToldOf : List ℕ → RunFault → Type 0
 IsToldOf bytes (Script fault) = script_of bytes ≡ Err fault
 IsToldOf bytes Foreign = ⊥
-IsToldOf bytes Memory = Unit {0}
-IsToldOf bytes Read = Unit {0}
-IsToldOf bytes Write = Unit {0}
+IsToldOf bytes other = Unit {0}

@@ -1,11 +1,11 @@
 -- What callers at the seats of one head conclude.
-use Rattle.std.specs.Prelude.{◌≡◌, ℕ, List, [], ◌∷◌, ◌++◌, Option, None, Some, Result, Ok, Err}
+use Rattle.std.specs.Prelude.{◌≡◌, ℕ, List, [], ◌∷◌, ◌++◌, Option, None, Some, Result, Ok}
 use Rattle.camp_base.specs.Trees.{Files}
 use Rattle.camp_catch.specs.declared.catches.Catch.{Catch}
 use Rattle.camp_branch.specs.Branches.{LeadsTo}
 use Rattle.camp_call.specs.declared.calls.Call.{Call}
 use Rattle.camp_call.specs.declared.replies.Reply.{Reply}
-use Rattle.camp_call.specs.declared.replies.Reply.TheVariants.{Done, Refused, Tree, Conflicts, Names}
+use Rattle.camp_call.specs.declared.replies.Reply.TheVariants.{Done, Tree}
 use Rattle.camp_object.specs.Histories.{replay}
 use Rattle.camp_object.specs.declared.faults.Fault.{Fault}
 use Rattle.camp_repo.specs.Laws.{Has}
@@ -29,16 +29,9 @@ pub record LacksBranch (history : List (ℕ × Call)) (branch : List ℕ) : Type
 -- the tree that a reply tells, if it tells one
 abbrev pub tree_in : Reply → Option Files
 tree_in (Tree tree) = Some tree
-tree_in (Done at) = None
-tree_in (Refused refusal) = None
-tree_in (Conflicts conflicts) = None
-tree_in (Names names) = None
+tree_in other = None
 
 -- a caller's calls: one more where it was told a number, and else as before
 abbrev pub Grows : List Call → Call → Result Reply Fault → List Call → Type 0
 Grows old call (Ok (Done at)) new = new ≡ old ++ call ∷ []
-Grows old call (Ok (Refused refusal)) new = new ≡ old
-Grows old call (Ok (Tree tree)) new = new ≡ old
-Grows old call (Ok (Conflicts conflicts)) new = new ≡ old
-Grows old call (Ok (Names names)) new = new ≡ old
-Grows old call (Err fault) new = new ≡ old
+Grows old call other new = new ≡ old

@@ -1,6 +1,5 @@
-use Rattle.camp_questions.proofs.Words.{◌≢◌, ◌∙◌, ℕ, List, sym, subst, true≢false, bytes_eq-Decides}
+use Rattle.camp_questions.proofs.Words.{◌≢◌, ◌∙◌, ℕ, List, sym, subst, true≢false, bytes_eq-Decides, StandBehind}
 use Rattle.camp_questions.proofs.AlongEnough.{along_told}
-use Rattle.camp_questions.specs.Inside.Alongside.{StandBehind}
 use Rattle.camp_questions.proofs.bringing.along.Goals as goal
 
 pub brought-requires : goal.brought-requires

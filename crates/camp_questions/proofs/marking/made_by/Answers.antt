@@ -1,5 +1,4 @@
 use Rattle.camp_questions.proofs.Words.{Files, IfOk-weaker, subst, sym, AppliesAll}
-use Rattle.camp_questions.proofs.MarkSteps.{makes_at}
 use Rattle.camp_questions.proofs.SidesApply.{side_applies}
 use Rattle.camp_questions.proofs.marking.made_by.Goals as goal
 
@@ -11,4 +10,5 @@ unreachable-requires c =
 
 pub returns : goal.returns
 returns c =
-    IfOk-weaker c.file_at.result _ _ (λ made is. makes_at c.args.seen.now c.args.tree.now c.apply_all.new.tree c.args.path.now c.args.name.now c.in_ok-side.side made c.in_ok-side.ensures (subst (λ t. AppliesAll c.in_ok-side.side t c.apply_all.new.tree) c.in_ok-next.ensures.exact c.in-Ok.ensures.exact) is) c.file_at.ensures
+    let applies = subst (λ t. AppliesAll c.in_ok-side.side t c.apply_all.new.tree) c.in_ok-next.ensures.exact c.in-Ok.ensures.exact in
+    IfOk-weaker c.file_at.result _ _ (λ made is. (c.in_ok-side.side, c.apply_all.new.tree, c.in_ok-side.ensures, applies, is)) c.file_at.ensures

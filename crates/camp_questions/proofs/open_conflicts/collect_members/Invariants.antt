@@ -1,5 +1,4 @@
-use Rattle.camp_questions.proofs.Words.{◌≡◌, ◌++◌, filter, flat_map, map, take, member_name, members_of}
-use Rattle.camp_branch.specs.Inside.Collecting.{pair_of}
+use Rattle.camp_questions.proofs.Words.{◌≡◌, ◌++◌, filter, flat_map, map, take, member_name, members_of, pair_of}
 use Rattle.camp_questions.proofs.OpenPairs.{opens}
 use Rattle.camp_questions.proofs.open_conflicts.collect_members.Given as goal
 

@@ -1,5 +1,4 @@
-use Rattle.camp_questions.proofs.Words.{◌≡◌, ◌++◌}
-use Rattle.camp_questions.specs.Inside.OpenPairs.{open_in}
+use Rattle.camp_questions.proofs.Words.{◌≡◌, ◌++◌, open_in}
 use Rattle.camp_questions.proofs.open_conflicts.collected.Given as goal
 
 abbrev pub invariant-loop-catch : goal.invariant-loop-catch

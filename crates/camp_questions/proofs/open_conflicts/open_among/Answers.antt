@@ -1,5 +1,4 @@
-use Rattle.camp_questions.proofs.Words.{List, subst, IsInOrder, Pair, sorted_once}
-use Rattle.std.proofs.lemmas.List.Filters.{dedup_is}
+use Rattle.camp_questions.proofs.Words.{List, subst, IsInOrder, Pair, sorted_once, dedup_is}
 use Rattle.camp_questions.proofs.OpenPairs.{open_by}
 use Rattle.camp_questions.proofs.open_conflicts.open_among.Goals as goal
 

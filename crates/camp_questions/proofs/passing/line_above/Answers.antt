@@ -1,5 +1,4 @@
-use Rattle.camp_questions.proofs.Words.{◌≡◌, ◌<◌, ◌≤◌, ◌+◌, ◌-◌, arith, length}
-use Rattle.camp_base.specs.Limits.{greatest_reach}
+use Rattle.camp_questions.proofs.Words.{◌≡◌, ◌<◌, ◌≤◌, ◌+◌, ◌-◌, arith, length, greatest_reach}
 use Rattle.camp_questions.proofs.PassedChanges.{above_passes}
 use Rattle.camp_questions.proofs.passing.line_above.Goals as goal
 

@@ -1,5 +1,5 @@
-use Rattle.camp_questions.proofs.Words.{◌∙◌, ap, arith, get_or, refl, file_from, Range}
-use Rattle.camp_questions.proofs.PlaceSteps.{all_places, behind_places, file_of, one_more_place, rest_from}
+use Rattle.camp_questions.proofs.Words.{◌-◌, ◌∙◌, ap, arith, drop, get_or, length-drop, refl, take_all, file_from, Range}
+use Rattle.camp_questions.proofs.PlaceSteps.{all_places, behind_places, file_of, one_more_place}
 use Rattle.camp_questions.proofs.places.file_with.Goals as goal
 
 pub loop-place-init : goal.loop-place-init
@@ -13,5 +13,6 @@ loop-place-preserved c =
 
 pub returns : goal.returns
 returns c =
-    let rest = c.in_ok-rest.ensures ∙ rest_from c.args.lines.now c.loop-place.at c.len.result c.len.ensures.exact in
-    c.new.ensures ∙ ap (file_of c.loop-place.places.items) rest ∙ all_places c.args.lines.now c.args.versions.now c.args.found.now c.loop-place.place-index c.loop-place.at c.loop-place.places.items _ (omega arith) c.loop-place.invariant
+    let behind = drop c.loop-place.at c.args.lines.now in
+    let rest = c.in_ok-rest.ensures ∙ take_all (c.len.result - c.loop-place.at) behind (omega (arith, c.len.ensures.exact, length-drop c.loop-place.at c.args.lines.now)) in
+    ap (file_of c.loop-place.places.items) rest ∙ all_places c.args.lines.now c.args.versions.now c.args.found.now c.loop-place.place-index c.loop-place.at c.loop-place.places.items _ (omega arith) c.loop-place.invariant

@@ -1,5 +1,5 @@
 use Rattle.camp_questions.proofs.Words.{List, Catch, Named, ◌≡◌, ◌≤◌, ◌+◌, ◌-◌, ◌++◌, ◌∙◌, ap, arith, drop, drop_all, effect_of, get, length, subst, inverse_all, SeenToo, AreSeen, told_by}
-use Rattle.camp_questions.proofs.SeenLabels.{catch_before, nothing_so_far, one_so_far, same_at}
+use Rattle.camp_questions.proofs.SeenLabels.{catch_before, nothing_so_far, one_so_far}
 use Rattle.camp_questions.proofs.sides.labels_seen.Goals as goal
 
 pub loop-at-init : goal.loop-at-init
@@ -9,14 +9,13 @@ loop-at-init c =
 pub loop-at-preserved : goal.loop-at-preserved
 loop-at-preserved c =
     let catches : List Catch = c.in_ok-catches.catches.items in
-    let k : Catch = c.index.result.now in
+    let k : Catch = c.index-catch.result.now in
     let at = c.loop-at.at in
     let undone : List Named = c.loop-at.undone in
     let follows : at - 1 + 1 ≡ at = omega arith in
     let within : at ≤ length catches = omega (arith, c.len-at.ensures, c.in_ok-catches.catches.ok.0) in
-    let one = same_at catches (at - 1) c.index-in-loop-at.result.now k (omega arith) c.index-in-loop-at.ensures c.index.ensures in
-    let effect : c.effect.result.now ≡ effect_of k = c.effect.ensures.exact ∙ ap effect_of (c.deref-in-loop-at.ensures ∙ one) in
-    one_so_far k (drop at catches) (drop (at - 1) catches) undone c.append_inverse.new.list c.loop-at.seen c.in_ok-seen.seen (catch_before catches (at - 1) at k k follows within c.index.ensures) c.loop-at.invariant
+    let effect : c.effect.result.now ≡ effect_of k = c.effect.ensures.exact ∙ ap effect_of c.deref-in-loop-at.ensures in
+    one_so_far k (drop at catches) (drop (at - 1) catches) undone c.append_inverse.new.list c.loop-at.seen c.in_ok-seen.seen (catch_before catches (at - 1) at k k follows within c.index-catch.ensures) c.loop-at.invariant
     (λ key. subst (λ j. SeenToo undone (get c.loop-at.seen key) (told_by j key) (get c.in_ok-seen.seen key)) c.deref.ensures (c.in_ok-seen.ensures key))
     (c.in_ok-append_inverse.ensures ∙ ap (λ e. undone ++ inverse_all e) effect)
 

@@ -18,4 +18,4 @@ loop-catch-init c =
 
 pub returns : goal.returns
 returns c =
-    c.into_names.ensures ∙ ends_along c.args.path.now c.args.catches.now c.loop-catch.catch-iterator (known_in c.loop-catch.walk) c.in-None.ensures.steps.0 c.loop-catch.invariant
+    ends_along c.args.path.now c.args.catches.now c.loop-catch.catch-iterator (known_in c.loop-catch.walk) c.in-None.ensures.steps.0 c.loop-catch.invariant
