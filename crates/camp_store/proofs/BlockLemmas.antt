@@ -20,20 +20,19 @@ pub fit-append : (ts us : Texts) → AllFit ts → AllFit us → AllFit (ts ++ u
 fit-append [] us these those = those
 fit-append (t ∷ ts) us these those = (these.0, fit-append ts us these.1 those)
 
+block_more : (before t r more bytes : List ℕ) → IsBlock before t r bytes → IsBlock before t (r ++ more) (bytes ++ more)
+block_more before t r more bytes block = record {
+  gate = block.gate;
+  counts = block.counts;
+  fits = block.fits;
+  split = ap (λ (l : List ℕ). l ++ more) block.split ∙ ap (λ (l : List ℕ). block.gate ∷ l) (append_assoc (body before t) r more);
+}
+
 pub are-append : (before : List ℕ) (ts us : Texts) (front more : List ℕ) → AreBlocks before ts front → AreBlocks (chain before ts) us more
     → AreBlocks before (ts ++ us) (front ++ more)
 are-append before [] us front more none those = subst (λ (l : List ℕ). AreBlocks before us (l ++ more)) (sym none) those
 are-append before (t ∷ ts) us front more these those =
-    let block = these.1 in (
-      these.0 ++ more,
-      record {
-        gate = block.gate;
-        counts = block.counts;
-        fits = block.fits;
-        split = ap (λ (l : List ℕ). l ++ more) block.split ∙ ap (λ (l : List ℕ). block.gate ∷ l) (append_assoc (body before t) these.0 more);
-      },
-      are-append (digest_behind before t) ts us these.0 more these.2 those,
-    )
+    (these.0 ++ more, block_more before t these.0 more front these.1, are-append (digest_behind before t) ts us these.0 more these.2 those)
 
 pub are_written : (before : List ℕ) (ts : Texts) → AllFit ts → AreBlocks before ts (blocks before ts)
 are_written before [] fit = refl
@@ -124,14 +123,6 @@ block_is_no_end before text rest bytes block ends = elim (subst IsEnd block.spli
 pub block_once : (before t u r s bytes : List ℕ) → IsBlock before t r bytes → IsBlock before u s bytes → (t ≡ u) × (r ≡ s)
 block_once before t u r s bytes one other =
     body_once before t u r s one.fits other.fits (ap (λ (l : List ℕ). drop 1 l) (sym one.split ∙ other.split))
-
-block_more : (before t r more bytes : List ℕ) → IsBlock before t r bytes → IsBlock before t (r ++ more) (bytes ++ more)
-block_more before t r more bytes block = record {
-  gate = block.gate;
-  counts = block.counts;
-  fits = block.fits;
-  split = ap (λ (l : List ℕ). l ++ more) block.split ∙ ap (λ (l : List ℕ). block.gate ∷ l) (append_assoc (body before t) r more);
-}
 
 -- behind blocks of a file that stands for texts there is an end, and they are its blocks, or there is a block
 goes_on : (before : List ℕ) (ts all : Texts) (front rest whole end : List ℕ) → AreBlocks before ts front → AreBlocks before all whole → IsEnd end

@@ -1,5 +1,5 @@
 -- What the head of a text tells.
-use Rattle.camp_store.proofs.Words.{◌≡◌, ◌+◌, ◌*◌, ℕ, Bool, true, false, not, Option, Some, zero, suc, List, [], ◌∷◌, ◌++◌, Result, Ok, Err, length, take, drop, refl, sym, ◌∙◌, ap, arith, append_assoc, length-append, take_at, drop_at, length-take-le, false≢true, Fits, body, digest_behind, head}
+use Rattle.camp_store.proofs.Words.{◌≡◌, ◌+◌, ◌*◌, ℕ, zero, suc, List, [], ◌∷◌, ◌++◌, Result, Ok, Err, length, take, drop, refl, sym, ◌∙◌, ap, arith, append_assoc, length-append, take_at, drop_at, length-take-le, Fits, body, digest_behind, head}
 use Rattle.std.proofs.lemmas.Nat.{from_be_bytes-to_be_bytes_4}
 use Rattle.hex.specs.declared.error.FromHexError.{FromHexError}
 use Rattle.std.specs.Int.{to_be_bytes, from_be_bytes, w32}
@@ -107,10 +107,3 @@ pub size_not_read : (before text line : List ℕ) (read : Result (List ℕ) From
 size_not_read before text line read e is decoded err =
     let tells : decode_sized (take 8 line) 4 ≡ Ok (to_be_bytes w32 (length text)) = ap (λ (l : List ℕ). decode_sized (take 8 l) 4) is ∙ digits_decode before text in
     cc
-
-pub same_number : (o : Option ℕ) (n m : ℕ) → o ≡ Some n → o ≡ Some m → n ≡ m
-same_number o n m one other = cc
-
-pub from_not : (b : Bool) → false ≡ not b → b ≡ true
-from_not true e = refl
-from_not false e = absurd (false≢true e)

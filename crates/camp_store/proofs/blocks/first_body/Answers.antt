@@ -1,8 +1,9 @@
 use Rattle.camp_store.proofs.Words.{rules, ◌≡◌, ◌++◌, ℕ, List, not, true, length, take, refl, sym, ap, ◌∙◌, arith, length-append, append_assoc, true≢false, take_at, body, digest_behind, head}
-use Rattle.std.proofs.lemmas.Option.{none-some}
+use Rattle.std.proofs.lemmas.Bool.{not-false}
+use Rattle.std.proofs.lemmas.Option.{none-some, same_Some}
 use Rattle.std.proofs.lemmas.Slice.Eq.{bytes_eq-Decides}
 use Rattle.std.specs.Str.{bytes_eq}
-use Rattle.camp_store.proofs.HeadLemmas.{behind_at, from_not, head_at, long_body, same_number}
+use Rattle.camp_store.proofs.HeadLemmas.{behind_at, head_at, long_body}
 use Rattle.camp_store.proofs.blocks.first_body.Goals as goal
 
 pub returns-then-bytes-lt-HEAD : goal.returns-then-bytes-lt-HEAD
@@ -17,7 +18,7 @@ returns-in-None c text rest fits is =
 pub returns-then-behind-size : goal.returns-then-behind-size
 returns-then-behind-size c text rest fits is =
     let front = c.split_at.ensures.front ∙ head_at c.args.before.now text rest c.args.bytes.now is in
-    let size : c.in-Some.size ≡ length text = same_number c.told_size.result c.in-Some.size (length text) c.in-Some.is (c.told_size.ensures c.args.before.now text fits front) in
+    let size : c.in-Some.size ≡ length text = same_Some _ _ (sym c.in-Some.is ∙ c.told_size.ensures c.args.before.now text fits front) in
     let behind : c.split_at.result.1.now ≡ text ++ rest = c.split_at.ensures.back ∙ behind_at c.args.before.now text rest c.args.bytes.now is in
     omega (arith, c.if-behind-size.true, size, ap (λ (l : List ℕ). length l) behind, length-append text rest)
 
@@ -25,7 +26,7 @@ pub returns-then-ne : goal.returns-then-ne
 returns-then-ne c text rest fits is =
     let before = c.args.before.now in
     let front = c.split_at.ensures.front ∙ head_at before text rest c.args.bytes.now is in
-    let size : c.in-Some.size ≡ length text = same_number c.told_size.result c.in-Some.size (length text) c.in-Some.is (c.told_size.ensures before text fits front) in
+    let size : c.in-Some.size ≡ length text = same_Some _ _ (sym c.in-Some.is ∙ c.told_size.ensures before text fits front) in
     let behind : c.split_at.result.1.now ≡ text ++ rest = c.split_at.ensures.back ∙ behind_at before text rest c.args.bytes.now is in
     let same : c.split_at-2.result.0.now ≡ text =
     c.split_at-2.ensures.front ∙ (λ i. take (size i) (behind i)) ∙ take_at text rest (length text) refl in
@@ -38,7 +39,7 @@ returns c =
     let before = c.args.before.now in
     let text = c.split_at-2.result.0.now in
     let rest = c.split_at-2.result.1.now in
-    let equal : bytes_eq c.split_at.result.0.now c.as_slice.result.now ≡ true = from_not (bytes_eq c.split_at.result.0.now c.as_slice.result.now) (sym c.if-ne.false ∙ c.ne.ensures) in
+    let equal : bytes_eq c.split_at.result.0.now c.as_slice.result.now ≡ true = not-false (bytes_eq c.split_at.result.0.now c.as_slice.result.now) (sym c.ne.ensures ∙ c.if-ne.false) in
     let found : c.split_at.result.0.now ≡ c.as_slice.result.now = (bytes_eq-Decides c.split_at.result.0.now c.as_slice.result.now).0 equal in
     let line : c.as_slice.result.now ≡ head before text = c.as_slice.ensures.value ∙ c.in_ok-line.ensures before text c.split_at-2.ensures.front_len c.digest_behind-digest.ensures in
     let split : c.args.bytes.now ≡ body before text ++ rest =
