@@ -3,7 +3,7 @@ use Rattle.std.specs.Prelude.{◌≡◌, List, ℕ, Bool, false, ◌++◌, lengt
 use Rattle.camp_store.specs.Blocks.{AreBlocks, IsBlock, IsEnd, Stands, chain, first_digest, is_closed}
 use Rattle.camp_store.specs.Logs.{texts_of}
 use Rattle.camp_store.specs.declared.faults.StoreFault.{StoreFault}
-use Rattle.camp_store.specs.declared.faults.StoreFault.TheVariants.{Damaged, Disk, Failed, Memory, TooLong}
+use Rattle.camp_store.specs.declared.faults.StoreFault.TheVariants.{Damaged, Disk, Failed, Memory}
 use Rattle.camp_store.specs.declared.readings.Reading.{Reading}
 
 -- the file is the blocks of the texts that were read, and an end; and the rest of what was read is so
@@ -38,10 +38,8 @@ IsDamage other file = Unit {0}
 -- why bytes are not read: memory has run out, or they are damaged
 abbrev pub IsOfBytes : StoreFault → Type 0
 IsOfBytes Memory = Unit {0}
-IsOfBytes (Disk error) = ⊥
-IsOfBytes TooLong = ⊥
 IsOfBytes (Damaged count at) = Unit {0}
-IsOfBytes Failed = ⊥
+IsOfBytes other = ⊥
 
 -- why a disk is not read: so, or it has failed now; or it had failed before, and may not be used
 abbrev pub IsOfReading : Bool → StoreFault → Type 0
