@@ -1,13 +1,10 @@
 -- What a crash leaves while a batch is put behind the texts of a file.
-use Rattle.camp_store.proofs.Words.{◌≡◌, inl, inr, ℕ, ◌<◌, ◌+◌, ◌-◌, List, [], ◌∷◌, ◌++◌, length, take, drop, refl, sym, ◌∙◌, ap, subst, arith, append_assoc, length-append, length-drop, take_all, cases_eq, Torn, AllFit, AreBlocks, Stands, blocks, chain, closed_gate, first_digest, open_gate, IsBatch, IsBeforeOrAfter, Keeps, BatchesAreKept, Begun, Settled}
+use Rattle.camp_store.proofs.Words.{◌≡◌, inl, inr, ℕ, ◌<◌, ◌+◌, ◌-◌, List, [], ◌∷◌, ◌++◌, length, take, drop, refl, sym, ◌∙◌, ap, subst, arith, append_assoc, length-append, length-drop, take_all, cases_eq, Torn, AreBlocks, Stands, blocks, chain, closed_gate, first_digest, open_gate, IsBatch, IsBeforeOrAfter, Keeps, BatchesAreKept, Begun, Settled}
 use Rattle.camp_store.proofs.BlockLemmas.{are-append, chain-append, gate_any, stands_closed}
 use Rattle.camp_store.proofs.Overwriting.{front_stays, rest_stays, written_behind}
 
--- what is written of a batch behind its first gate
-abbrev pub tail : List ℕ → List (List ℕ) → List ℕ
-tail before new = drop 1 (blocks before new) ++ closed_gate ∷ []
-
-pub behind_gate_is : (new : List (List ℕ)) (digest bytes : List ℕ) → IsBatch digest new bytes → drop 1 bytes ≡ tail digest new
+-- what stands behind the first gate of a batch
+behind_gate_is : (new : List (List ℕ)) (digest bytes : List ℕ) → IsBatch digest new bytes → drop 1 bytes ≡ drop 1 (blocks digest new) ++ closed_gate ∷ []
 behind_gate_is [] digest bytes batch = absurd (omega (arith, batch.some))
 behind_gate_is (t ∷ ts) digest bytes batch = ap (λ (l : List ℕ). drop 1 l) batch.are
 
@@ -15,18 +12,14 @@ pub some_bytes : (before : List ℕ) (new : List (List ℕ)) → 0 < length new 
 some_bytes before [] some = absurd (omega (arith, some))
 some_bytes before (t ∷ ts) some = omega arith
 
--- what stands behind the first gate of a batch is what is written of it
-pub staged_is : {D : Type 0} (seen : D → List ℕ) (may_leave : D → List ℕ → Type 0) (new : List (List ℕ)) (digest bytes : List ℕ) → IsBatch digest new bytes
-    → (at : ℕ) (d0 d1 : D) → Settled seen may_leave at (take (length bytes - 1) (drop 1 bytes)) d0 d1 → Settled seen may_leave at (tail digest new) d0 d1
-staged_is seen may_leave new digest bytes batch at d0 d1 settled =
-    subst (λ (l : List ℕ). Settled seen may_leave at l d0 d1) (take_all _ _ (omega (arith, length-drop 1 bytes)) ∙ behind_gate_is new digest bytes batch) settled
+-- as a slice has it
+pub staged_is : {D : Type 0} (seen : D → List ℕ) (may_leave : D → List ℕ → Type 0) (bytes : List ℕ) (at : ℕ) (d0 d1 : D)
+    → Settled seen may_leave at (take (length bytes - 1) (drop 1 bytes)) d0 d1 → Settled seen may_leave at (drop 1 bytes) d0 d1
+staged_is seen may_leave bytes at d0 d1 settled =
+    subst (λ (l : List ℕ). Settled seen may_leave at l d0 d1) (take_all _ _ (omega (arith, length-drop 1 bytes))) settled
 
--- how long the blocks of a batch are
-pub grown_by : (new : List (List ℕ)) (digest bytes : List ℕ) → IsBatch digest new bytes → (k : ℕ) → k + length bytes - 1 ≡ k + length (blocks digest new)
-grown_by new digest bytes batch k = omega (arith, ap length batch.are, length-append (blocks digest new) (closed_gate ∷ []))
-
-module _ {D : Type 0} (seen : D → List ℕ) (may_leave : D → List ℕ → Type 0) (old new : List (List ℕ)) (some : 0 < length new) (fit : AllFit new)
-    (d0 : D) (k : ℕ) (digest : List ℕ) (keeps : Keeps seen may_leave old d0 k digest) where
+module _ {D : Type 0} (seen : D → List ℕ) (may_leave : D → List ℕ → Type 0) (old new : List (List ℕ)) (digest bytes : List ℕ) (batch : IsBatch digest new bytes)
+    (d0 : D) (k : ℕ) (keeps : Keeps seen may_leave old d0 k digest) where
   abbrev held : List ℕ
   held = keeps.front ++ closed_gate ∷ []
 
@@ -44,32 +37,33 @@ module _ {D : Type 0} (seen : D → List ℕ) (may_leave : D → List ℕ → Ty
       let is : c ≡ held ++ drop (k + 1) c = front_stays held keeps.behind c (k + 1) m held_long torn in
       subst (Stands old) (sym (is ∙ append_assoc keeps.front (closed_gate ∷ []) (drop (k + 1) c))) (stands_closed old keeps.front (drop (k + 1) c) keeps.are)
 
-  module _ (d1 : D) (staged : Settled seen may_leave (k + 1) (tail digest new) d0 d1) where
+  module _ (d1 : D) (staged : Settled seen may_leave (k + 1) (drop 1 bytes) d0 d1) where
     -- what stood behind, where it was not written over
     abbrev pub left : List ℕ
-    left = drop (length (tail digest new)) keeps.behind
+    left = drop (length (drop 1 bytes)) keeps.behind
 
     abbrev pub behind_gate : List ℕ
-    behind_gate = tail digest new ++ left
+    behind_gate = drop 1 bytes ++ left
 
     is_staged : seen d1 ≡ keeps.front ++ closed_gate ∷ behind_gate
     is_staged =
-        let torn : Torn (k + 1) (length (tail digest new)) (held ++ keeps.behind) (seen d1) = subst (λ (f : List ℕ). Torn (k + 1) (length (tail digest new)) f (seen d1)) file_is staged.others in
-        written_behind held keeps.behind (seen d1) (k + 1) (length (tail digest new)) held_long torn (tail digest new) refl staged.written
+        let torn : Torn (k + 1) (length (drop 1 bytes)) (held ++ keeps.behind) (seen d1) = subst (λ (f : List ℕ). Torn (k + 1) (length (drop 1 bytes)) f (seen d1)) file_is staged.others in
+        written_behind held keeps.behind (seen d1) (k + 1) (length (drop 1 bytes)) held_long torn (drop 1 bytes) refl staged.written
         ∙ append_assoc keeps.front (closed_gate ∷ []) behind_gate
 
     long_tail : 0 < length behind_gate
-    long_tail = omega (arith, length-append (tail digest new) left, length-append (drop 1 (blocks digest new)) (closed_gate ∷ []))
+    long_tail = omega (arith, length-append (drop 1 bytes) left, ap length (behind_gate_is new digest bytes batch), length-append (drop 1 (blocks digest new)) (closed_gate ∷ []))
 
     -- the new blocks behind a gate that counts
     counted : (gate : ℕ) → (gate ≡ closed_gate → ⊥) → AreBlocks first_digest (old ++ new) (keeps.front ++ gate ∷ drop 1 (blocks digest new))
     counted gate counts =
         are-append first_digest old new keeps.front (gate ∷ drop 1 (blocks digest new)) keeps.are
-        (subst (λ (d : List ℕ). AreBlocks d new (gate ∷ drop 1 (blocks digest new))) keeps.digest_is (gate_any digest new gate some fit counts))
+        (subst (λ (d : List ℕ). AreBlocks d new (gate ∷ drop 1 (blocks digest new))) keeps.digest_is (gate_any digest new gate batch.some batch.fit counts))
 
     regroup : (gate : ℕ) → keeps.front ++ gate ∷ behind_gate ≡ (keeps.front ++ gate ∷ drop 1 (blocks digest new)) ++ closed_gate ∷ left
     regroup gate =
-        ap (λ (l : List ℕ). keeps.front ++ gate ∷ l) (append_assoc (drop 1 (blocks digest new)) (closed_gate ∷ []) left)
+        ap (λ (l : List ℕ). keeps.front ++ gate ∷ (l ++ left)) (behind_gate_is new digest bytes batch)
+        ∙ ap (λ (l : List ℕ). keeps.front ++ gate ∷ l) (append_assoc (drop 1 (blocks digest new)) (closed_gate ∷ []) left)
         ∙ sym (append_assoc keeps.front (gate ∷ drop 1 (blocks digest new)) (closed_gate ∷ left))
 
     -- the new blocks stand whole behind any gate
@@ -90,15 +84,15 @@ module _ {D : Type 0} (seen : D → List ℕ) (may_leave : D → List ℕ → Ty
           go [] is rest = absurd (omega (arith, long_tail, ap length rest))
           go (gate ∷ more) is rest = subst (IsBeforeOrAfter old new) (sym (is ∙ ap (λ (l : List ℕ). keeps.front ++ gate ∷ l) rest)) (any_gate gate)
 
-      pub acknowledged : Settled seen may_leave k (open_gate ∷ []) d1 d2 → (grown : ℕ) → grown ≡ k + length (blocks digest new) → Keeps seen may_leave (old ++ new) d2 grown (chain digest new)
-      acknowledged settled grown size =
+      pub acknowledged : Settled seen may_leave k (open_gate ∷ []) d1 d2 → Keeps seen may_leave (old ++ new) d2 (k + length bytes - 1) (chain digest new)
+      acknowledged settled =
           let torn : Torn k 1 (keeps.front ++ closed_gate ∷ behind_gate) (seen d2) = subst (λ (f : List ℕ). Torn k 1 f (seen d2)) is_staged settled.others in
           record {
             front = keeps.front ++ open_gate ∷ drop 1 (blocks digest new);
             behind = left;
             file = written_behind keeps.front (closed_gate ∷ behind_gate) (seen d2) k 1 keeps.length_is torn (open_gate ∷ []) refl settled.written ∙ regroup open_gate;
             are = counted open_gate (λ closed. omega (arith, closed));
-            length_is = omega (arith, size, keeps.length_is, some_bytes digest new some, length-append keeps.front (open_gate ∷ drop 1 (blocks digest new)), length-drop 1 (blocks digest new));
+            length_is = omega (arith, ap length batch.are, length-append (blocks digest new) (closed_gate ∷ []), keeps.length_is, some_bytes digest new batch.some, length-append keeps.front (open_gate ∷ drop 1 (blocks digest new)), length-drop 1 (blocks digest new));
             digest_is = ap (λ (d : List ℕ). chain d new) keeps.digest_is ∙ sym (chain-append first_digest old new);
             durable = settled.durable;
           }
@@ -107,10 +101,7 @@ module _ {D : Type 0} (seen : D → List ℕ) (may_leave : D → List ℕ → Ty
 module _ {D : Type 0} (seen : D → List ℕ) (may_leave : D → List ℕ → Type 0) where
   pub each_moment : BatchesAreKept seen may_leave
   each_moment old new digest bytes at before batch keeps = record {
-    staging = λ now begun c left. staging seen may_leave old new batch.some batch.fit before at digest keeps (length bytes - 1) now begun c left;
-    opening = λ d1 d2 staged begun c left. opening seen may_leave old new batch.some batch.fit before at digest keeps d1 (as_tail d1 staged) d2 begun c left;
-    kept = λ d1 d2 staged opened. acknowledged seen may_leave old new batch.some batch.fit before at digest keeps d1 (as_tail d1 staged) d2 opened _ (grown_by new digest bytes batch at);
+    staging = staging seen may_leave old new digest bytes batch before at keeps (length bytes - 1);
+    opening = λ d1 d2 staged. opening seen may_leave old new digest bytes batch before at keeps d1 staged d2;
+    kept = λ d1 d2 staged. acknowledged seen may_leave old new digest bytes batch before at keeps d1 staged d2;
   }
-    where
-      as_tail : (d : D) → Settled seen may_leave (at + 1) (drop 1 bytes) before d → Settled seen may_leave (at + 1) (tail digest new) before d
-      as_tail d settled = subst (λ (l : List ℕ). Settled seen may_leave (at + 1) l before d) (behind_gate_is new digest bytes batch) settled
