@@ -34,22 +34,20 @@ fn is_set(matches: &ArgMatches, name: &str) -> bool
 fn command<'a>(alloc: Global) -> Result<Command<'a>, AllocError>
     ensures { IfOk result (λ command. app_of command ≡ program) }
 {
-    let serial = flag(
-        alloc,
-        "serial",
-        "Run the clients one after the other, in one thread",
-    );
-    let history = flag(
-        alloc,
-        "history",
-        "Write the history of accepted calls behind the answers",
-    );
     Command::new(alloc, "camp")
         .override_usage(USAGE)
         .after_help(REFERENCE)
-        .arg(serial)?
+        .arg(flag(
+            alloc,
+            "serial",
+            "Run the clients one after the other, in one thread",
+        ))?
         .arg(tries(alloc))?
-        .arg(history)
+        .arg(flag(
+            alloc,
+            "history",
+            "Write the history of accepted calls behind the answers",
+        ))
 }
 
 fn flag<'a>(alloc: Global, name: &'a str, help: &'a str) -> Arg<'a>

@@ -5,6 +5,6 @@ use Rattle.camp_options.proofs.words.command.Goals as goal
 pub returns : goal.returns
 returns c =
     let bare : app_of c.after_help.result ≡ new_app (codes "camp") = ap app_of_fields c.after_help.ensures ∙ ap app_of_fields c.override_usage.ensures ∙ c.new.ensures.app in
-    let one = c.in_ok-arg.ensures.shape c.flag-serial.ensures.local ∙ ap₂ with_rule bare c.flag-serial.ensures.rule in
+    let one = c.in_ok-arg.ensures.shape c.flag.ensures.local ∙ ap₂ with_rule bare c.flag.ensures.rule in
     let two = c.in_ok-arg-2.ensures.shape c.tries.ensures.local ∙ ap₂ with_rule one c.tries.ensures.rule in
-    IfOk-weaker c.arg-3.result _ (λ command. app_of command ≡ program) (λ command added. added.shape c.flag-history.ensures.local ∙ ap₂ with_rule two c.flag-history.ensures.rule) c.arg-3.ensures
+    IfOk-weaker c.arg-3.result _ (λ command. app_of command ≡ program) (λ command added. added.shape c.flag-2.ensures.local ∙ ap₂ with_rule two c.flag-2.ensures.rule) c.arg-3.ensures
