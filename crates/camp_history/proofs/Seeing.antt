@@ -1,5 +1,5 @@
 -- Lemmas on what a seat sees.
-use Rattle.camp_history.proofs.Words.{◌≡◌, ℕ, ◌<◌, ◌≤◌, List, [], ◌∷◌, ◌++◌, length, map, All, Some, refl, sym, ◌∙◌, ap, subst, arith, ◌==◌, if◌then◌else◌, cond, filter, false, suc, true, turns, map_push, length-append, All-push, All-same, append_assoc, length-map, Sequential, IsLawfulObject, IsBeginning, replay, own, Entry, Seated, asked, told, Begins, most_listed, history_of, Mark, entry_of, GetsOn, SeesMore, with_mark, HeadId, IsSeatOf, Shows, Where, Ok, Err, OnOk, OnErr, Result, own_other, count-replay, begins_self, begins_through, Based, All-weaker, ComesNext}
+use Rattle.camp_history.proofs.Words.{◌≡◌, ℕ, ◌<◌, ◌≤◌, List, [], ◌∷◌, ◌++◌, length, map, All, Some, refl, sym, ◌∙◌, ap, subst, arith, ◌==◌, if◌then◌else◌, cond, filter, false, suc, true, turns, map_push, length-append, All-push, All-same, append_assoc, length-map, Sequential, IsLawfulObject, IsBeginning, replay, own, Entry, Seated, asked, told, Begins, most_listed, history_of, Mark, entry_of, GetsOn, SeesMore, with_mark, made_of, HeadId, IsSeatOf, Shows, Where, Ok, Err, OnOk, OnErr, Result, own_other, count-replay, begins_self, begins_through, Based, All-weaker, ComesNext}
 use Rattle.camp_row.specs.declared.trails.Next.{Next}
 
 -- a seat has as many calls as it has entries
@@ -91,3 +91,8 @@ bases_begin {Call} marks version bases begins all =
 -- one mark more behind the last
 pub one_more : {Call : Type 0} (front tail now : List (Mark Call)) (mark : Mark Call) → now ≡ tail ++ mark ∷ [] → front ++ now ≡ (front ++ tail) ++ mark ∷ []
 one_more front tail now mark is = ap (λ list. front ++ list) is ∙ sym (append_assoc front tail (mark ∷ []))
+
+-- the marks of all that a seat has seen, and of a call of its own
+pub marks_with : {Call : Type 0} (seat : Seated Call) (front tail now : List (Mark Call)) (mark : Mark Call) (call : Where Call) → front ++ tail ≡ seat.marks → now ≡ tail ++ mark ∷ [] → mark.seat ≡ seat.known.number → mark.call ≡ call → front ++ now ≡ made_of seat call
+marks_with seat front tail now mark call all is number same =
+    one_more front tail now mark is ∙ (λ k. all k ++ record { seat = number k; call = same k } ∷ [])

@@ -90,14 +90,8 @@ impl<State: Object> camp_share::Share for Version<State> {
     /// The version once more: its list and its state have one more owner each, and the last few marks
     /// are copied.
     fn share(&self) -> Result<Version<State>, AllocError> {
-        let earlier = self.earlier.share()?;
         let tail = share_all(*self.tail.allocator(), &self.tail)?;
-        let state = self.state.share()?;
-        Ok(Version {
-            earlier,
-            tail,
-            state,
-        })
+        Version::made_from(&self.earlier, tail, &self.state)
     }
 }
 

@@ -173,14 +173,6 @@ impl<State: Object> Head<State> {
         ensures empty { history_of seat.now ≡ [] → IsOk result }
         ensures only_memory { IfErr result (λ fault. fault ≡ Memory) }
     {
-        Ok(self.copies(seat)?)
-    }
-
-    fn copies(&self, seat: &Seat<State>) -> Result<Vec<(u32, State::Call)>, AllocError>
-        requires { IsSeatOf self.now seat.now }
-        ensures history { IfOk result (λ history. history.items ≡ history_of seat.now) }
-        ensures empty { history_of seat.now ≡ [] → IsOk result }
-    {
         let mut history = Vec::with_capacity(*seat.tail.allocator(), seat.position() as usize)?;
         let mut marks = seat.marks_from(0);
         while let Some(mark) = marks.next() {

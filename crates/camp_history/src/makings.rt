@@ -1,5 +1,5 @@
 //! How versions are made, put into their slots, and handed on.
-ghost use Rattle.std.specs.Prelude.{◌≡◌, ◌≤◌, ℕ, ◌++◌, ◌∷◌, [], All, Some, IfOk, IfErr, IfSome, MatchOption};
+ghost use Rattle.std.specs.Prelude.{◌≡◌, ◌≤◌, ℕ, ◌++◌, ◌∷◌, [], length, map, All, Some, IfOk, IfErr, IfSome, MatchOption};
 ghost use Rattle.boxcar.specs.Table.{Shows};
 ghost use Rattle.camp_object.specs.declared.faults.Fault.TheVariants.{Memory};
 ghost use Rattle.camp_history.specs.Inside.HeadFields.{IsSlotFor};
@@ -12,7 +12,7 @@ use crate::seats::Seat;
 use crate::versions::{Base, Origin, Version};
 use boxcar::Pushed;
 use camp_object::{Fault, Object};
-use camp_share::{Share, Shared};
+use camp_share::{Share, Shared, SharedList};
 use std::alloc::AllocError;
 
 /// Where a version is made for its next call, a seat keeps the marks of this many calls for itself at most, and
@@ -22,6 +22,30 @@ const FEW: usize = 40;
 /// more calls there are; so a seat that adopts a version for each 64 calls moves none.
 const MANY: usize = 104;
 
+impl<State: Object> Version<State> {
+    ghost use Rattle.camp_object.specs.Histories.{replay};
+    ghost use Rattle.camp_history.specs.Seats.{asked, most_listed};
+
+    /// A version of these marks and of the state after them. Its list and its state have one more owner each.
+    pub(crate) fn made_from(
+        earlier: &Shared<SharedList<Mark<State::Call>>>,
+        tail: Vec<Mark<State::Call>>,
+        state: &Shared<State>,
+    ) -> Result<Version<State>, AllocError>
+        requires few { length earlier.now ≤ most_listed }
+        requires replays { replay State.object (map asked (earlier.now ++ tail.items)) ≡ Some state.now }
+        ensures { IfOk result (λ version. version ≡ earlier.now ++ tail.items) }
+    {
+        let earlier = earlier.share()?;
+        let state = state.share()?;
+        Ok(Version {
+            earlier,
+            tail,
+            state,
+        })
+    }
+}
+
 impl<State: Object> Seat<State> {
     ghost use Rattle.camp_object.specs.Histories.{replay};
     ghost use Rattle.camp_history.specs.Seats.{history_of};
@@ -30,14 +54,8 @@ impl<State: Object> Seat<State> {
     pub(crate) fn version(&self) -> Result<Version<State>, AllocError>
         ensures { IfOk result (λ version. version ≡ self.now.marks) }
     {
-        let earlier = self.earlier.share()?;
         let tail = share_all(*self.tail.allocator(), &self.tail)?;
-        let state = self.state.share()?;
-        Ok(Version {
-            earlier,
-            tail,
-            state,
-        })
+        Version::made_from(&self.earlier, tail, &self.state)
     }
 
     /// The version at the position of a call, as long as it is accepted there.
@@ -49,18 +67,12 @@ impl<State: Object> Seat<State> {
         requires { replay State.object (history_of self.now ++ (self.now.known.number, call.now.value) ∷ []) ≡ Some next.now }
         ensures { IfOk result (λ version. version ≡ made_of self.now call.now) }
     {
-        let earlier = self.earlier.share()?;
         let mut tail = share_all(*self.tail.allocator(), &self.tail)?;
         tail.push(Mark {
             seat: self.pass.number(),
             call: call.again(),
         })?;
-        let state = next.share()?;
-        Ok(Version {
-            earlier,
-            tail,
-            state,
-        })
+        Version::made_from(&self.earlier, tail, next)
     }
 }
 
@@ -113,24 +125,15 @@ impl<State: Object> Head<State> {
         ensures base { IfSome result (λ base. IsBaseAt self.now.slots (based base)) }
         ensures is { IfSome result (λ base. base.version.value ≡ version) }
     {
-        let base = self.show_at(number, version)?;
-        self.tell_origin(&base, seat);
-        Some(base)
-    }
-
-    /// Puts a version into the slot of a number, if there is none yet.
-    fn show_at(&self, number: usize, version: Version<State>) -> Option<Base<State>>
-        requires { All (λ mark. Shows self.now.store mark.call) version }
-        ensures base { IfSome result (λ base. IsBaseAt self.now.slots (based base)) }
-        ensures is { IfSome result (λ base. base.version.value ≡ version) }
-    {
-        match self.slot(number)?.set_written(version) {
-            Ok(version) => Some(Base {
+        let base = match self.slot(number)?.set_written(version) {
+            Ok(version) => Base {
                 slot: number,
                 version,
-            }),
-            Err(_) => None,
-        }
+            },
+            Err(_) => return None,
+        };
+        self.tell_origin(&base, seat);
+        Some(base)
     }
 
     /// Tells what the version of a slot was made from: the one that its maker noted last.

@@ -33,3 +33,10 @@ returns g c =
       ahead = ap (λ known. known.ahead) took.known;
     } in
     record { gets_on = on }
+
+pub returns-then-not-goes_on : goal.returns-then-not-goes_on
+returns-then-not-goes_on g c =
+    record { gets_on = subst (GetsOn c.args.self.now c.args.seat.now) (sym (c.goes_on.ensures.same ∙ c.walk.ensures.same)) (gets_on_self c.args.self.now c.args.seat.now c.requires.of) }
+
+pub returns-then-position : goal.returns-then-position
+returns-then-position g c = record { gets_on = gets_on_self c.args.self.now c.args.seat.now c.requires.of }

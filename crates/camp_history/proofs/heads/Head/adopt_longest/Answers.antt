@@ -9,3 +9,6 @@ loop-origin-preserved g c = record { gets_on = gets_on_more c.loop-origin.invari
 
 pub returns-in_err-adopt_at-clause-gets_on : goal.returns-in_err-adopt_at-clause-gets_on
 returns-in_err-adopt_at-clause-gets_on g c = gets_on_more c.loop-origin.invariant.gets_on c.in_err-adopt_at.ensures.gets_on
+
+pub returns-then-branch-clause-gets_on : goal.returns-then-branch-clause-gets_on
+returns-then-branch-clause-gets_on g c = gets_on_more c.loop-origin.invariant.gets_on c.in_ok-adopt_at.ensures.gets_on

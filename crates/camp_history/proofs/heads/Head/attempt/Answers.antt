@@ -1,4 +1,4 @@
-use Rattle.camp_history.proofs.Words.{◌≡◌, ◌<◌, List, Ok, length, map, ap, sym, ◌∙◌, subst, own, Next, Ask, asked, history_of, caller_at, Mark, DecidesAt, Decision, Publishes}
+use Rattle.camp_history.proofs.Words.{◌≡◌, ◌<◌, List, Ok, length, map, ap, refl, sym, ◌∙◌, subst, own, Next, Ask, asked, history_of, caller_at, Mark, DecidesAt, Decision, Publishes}
 use Rattle.camp_history.proofs.Asked.{decided_next, decided_accepted, ask_published, seat_published, attempts_nothing}
 use Rattle.camp_history.proofs.heads.Head.attempt.Given.{Over}
 use Rattle.camp_history.proofs.heads.Head.attempt.Goals.{In-Next}
@@ -25,6 +25,15 @@ pub returns-in_err-publish-clause-attempts : goal.returns-in_err-publish-clause-
 returns-in_err-publish-clause-attempts g c =
     attempts_nothing g.State.Object.object c.args.self.now c.args.seat.now c.publish.new.self c.args.call.now.value c.from_residual-in_err-publish.result
     (rw c.in_err-publish.ensures.0 at c.from_residual-in_err-publish.ensures.1) c.is_whole.ensures.legal c.in_err-publish.ensures.1
+
+pub returns-in_err-made-clause-attempts : goal.returns-in_err-made-clause-attempts
+returns-in_err-made-clause-attempts g c =
+    attempts_nothing g.State.Object.object c.args.self.now c.args.seat.now c.args.seat.now c.args.call.now.value c.from_residual-in_err-made.result c.from_residual-in_err-made.ensures.1 c.is_whole.ensures.legal refl
+
+pub returns-then-not-branch-clause-attempts : goal.returns-then-not-branch-clause-attempts
+returns-then-not-branch-clause-attempts g c =
+    let ready = decided g (goal.at.returns-then-not-branch-clause-attempts g c).In-Next in
+    record { has_room = ready.0; accepted = decided_accepted g.State.Object.object (history_of c.args.seat.now) c.args.call.now.value c.in-Next.state ready.1; finds = rw c.if-not-branch.true at c.in_ok-publish.ensures }
 
 pub put-requires-clause-seat : goal.put-requires-clause-seat
 put-requires-clause-seat g c =

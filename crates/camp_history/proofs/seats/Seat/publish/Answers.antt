@@ -1,6 +1,7 @@
 use Rattle.camp_history.proofs.Words.{◌≡◌, [], ◌<◌, ◌∷◌, ◌++◌, length, refl, sym, ◌∙◌, ap, replay, own, turns, Known, Won, drafted, with_draft, bases_in, marks_in, history_of, entry_of, Mark}
 use Rattle.camp_history.proofs.Seeing.{entries_more, history_more, begins_more, all_more, bases_begin, length-own, one_more}
 use Rattle.camp_history.proofs.seats.Seat.publish.Given.{Over}
+use Rattle.camp_history.proofs.seats.Seat.publish.Goals.{After-drop-self-inside}
 use Rattle.camp_history.proofs.seats.Seat.publish.Goals as goal
 
 pub exchange_cell-requires-clause-room : goal.exchange_cell-requires-clause-room
@@ -13,10 +14,10 @@ exchange_cell-requires-clause-room g c =
     rw here c.requires.room
 
 -- the mark that is pushed
-pushed : (g : Over) (c : goal.After-drop-self-inside g) → Mark g.row.State-Call.Denot
+pushed : (g : Over) (c : After-drop-self-inside g) → Mark g.row.State-Call.Denot
 pushed g c = record { seat = c.self.inside.pass.number; call = c.args.call.now }
 
-stands : (g : Over) (c : goal.After-drop-self-inside g) → c.self.inside.earlier ++ c.push_reserved.new.self.items ≡ marks_in c.self.inside ++ pushed g c ∷ []
+stands : (g : Over) (c : After-drop-self-inside g) → c.self.inside.earlier ++ c.push_reserved.new.self.items ≡ marks_in c.self.inside ++ pushed g c ∷ []
 unfolding pushed
 stands g c =
     let items : c.push_reserved.new.self.items ≡ c.reserve.new.self.items ++ record { seat = c.number-number.result; call = c.again.result } ∷ [] = c.push_reserved.ensures.items in
@@ -35,7 +36,7 @@ abbrev won : Known → Known
 won known = record known { seen = known.seen ++ drafted known ∷ []; ahead = known.seen ++ drafted known ∷ []; parent = 0; place = 0 }
 
 -- the pass won
-passed : (g : Over) (c : goal.After-drop-self-inside g) → c.exchange_cell.new.pass ≡ won (with_draft c.self.inside.pass c.args.call.now.index)
+passed : (g : Over) (c : After-drop-self-inside g) → c.exchange_cell.new.pass ≡ won (with_draft c.self.inside.pass c.args.call.now.index)
 passed g c =
     let won_over : Won (with_draft c.self.inside.pass c.index.result) c.exchange_cell.new.pass = c.if-not-exchange_cell.ensures in
     let index : c.index.result ≡ c.args.call.now.index = c.index.ensures in

@@ -1,23 +1,20 @@
-use Rattle.camp_history.proofs.Words.{◌≡◌, ◌++◌, ◌∷◌, [], ◌≤◌, Some, map, length, ap, sym, ◌∙◌, subst, replay, asked, history_of, most_listed, map_push, marks_in, Mark}
-use Rattle.camp_history.proofs.Seeing.{one_more}
+use Rattle.camp_history.proofs.Words.{◌≡◌, ◌++◌, ◌∷◌, [], map, ap, ◌∙◌, replay, asked, map_push, made_of, IfOk-weaker}
+use Rattle.camp_history.proofs.Seeing.{marks_with}
+use Rattle.camp_history.proofs.seats.Seat.version_with.Given.{Over}
+use Rattle.camp_history.proofs.seats.Seat.version_with.Goals.{In_ok-push}
 use Rattle.camp_history.proofs.seats.Seat.version_with.Goals as goal
 
-pub invariant_of-result : goal.invariant_of-result
-invariant_of-result g c =
-    let object = g.State.Object.object in
-    let inside = c.self.inside in
-    let mark : Mark g.row.State-Call.Denot = record { seat = c.number.result; call = c.again.result } in
-    let earlier : c.in_ok-earlier.earlier ≡ inside.earlier = c.in_ok-earlier.ensures in
-    let tail : c.in_ok-tail.tail.items ≡ inside.tail.items = c.in_ok-tail.ensures ∙ c.deref.ensures.value in
-    let pushed : c.push.new.self.items ≡ inside.tail.items ++ mark ∷ [] = c.in_ok-push.ensures.items ∙ ap (λ list. list ++ mark ∷ []) tail in
-    let made : c.in_ok-earlier.earlier ++ c.push.new.self.items ≡ marks_in inside ++ mark ∷ [] =
-    ap (λ earlier. earlier ++ c.push.new.self.items) earlier ∙ one_more inside.earlier inside.tail.items c.push.new.self.items mark pushed
-    in
-    let number : c.number.result ≡ c.args.self.now.known.number = c.number.ensures.number ∙ ap (λ seat. seat.known.number) c.self.view_is in
-    let call : c.again.result ≡ c.args.call.now = c.again.ensures in
-    let asks : map asked (c.in_ok-earlier.earlier ++ c.push.new.self.items) ≡ history_of c.args.self.now ++ (c.args.self.now.known.number, c.args.call.now.value) ∷ [] =
-    ap (map asked) made ∙ map_push asked (marks_in inside) mark ∙ ap (λ seat. history_of seat ++ asked mark ∷ []) c.self.view_is ∙ (λ k. history_of c.args.self.now ++ (number k, (call k).value) ∷ [])
-    in (
-      subst (λ list. length list ≤ most_listed) (sym earlier) c.self.invariant.few,
-      ap (replay object) asks ∙ c.requires ∙ ap Some (sym c.in_ok-state.ensures),
-    )
+-- the marks of the version
+whole : (g : Over) (c : In_ok-push g) → c.self.inside.earlier ++ c.push.new.self.items ≡ made_of c.args.self.now c.args.call.now
+whole g c =
+    let tail = ap (λ list. list ++ record { seat = c.number.result; call = c.again.result } ∷ []) (c.in_ok-tail.ensures ∙ c.deref.ensures.value) in
+    marks_with c.args.self.now c.self.inside.earlier c.self.inside.tail.items c.push.new.self.items (record { seat = c.number.result; call = c.again.result }) c.args.call.now
+    (ap (λ seat. seat.marks) c.self.view_is) (c.in_ok-push.ensures.items ∙ tail) (c.number.ensures.number ∙ ap (λ seat. seat.known.number) c.self.view_is) c.again.ensures
+
+pub made_from-requires-clause-replays : goal.made_from-requires-clause-replays
+made_from-requires-clause-replays g c =
+    let asks = map_push asked c.args.self.now.marks (record { seat = c.args.self.now.known.number; call = c.args.call.now }) in
+    ap (λ marks. replay g.State.Object.object (map asked marks)) (whole g (goal.at.made_from-requires-clause-replays g c).In_ok-push) ∙ ap (replay g.State.Object.object) asks ∙ c.requires
+
+pub returns : goal.returns
+returns g c = IfOk-weaker c.made_from.result _ _ (λ version same. same ∙ whole g (goal.at.returns g c).In_ok-push) c.made_from.ensures

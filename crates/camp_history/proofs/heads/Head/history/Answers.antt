@@ -1,6 +1,6 @@
-use Rattle.camp_history.proofs.Words.{◌≡◌, ◌∷◌, [], ◌++◌, ◌∙◌, sym, ap, map, length, length-map, arith, All-rest, All-same, Shows, Mark, asked, append_assoc}
+use Rattle.camp_history.proofs.Words.{◌≡◌, ◌∷◌, [], ◌++◌, ◌∙◌, sym, ap, map, length, length-append, length-map, arith, All-rest, All-same, Shows, Mark, asked, append_assoc}
 use Rattle.camp_history.proofs.Versioned.{left_first}
-use Rattle.camp_history.proofs.heads.Head.copies.Goals as goal
+use Rattle.camp_history.proofs.heads.Head.history.Goals as goal
 
 pub loop-mark-init : goal.loop-mark-init
 loop-mark-init g c =
@@ -36,3 +36,8 @@ loop-mark-preserved g c =
       stored = All-rest (λ mark. Shows c.args.self.now.store mark.call) mark left c.loop-mark.marks first past.stored;
       room = omega (arith, ap length first, past.room, c.push_reserved.ensures.len, c.push_reserved.ensures.capacity);
     }
+
+pub returns-in_err-call-clause-empty : goal.returns-in_err-call-clause-empty
+returns-in_err-call-clause-empty g c = λ none.
+    let past = c.loop-mark.invariant in
+    absurd (omega (arith, ap length past.so_far, ap length none, ap length c.in-Some.ensures, length-append c.loop-mark.history.items (map asked c.loop-mark.marks), length-map c.loop-mark.marks asked))

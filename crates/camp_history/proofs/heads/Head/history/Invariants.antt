@@ -1,5 +1,5 @@
 use Rattle.camp_history.proofs.Words.{◌≡◌, ◌++◌, ◌+◌, ◌≤◌, length, map, All, Shows, asked, vec_capacity, vec_len}
-use Rattle.camp_history.proofs.heads.Head.copies.Given as goal
+use Rattle.camp_history.proofs.heads.Head.history.Given as goal
 
 abbrev pub invariant-loop-mark : goal.invariant-loop-mark
 invariant-loop-mark g l = record {
