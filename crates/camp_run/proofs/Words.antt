@@ -16,7 +16,6 @@ pub use Rattle.camp_repo.specs.ObjectLaws.{repository_is_lawful}
 pub use Rattle.camp_repo.specs.Objects.{next_of, replies_to, reply_of, repository, state_behind}
 pub use Rattle.camp_repo.specs.States.{Contents, initial}
 pub use Rattle.camp_repo.specs.Steps.{Decision, step}
-pub use Rattle.camp_run.specs.Runs.{HasOutput}
 pub use Rattle.camp_run.specs.Serial.{IsSerial, accepted_from, booked}
 pub use Rattle.camp_script.specs.Outputs.{HaveTexts}
 

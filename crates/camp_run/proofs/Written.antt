@@ -5,36 +5,33 @@ use Rattle.std.specs.Io.KnownBytes.{Appends}
 use Rattle.camp_script.specs.Outputs.{output_text}
 use Rattle.camp_script.specs.Writing.{AppendsBeginning}
 use Rattle.camp_run.specs.Inputs.{ReadsAs}
-use Rattle.camp_run.specs.Outputs.{Outcome, if_wanted}
-use Rattle.camp_run.specs.Runs.{HasOutput, Runs}
+use Rattle.camp_run.specs.Outputs.{IsOutput, Outcome, if_wanted}
+use Rattle.camp_run.specs.Runs.{Runs}
 use Rattle.camp_run.specs.declared.faults.RunFault.{RunFault}
 use Rattle.camp_run.specs.declared.faults.RunFault.TheVariants.{Write}
 
-module _ (Comes : Outcome) (wants_history : Bool) (remaining rest old new : Option (List ℕ)) (text : List ℕ) where
-  pub written : (result : Result (Unit {0}) RunFault) → HasOutput Comes wants_history remaining rest text
-      → MatchResult result (λ _. Appends old new text) (λ why. (why ≡ Write) × AppendsBeginning old new text)
+module _ (Comes : Outcome) (wants_history : Bool) (remaining rest old new : Option (List ℕ)) (script : List (List Call)) (text lent : List ℕ) where
+  pub written : (result : Result (Unit {0}) RunFault) → ReadsAs remaining rest (Ok script) → IsOutput Comes wants_history script text → lent ≡ text
+      → MatchResult result (λ _. Appends old new lent) (λ why. (why ≡ Write) × AppendsBeginning old new lent)
       → Runs Comes wants_history remaining rest old result new
-  written (Ok done) prepared says = (text, prepared, says)
-  written (Err why) prepared says =
-      subst (λ fault. Runs Comes wants_history remaining rest old (Err fault) new) (sym says.0) (text, prepared, says.1)
+  written (Ok done) reads is same says = (text, record { script = script; reads = reads; is_output = is }, subst (Appends old new) same says)
+  written (Err why) reads is same says =
+      subst (λ fault. Runs Comes wants_history remaining rest old (Err fault) new) (sym says.0)
+      (text, record { script = script; reads = reads; is_output = is }, subst (AppendsBeginning old new) same says.1)
 
--- what was read, what it comes to, and its text
-module _ (Comes : Outcome) (wants_history : Bool) (remaining rest : Option (List ℕ)) (script sections : List (List Call))
+-- what a script comes to, and its text
+module _ (Comes : Outcome) (wants_history : Bool) (script sections : List (List Call))
     (answers lent_answers : List (List (Result Reply Fault))) (history lent_history : List (ℕ × Call)) (text : List ℕ) where
-  pub prepared : ReadsAs remaining rest (Ok script) → sections ≡ script → Comes sections answers history
+  pub prepared : sections ≡ script → Comes sections answers history
       → lent_answers ≡ answers → lent_history ≡ history
       → text ≡ output_text lent_answers (if_wanted wants_history lent_history)
-      → HasOutput Comes wants_history remaining rest text
-  prepared reads are comes same_answers same_history is_text = record {
-    script = sections;
-    reads = subst (λ s. ReadsAs remaining rest (Ok s)) (sym are) reads;
-    is_output = record {
-      answers = answers;
-      history = history;
-      comes = comes;
-      is_text = is_text ∙ ap (λ a. output_text a (if_wanted wants_history lent_history)) same_answers
-          ∙ ap (λ h. output_text answers (if_wanted wants_history h)) same_history;
-    };
+      → IsOutput Comes wants_history script text
+  prepared are comes same_answers same_history is_text = record {
+    answers = answers;
+    history = history;
+    comes = subst (λ sections. Comes sections answers history) are comes;
+    is_text = is_text ∙ ap (λ a. output_text a (if_wanted wants_history lent_history)) same_answers
+        ∙ ap (λ h. output_text answers (if_wanted wants_history h)) same_history;
   }
 
 -- sections of a script are within its limits, lent as vectors too

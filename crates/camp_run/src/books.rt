@@ -1,6 +1,7 @@
 //! Runs in one thread.
 ghost use Rattle.std.specs.Prelude.{IfOk, IfErr};
-ghost use Rattle.camp_run.specs.Runs.{HasNoOutput, HasOutput, IsNotForeign, Runs};
+ghost use Rattle.camp_run.specs.Outputs.{IsOutput};
+ghost use Rattle.camp_run.specs.Runs.{IsNotForeign, Runs};
 ghost use Rattle.camp_run.specs.Serial.{IsSerial};
 
 use crate::RunFault;
@@ -8,7 +9,8 @@ use crate::inputs::read_input;
 use crate::outputs::{text_of, write_output};
 use camp_clients::serial;
 use camp_repo::State;
-use std::alloc::Global;
+use camp_script::Script;
+use std::alloc::{AllocError, Global};
 use std::io::{Read, Write};
 
 /// Reads a whole script, asks its sections one after the other of a new book, section k at seat k,
@@ -24,17 +26,14 @@ pub fn run_book<R: Read, W: Write>(
         (R.remaining reader.old) (R.remaining reader.new) (W.contents writer.old) result (W.contents writer.new) }
     ensures not_foreign { IfErr result IsNotForeign }
 {
-    let text = book_output(alloc, reader, history)?;
+    let script = read_input(alloc, reader)?;
+    let text = book_text(alloc, &script, history)?;
     write_output(writer, &text)
 }
 
-fn book_output<R: Read>(alloc: Global, reader: &mut R, history: bool) -> Result<Vec<u8>, RunFault>
-    ensures text { IfOk result (λ text.
-        HasOutput IsSerial history (R.remaining reader.old) (R.remaining reader.new) text.items) }
-    ensures fault { IfErr result (HasNoOutput (R.remaining reader.old) (R.remaining reader.new)) }
-    ensures not_foreign { IfErr result IsNotForeign }
+fn book_text(alloc: Global, script: &Script, history: bool) -> Result<Vec<u8>, AllocError>
+    ensures { IfOk result (λ text. IsOutput IsSerial history script.now text.items) }
 {
-    let script = read_input(alloc, reader)?;
     let run = serial::<State>(alloc, script.sections())?;
-    Ok(text_of(alloc, &run.answers, run.book.history(), history)?)
+    text_of(alloc, &run.answers, run.book.history(), history)
 }

@@ -3,7 +3,8 @@ ghost use Rattle.std.specs.Prelude.{◌<◌, ◌≤◌, IfOk, IfErr};
 ghost use Rattle.camp_clients.specs.Runs.{IsShared};
 ghost use Rattle.camp_clients.specs.Sections.{most_tries};
 ghost use Rattle.camp_repo.specs.Objects.{repository};
-ghost use Rattle.camp_run.specs.Runs.{HasNoOutput, HasOutput, IsNotForeign, Runs};
+ghost use Rattle.camp_run.specs.Outputs.{IsOutput};
+ghost use Rattle.camp_run.specs.Runs.{IsNotForeign, Runs};
 
 use crate::RunFault;
 use crate::inputs::read_input;
@@ -11,7 +12,8 @@ use crate::outputs::{text_of, write_output};
 use camp_clients::{HeadPlan, shared};
 use camp_head::Gate;
 use camp_repo::State;
-use std::alloc::Global;
+use camp_script::Script;
+use std::alloc::{AllocError, Global};
 use std::io::{Read, Write};
 use std::sync::Wait;
 use std::thread::Threads;
@@ -38,25 +40,22 @@ pub fn run_head<T: Threads + Wait + Sync, R: Read, W: Write, G: Gate + Sync>(
         (R.remaining reader.old) (R.remaining reader.new) (W.contents writer.old) result (W.contents writer.new) }
     ensures not_foreign { IfErr result IsNotForeign }
 {
-    let text = head_output(rt, alloc, reader, history, tries, gate)?;
+    let script = read_input(alloc, reader)?;
+    let text = head_text(rt, alloc, &script, history, tries, gate)?;
     write_output(writer, &text)
 }
 
-fn head_output<T: Threads + Wait + Sync, R: Read, G: Gate + Sync>(
+fn head_text<T: Threads + Wait + Sync, G: Gate + Sync>(
     rt: &T,
     alloc: Global,
-    reader: &mut R,
+    script: &Script,
     history: bool,
     tries: u32,
     gate: &G,
-) -> Result<Vec<u8>, RunFault>
+) -> Result<Vec<u8>, AllocError>
     requires { (0 < tries) × (tries ≤ most_tries) }
-    ensures text { IfOk result (λ text.
-        HasOutput (IsShared repository tries) history (R.remaining reader.old) (R.remaining reader.new) text.items) }
-    ensures fault { IfErr result (HasNoOutput (R.remaining reader.old) (R.remaining reader.new)) }
-    ensures not_foreign { IfErr result IsNotForeign }
+    ensures { IfOk result (λ text. IsOutput (IsShared repository tries) history script.now text.items) }
 {
-    let script = read_input(alloc, reader)?;
     let plan = HeadPlan {
         rt,
         sections: script.sections(),
@@ -66,7 +65,7 @@ fn head_output<T: Threads + Wait + Sync, R: Read, G: Gate + Sync>(
     };
     let run = shared::<T, State, G>(alloc, &plan)?;
     if !history {
-        return Ok(text_of(alloc, &run.answers, &[], false)?);
+        return text_of(alloc, &run.answers, &[], false);
     }
-    Ok(text_of(alloc, &run.answers, &run.history()?, true)?)
+    text_of(alloc, &run.answers, &run.history()?, true)
 }

@@ -1,14 +1,16 @@
 //! Runs in threads over a lock.
-ghost use Rattle.std.specs.Prelude.{IfOk, IfErr};
+ghost use Rattle.std.specs.Prelude.{IfOk};
 ghost use Rattle.camp_clients.specs.Runs.{IsLocked};
 ghost use Rattle.camp_repo.specs.Objects.{repository};
-ghost use Rattle.camp_run.specs.Runs.{HasNoOutput, HasOutput, Runs};
+ghost use Rattle.camp_run.specs.Outputs.{IsOutput};
+ghost use Rattle.camp_run.specs.Runs.{Runs};
 
 use crate::RunFault;
 use crate::inputs::read_input;
 use crate::outputs::{text_of, write_output};
 use camp_clients::{LockFault, locked};
 use camp_repo::State;
+use camp_script::Script;
 use std::alloc::Global;
 use std::io::{Read, Write};
 use std::sync::Wait;
@@ -27,25 +29,23 @@ pub fn run_locked<T: Threads + Wait + Sync, R: Read, W: Write>(
     ensures runs { Runs (IsLocked repository) history
         (R.remaining reader.old) (R.remaining reader.new) (W.contents writer.old) result (W.contents writer.new) }
 {
-    let text = locked_output(rt, alloc, reader, history)?;
-    write_output(writer, &text)
-}
-
-fn locked_output<T: Threads + Wait + Sync, R: Read>(
-    rt: &T,
-    alloc: Global,
-    reader: &mut R,
-    history: bool,
-) -> Result<Vec<u8>, RunFault>
-    ensures text { IfOk result (λ text.
-        HasOutput (IsLocked repository) history (R.remaining reader.old) (R.remaining reader.new) text.items) }
-    ensures fault { IfErr result (HasNoOutput (R.remaining reader.old) (R.remaining reader.new)) }
-{
     let script = read_input(alloc, reader)?;
-    let run = match locked::<T, State>(rt, alloc, script.sections()) {
-        Ok(run) => run,
+    let text = match locked_text(rt, alloc, &script, history) {
+        Ok(text) => text,
         Err(LockFault::Foreign) => return Err(RunFault::Foreign),
         Err(LockFault::Memory) => return Err(RunFault::Memory),
     };
+    write_output(writer, &text)
+}
+
+fn locked_text<T: Threads + Wait + Sync>(
+    rt: &T,
+    alloc: Global,
+    script: &Script,
+    history: bool,
+) -> Result<Vec<u8>, LockFault>
+    ensures { IfOk result (λ text. IsOutput (IsLocked repository) history script.now text.items) }
+{
+    let run = locked::<T, State>(rt, alloc, script.sections())?;
     Ok(text_of(alloc, &run.answers, run.book.history(), history)?)
 }
