@@ -24,8 +24,8 @@ pub grows_by_one : (old new : List ℕ) (change : FileChange) → new ≡ old ++
 grows_by_one old new change is good = (is ∙ ap (λ t. old ++ t) (sym (append-nil (change_text change))), (good, tt))
 
 -- a file with its content, part by part
-pub grows_by_file : (old word named ended new path content : List ℕ) → word ≡ old ++ codes "M 100644 inline " → named ≡ word ++ path_text path → ended ≡ named ++ newline ∷ [] → new ≡ ended ++ data_text content → CanBeNamed path → GrowsBy old (FileModify path content ∷ []) new
-grows_by_file old word named ended new path content first second third fourth good =
+pub grows_by_file : (old word named ended new path content : List ℕ) → word ≡ old ++ codes "M 100644 inline " → named ≡ word ++ path_text path → ended ≡ named ++ newline ∷ [] → CanBeNamed path → new ≡ ended ++ data_text content → GrowsBy old (FileModify path content ∷ []) new
+grows_by_file old word named ended new path content first second third good fourth =
     let told = ap (λ t. t ++ newline ∷ []) (second ∙ ap (λ t. t ++ path_text path) first ∙ append_assoc old (codes "M 100644 inline ") (path_text path)) ∙ append_assoc old (codes "M 100644 inline " ++ path_text path) (newline ∷ []) in
     grows_by_one old new (FileModify path content) (fourth ∙ ap (λ t. t ++ data_text content) (third ∙ told) ∙ append_assoc old (line (codes "M 100644 inline " ++ path_text path)) (data_text content)) good
 

@@ -1,5 +1,5 @@
 -- Names and paths stand in one line.
-use Rattle.camp_git.proofs.Words.{◌≡◌, ◌∙◌, ◌∷◌, [], ◌++◌, ◌||◌, ◌==◌, length, not, ℕ, Bool, true, false, true≢false, List, refl, sym, ap, append_assoc, list_any}
+use Rattle.camp_git.proofs.Words.{◌≡◌, ◌∙◌, ◌∷◌, [], ◌||◌, ◌==◌, length, not, ℕ, Bool, true, false, true≢false, List, refl, sym, ap, list_any}
 use Rattle.std.specs.Prelude.{codes, nat_le, slice_index}
 use Rattle.std.specs.Cmp.{second_so}
 use Rattle.std.proofs.lemmas.List.Folds.{list_any-append}
@@ -9,7 +9,7 @@ use Rattle.camp_base.specs.Limits.{longest_name}
 use Rattle.camp_base.specs.Bytes.{is_name, is_name_byte, is_path}
 use Rattle.camp_base.specs.Signs.{hyphen, is_graphic, newline}
 use Rattle.camp_git.specs.Exports.{reference_of}
-use Rattle.camp_git.specs.FastImport.{CanBeNamed, IsOneLine, line}
+use Rattle.camp_git.specs.FastImport.{CanBeNamed, IsOneLine}
 
 no_newline : (p : ℕ → Bool) (bytes : List ℕ) → p newline ≡ false → list_all p bytes ≡ true → IsOneLine bytes
 no_newline p [] never all = refl
@@ -27,8 +27,3 @@ path_in_line path is =
     let a = and_parts _ _ is in
     let c = and_parts _ _ a.1 in
     (c.1, no_newline is_graphic path refl c.0)
-
--- the line of a commit's branch, part by part
-pub reference_line : (old word named new name : List ℕ) → word ≡ old ++ codes "commit refs/heads/" → named ≡ word ++ name → new ≡ named ++ newline ∷ [] → new ≡ old ++ line (codes "commit " ++ reference_of name)
-reference_line old word named new name first second third =
-    third ∙ ap (λ t. t ++ newline ∷ []) (second ∙ ap (λ t. t ++ name) first ∙ append_assoc old (codes "commit refs/heads/") name) ∙ append_assoc old (codes "commit refs/heads/" ++ name) (newline ∷ [])

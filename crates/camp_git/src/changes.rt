@@ -22,8 +22,7 @@ pub(crate) fn append_changes(
     ensures { OnOk result (GrowsBy text.old.items (changes_of old.now new.now (paths_in paths.now)) text.new.items) }
 {
     append_deletions(text, paths, old, new)?;
-    append_modifications(text, paths, new)?;
-    Ok(())
+    append_modifications(text, paths, new)
 }
 
 fn append_deletions(
@@ -98,6 +97,5 @@ fn append_file(text: &mut Vec<u8>, path: &Path, lines: &SharedList<Line>) -> Res
     text.extend_from_slice(b"M 100644 inline ")?;
     append_path(text, path)?;
     text.push(b'\n')?;
-    append_content(text, lines)?;
-    Ok(())
+    append_content(text, lines)
 }

@@ -5,7 +5,7 @@ ghost use Rattle.camp_git.specs.Exports.{reference_of};
 ghost use Rattle.camp_git.specs.Inside.Commits.{IsWritten, changes_of, commit_at, from_of, paths_in};
 
 use crate::changes::append_changes;
-use crate::texts::{append_message, append_numbered};
+use crate::texts::{append_message, append_numbered, append_parts};
 use camp_base::{Name, Path, Tree};
 use camp_share::SharedMap;
 use std::alloc::AllocError;
@@ -32,8 +32,7 @@ pub(crate) fn append_commit(
     ensures { OnOk result (IsWritten text.old.items (commit_at place.now (changes_of old.now new.now (paths_in paths.now))) text.new.items) }
 {
     append_head(text, place)?;
-    append_changes(text, paths, old, new)?;
-    Ok(())
+    append_changes(text, paths, old, new)
 }
 
 // A commit up to its changes.
@@ -52,9 +51,7 @@ fn append_reference(text: &mut Vec<u8>, branch: &Name) -> Result<(), AllocError>
     ensures text { OnOk result (text.new.items ≡ text.old.items ++ line (codes "commit " ++ reference_of branch.now)) }
     ensures named { IfOk result (λ _. IsOneLine (reference_of branch.now)) }
 {
-    text.extend_from_slice(b"commit refs/heads/")?;
-    text.extend_from_slice(branch.bytes())?;
-    Ok(text.push(b'\n')?)
+    append_parts(text, &[b"commit refs/heads/", branch.bytes(), b"\n"])
 }
 
 fn append_from(text: &mut Vec<u8>, from: u64) -> Result<(), AllocError>

@@ -1,5 +1,6 @@
 //! The parts of the commands of `git fast-import`.
 ghost use Rattle.std.specs.Prelude.{◌≡◌, ◌++◌, OnOk, IfOk, decimal};
+ghost use Rattle.std.specs.List.{flat_map};
 ghost use Rattle.camp_git.specs.Exports.{content_of};
 ghost use Rattle.camp_git.specs.FastImport.{CanBeNamed, data_text, escaped, escaped_byte, line, path_text};
 
@@ -7,6 +8,16 @@ use camp_base::{Line, Name, Path};
 use camp_share::SharedList;
 use itoa::Buffer;
 use std::alloc::AllocError;
+
+/// Appends parts, one behind the other.
+pub(crate) fn append_parts(text: &mut Vec<u8>, parts: &[&[u8]]) -> Result<(), AllocError>
+    ensures { OnOk result (text.new.items ≡ text.old.items ++ flat_map (λ part. part.now) parts.now) }
+{
+    for part in parts {
+        text.extend_from_slice(part)?;
+    }
+    Ok(())
+}
 
 /// Appends a line of a word and a number.
 pub(crate) fn append_numbered(
@@ -16,9 +27,8 @@ pub(crate) fn append_numbered(
 ) -> Result<(), AllocError>
     ensures { OnOk result (text.new.items ≡ text.old.items ++ line (word.now ++ decimal number)) }
 {
-    text.extend_from_slice(word)?;
-    text.extend_from_slice(Buffer::new().format(number).as_bytes())?;
-    Ok(text.push(b'\n')?)
+    let mut digits = Buffer::new();
+    append_parts(text, &[word, digits.format(number).as_bytes(), b"\n"])
 }
 
 /// Appends the message of a commit: the name of the patch, and LF.
@@ -26,8 +36,7 @@ pub(crate) fn append_message(text: &mut Vec<u8>, name: &Name) -> Result<(), Allo
     ensures { OnOk result (text.new.items ≡ text.old.items ++ data_text (line name.now)) }
 {
     append_numbered(text, b"data ", name.bytes().len() as u64 + 1)?;
-    text.extend_from_slice(name.bytes())?;
-    Ok(text.extend_from_slice(b"\n\n")?)
+    append_parts(text, &[name.bytes(), b"\n\n"])
 }
 
 /// Appends the lines of a file as data, LF behind each.
@@ -36,12 +45,10 @@ pub(crate) fn append_content(text: &mut Vec<u8>, lines: &SharedList<Line>) -> Re
 {
     let mut content = Vec::new(*text.allocator());
     for line in lines.iter() {
-        content.extend_from_slice(line.bytes())?;
-        content.push(b'\n')?;
+        append_parts(&mut content, &[line.bytes(), b"\n"])?;
     }
     append_numbered(text, b"data ", content.len() as u64)?;
-    text.extend_from_slice(&content)?;
-    Ok(text.push(b'\n')?)
+    append_parts(text, &[content.as_slice(), b"\n"])
 }
 
 /// Appends a path: as it is, or, where it begins with a quote, between quotes.
