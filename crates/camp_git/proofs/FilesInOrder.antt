@@ -1,5 +1,5 @@
 -- The files of a tree stand in the order of their paths, so those that lie in a folder follow it at once.
-use Rattle.camp_git.proofs.Words.{Bool, List, None, Option, Some, T, [], ap, arith, bytes_eq, drop, get_or, false, length, map, refl, subst, suc, sym, take, true, true≢false, zero, ℕ, ◌++◌, ◌+◌, ◌<◌, ◌||◌, ◌∙◌, ◌∷◌, ◌≡◌, ◌≢◌, ◌⊎◌, inl, inr, Ordering, Less, Equal, Greater, nat_cmp, none-some, same_Some, bytes_eq-Decides, nat_list_cmp_total, slice_cmp, contains_key, contains_key-keys, entries, entries_sorted, list_any, slice_get, is_lt, ordering_then, eq_by_cmp, Files, Lines}
+use Rattle.camp_git.proofs.Words.{Bool, List, None, Option, Some, T, [], ap, arith, bytes_eq, drop, get_or, false, length, map, refl, subst, suc, sym, take, true, true≢false, zero, ℕ, ◌++◌, ◌+◌, ◌<◌, ◌∙◌, ◌∷◌, ◌≡◌, ◌≢◌, inl, inr, Ordering, Less, Equal, Greater, nat_cmp, none-some, same_Some, bytes_eq-Decides, nat_list_cmp_total, slice_cmp, contains_key, contains_key-keys, entries, entries_sorted, list_any, slice_get, is_lt, ordering_then, eq_by_cmp, Files, Lines}
 use Rattle.std.specs.FinMap.{is_sorted, len, len-entries, nat_cmp-IsAntisymmetric}
 use Rattle.std.specs.Cmp.{tied_itself}
 use Rattle.std.specs.Ordering.{ordering_reverse}
@@ -11,7 +11,7 @@ use Rattle.camp_git.specs.FastImport.{is_inside}
 use Rattle.camp_git.specs.Inside.Finding.{IsPlaceOf}
 use Rattle.std.specs.FinMap.Entries.{below_all}
 use Rattle.std.proofs.lemmas.Map.Text.{is_eq-slice_cmp}
-use Rattle.std.proofs.lemmas.Bool.{false_from_ne_true}
+use Rattle.std.proofs.lemmas.Bool.{cases_order, false_from_ne_true, or_cases, or_left, or_right}
 use Rattle.camp_share.proofs.Entries.{first, second, is_less}
 
 module _ {K X : Type 0} (R : K → K → Ordering) where
@@ -32,13 +32,9 @@ module _ {K X : Type 0} (R : K → K → Ordering) where
 pub any_entry : (es : List (List ℕ × Lines)) (i : ℕ) (e : List ℕ × Lines) (test : List ℕ → Bool) → slice_get es i ≡ Some e → test e.0 ≡ true → list_any test (map (λ d. d.0) es) ≡ true
 any_entry [] i e test is passes = absurd (none-some e is)
 any_entry (x ∷ es) zero e test is passes =
-    ap (λ b. b || list_any test (map (λ d. d.0) es)) (ap (λ y. test y.0) (same_Some x e is) ∙ passes)
+    or_left (test x.0) (list_any test (map (λ d. d.0) es)) (ap (λ y. test y.0) (same_Some x e is) ∙ passes)
 any_entry (x ∷ es) (suc i) e test is passes =
-    ap (λ b. test x.0 || b) (any_entry es i e test is passes) ∙ or-true (test x.0)
-  where
-    or-true : (b : Bool) → (b || true) ≡ true
-    or-true true = refl
-    or-true false = refl
+    or_right (test x.0) (list_any test (map (λ d. d.0) es)) (any_entry es i e test is passes)
 
 pub entry_of : (es : List (List ℕ × Lines)) (path : List ℕ) → list_any (eq_by_cmp (slice_cmp nat_cmp) path) (map (λ d. d.0) es) ≡ true → (i : ℕ) × (e : List ℕ × Lines) × (slice_get es i ≡ Some e) × (e.0 ≡ path)
 entry_of [] path is = absurd (true≢false (sym is))
@@ -47,10 +43,6 @@ entry_of (x ∷ es) path is =
       | inl same ↦ (0, x, refl, sym ((bytes_eq-Decides path x.0).0 (sym (is_eq-slice_cmp path x.0) ∙ same)))
       | inr later ↦ let rest = entry_of es path later in (suc rest.0, rest.1, rest.2, rest.3)
     ]
-  where
-    or_cases : (a b : Bool) → (a || b) ≡ true → (a ≡ true) ⊎ (b ≡ true)
-    or_cases true b e = inl refl
-    or_cases false b e = inr e
 
 module _ (tree : Files) where
   -- a path with a file stands among the entries
@@ -65,20 +57,8 @@ module _ (tree : Files) where
   pub files_rise : (i j : ℕ) (d e : List ℕ × Lines) → i < j → slice_get (entries tree) i ≡ Some d → slice_get (entries tree) j ≡ Some e → slice_cmp nat_cmp d.0 e.0 ≡ Less
   files_rise i j d e = rising (slice_cmp nat_cmp) (entries tree) i j d e (entries_sorted tree)
 
-three_ways : (j n : ℕ) → (j < n) ⊎ ((j ≡ n) ⊎ (n < j))
-three_ways zero zero = inr (inl refl)
-three_ways zero (suc n) = inl (omega arith)
-three_ways (suc j) zero = inr (inr (omega arith))
-three_ways (suc j) (suc n) = elim (three_ways j n) [
-  | inl l ↦ inl (omega arith)
-  | inr rest ↦ elim rest [ inl e ↦ inr (inl (ap suc e)) | inr g ↦ inr (inr (omega arith)) ]
-]
-
-then-less : (o p : Ordering) → o ≡ Less → ordering_then o p ≡ Less
-then-less o p e = ap (λ r. ordering_then r p) e
-
-then-equal : (o p : Ordering) → o ≡ Equal → ordering_then o p ≡ p
-then-equal o p e = ap (λ r. ordering_then r p) e
+then-is : {q : Ordering} (o p : Ordering) → o ≡ q → ordering_then o p ≡ ordering_then q p
+then-is o p e = ap (λ r. ordering_then r p) e
 
 other_way : (a b : ℕ) (o : Ordering) → nat_cmp b a ≡ o → nat_cmp a b ≡ ordering_reverse o
 other_way a b o e = nat_cmp_total.antisymm a b ∙ ap ordering_reverse e
@@ -89,11 +69,11 @@ Begins bytes rest other =
     ¬ (slice_cmp nat_cmp other bytes ≡ Less) → ¬ (slice_cmp nat_cmp (bytes ++ rest) other ≡ Less) → take (length bytes) other ≡ bytes
 
 begins_more : (a b : ℕ) (bytes rest other : List ℕ) (o : Ordering) → nat_cmp b a ≡ o → Begins bytes rest other → Begins (a ∷ bytes) rest (b ∷ other)
-begins_more a b bytes rest other Less e more low high = absurd (low (then-less _ _ e))
+begins_more a b bytes rest other Less e more low high = absurd (low (then-is _ _ e))
 begins_more a b bytes rest other Greater e more low high =
-    absurd (high (then-less _ _ (other_way a b Greater e)))
+    absurd (high (then-is _ _ (other_way a b Greater e)))
 begins_more a b bytes rest other Equal e more low high =
-    ap (λ y. y ∷ take (length bytes) other) (nat_cmp-IsAntisymmetric b a e) ∙ ap (λ t. a ∷ t) (more (λ l. low (then-equal _ _ e ∙ l)) (λ l. high (then-equal _ _ (other_way a b Equal e) ∙ l)))
+    ap (λ y. y ∷ take (length bytes) other) (nat_cmp-IsAntisymmetric b a e) ∙ ap (λ t. a ∷ t) (more (λ l. low (then-is _ _ e ∙ l)) (λ l. high (then-is _ _ (other_way a b Equal e) ∙ l)))
 
 between : (bytes rest other : List ℕ) → Begins bytes rest other
 between [] rest [] low high = refl
@@ -109,7 +89,7 @@ not_before [] [] e = less≢equal (sym e)
     less≢equal : Less ≢ Equal
     less≢equal e = true≢false (ap is_lt e)
 not_before [] (b ∷ rest) e = true≢false (sym (ap is_lt e))
-not_before (a ∷ bytes) rest e = not_before bytes rest (sym (then-equal (nat_cmp a a) _ (same a)) ∙ e)
+not_before (a ∷ bytes) rest e = not_before bytes rest (sym (then-is (nat_cmp a a) _ (same a)) ∙ e)
   where
     same : (n : ℕ) → nat_cmp n n ≡ Equal
     same n = tied_itself nat_cmp_total n
@@ -127,10 +107,10 @@ module _ (tree : Files) (bytes : List ℕ) (place : ℕ) (is : IsPlaceOf tree by
       whole = sym (take-append-drop (length bytes) other) ∙ ap (λ t. t ++ drop (length bytes) other) begins
 
       by : ((j : ℕ) × (d : List ℕ × Lines) × (slice_get (entries tree) j ≡ Some d) × (d.0 ≡ other)) → (e : List ℕ × Lines) × (slice_get (entries tree) place ≡ Some e) × (take (length bytes) e.0 ≡ bytes)
-      by (j, d, at, called) = elim (three_ways j place) [
-        | inl before ↦ absurd (not_before bytes (drop (length bytes) other) (subst (λ t. slice_cmp nat_cmp t bytes ≡ Less) (called ∙ whole) (is.before j d before at)))
+      by (j, d, at, called) = elim (cases_order j place) [
+        | inl same ↦ (d, subst (λ n. slice_get (entries tree) n ≡ Some d) same at, ap (take (length bytes)) called ∙ begins)
         | inr rest ↦ elim rest [
-          | inl same ↦ (d, subst (λ n. slice_get (entries tree) n ≡ Some d) same at, ap (take (length bytes)) called ∙ begins)
+          | inl before ↦ absurd (not_before bytes (drop (length bytes) other) (subst (λ t. slice_cmp nat_cmp t bytes ≡ Less) (called ∙ whole) (is.before j d before at)))
           | inr behind ↦ let e = get_or (entries tree) place d in
               let here : slice_get (entries tree) place ≡ Some e = slice_get-get_or (entries tree) place d (omega (behind, arith, slice_get_within (entries tree) j d at)) in
               let less : slice_cmp nat_cmp e.0 (bytes ++ drop (length bytes) other) ≡ Less = subst (λ t. slice_cmp nat_cmp e.0 t ≡ Less) (called ∙ whole) (files_rise tree place j e d behind here at) in
@@ -143,10 +123,10 @@ module _ (tree : Files) (bytes : List ℕ) (place : ℕ) (is : IsPlaceOf tree by
   stands_here has = by (place_of_file tree bytes has)
     where
       by : ((j : ℕ) × (d : List ℕ × Lines) × (slice_get (entries tree) j ≡ Some d) × (d.0 ≡ bytes)) → (e : List ℕ × Lines) × (slice_get (entries tree) place ≡ Some e) × (e.0 ≡ bytes)
-      by (j, d, at, called) = elim (three_ways j place) [
-        | inl before ↦ absurd (not_both bytes bytes (subst (λ t. slice_cmp nat_cmp t bytes ≡ Less) called (is.before j d before at)) (subst (λ t. slice_cmp nat_cmp t bytes ≡ Less) called (is.before j d before at)))
+      by (j, d, at, called) = elim (cases_order j place) [
+        | inl same ↦ (d, subst (λ n. slice_get (entries tree) n ≡ Some d) same at, called)
         | inr rest ↦ elim rest [
-          | inl same ↦ (d, subst (λ n. slice_get (entries tree) n ≡ Some d) same at, called)
+          | inl before ↦ absurd (not_both bytes bytes (subst (λ t. slice_cmp nat_cmp t bytes ≡ Less) called (is.before j d before at)) (subst (λ t. slice_cmp nat_cmp t bytes ≡ Less) called (is.before j d before at)))
           | inr behind ↦ let e = get_or (entries tree) place d in
               let here : slice_get (entries tree) place ≡ Some e = slice_get-get_or (entries tree) place d (omega (behind, arith, slice_get_within (entries tree) j d at)) in
               absurd (is.here e here (subst (λ t. slice_cmp nat_cmp e.0 t ≡ Less) called (files_rise tree place j e d behind here at)))
@@ -161,12 +141,12 @@ module _ (tree : Files) where
 
   -- what is before the bytes where the file at a place is
   pub all_before : (bytes : List ℕ) (m : ℕ) → ((e : List ℕ × Lines) → slice_get (entries tree) m ≡ Some e → slice_cmp nat_cmp e.0 bytes ≡ Less) → m < len tree → (k : ℕ) (file : List ℕ × Lines) → k < m + 1 → slice_get (entries tree) k ≡ Some file → slice_cmp nat_cmp file.0 bytes ≡ Less
-  all_before bytes m there within k file l is = elim (three_ways k m) [
-    | inl less ↦ let e = get_or (entries tree) m file in
-        let at : slice_get (entries tree) m ≡ Some e = slice_get-get_or (entries tree) m file (omega (within, arith, len-entries tree)) in
-        nat_list_cmp_total.trans file.0 e.0 bytes (files_rise tree k m file e less is at) (there e at)
+  all_before bytes m there within k file l is = elim (cases_order k m) [
+    | inl same ↦ there file (subst (λ n. slice_get (entries tree) n ≡ Some file) same is)
     | inr rest ↦ elim rest [
-      | inl same ↦ there file (subst (λ n. slice_get (entries tree) n ≡ Some file) same is)
+      | inl less ↦ let e = get_or (entries tree) m file in
+          let at : slice_get (entries tree) m ≡ Some e = slice_get-get_or (entries tree) m file (omega (within, arith, len-entries tree)) in
+          nat_list_cmp_total.trans file.0 e.0 bytes (files_rise tree k m file e less is at) (there e at)
       | inr more ↦ absurd (omega (arith, l, more))
     ]
   ]

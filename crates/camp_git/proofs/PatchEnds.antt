@@ -2,7 +2,7 @@
 use Rattle.camp_git.proofs.Words.{◌≡◌, ◌∙◌, ◌∷◌, [], ◌++◌, ◌+◌, ◌<◌, ◌≤◌, ℕ, zero, suc, List, drop, take, get_or, length, refl, sym, ap, cond, arith}
 use Rattle.std.proofs.Math.Nat.{add-zero, suc-add, zero-add}
 use Rattle.std.proofs.lemmas.Bool.{ne_eqb}
-use Rattle.std.proofs.lemmas.List.{drop-drop, length-append, length-drop, length-map, take-append-drop}
+use Rattle.std.proofs.lemmas.List.{drop-drop, drop-map, length-append, length-drop, length-map, take-append-drop}
 use Rattle.std.specs.List.{AllByRecursion}
 use Rattle.camp_prim.specs.declared.labels.Key.{Key}
 use Rattle.camp_catch.specs.Catches.{catch_key}
@@ -12,13 +12,8 @@ use Rattle.camp_branch.proofs.BranchLabels.{labels_count}
 use Rattle.camp_branch.specs.Branches.{IsSized, Patch, labels_from, labels_of, name_of}
 use Rattle.camp_git.specs.Inside.Steps.{led_by}
 
-keys_dropped : (n : ℕ) (list : List Catch) → keys_of (drop n list) ≡ drop n (keys_of list)
-keys_dropped zero list = refl
-keys_dropped (suc n) [] = refl
-keys_dropped (suc n) (k ∷ list) = keys_dropped n list
-
 keys_behind : (at n : ℕ) (list : List Catch) → keys_of (drop (at + n) list) ≡ drop n (keys_of (drop at list))
-keys_behind at n list = ap keys_of (sym (drop-drop n at list)) ∙ keys_dropped n (drop at list)
+keys_behind at n list = ap keys_of (sym (drop-drop n at list)) ∙ sym (drop-map catch_key n (drop at list))
 
 -- no label of a place from 2 on ends what leads
 led_from : (name : List ℕ) (place n : ℕ) (rest : List Key) → 2 ≤ place → led_by (labels_from name place n ++ rest) ≡ n + led_by rest

@@ -5,7 +5,7 @@ pub use Rattle.std.proofs.lemmas.Option.{none-some, same_Some}
 pub use Rattle.std.proofs.lemmas.Slice.Eq.{bytes_eq-Decides}
 pub use Rattle.std.proofs.lemmas.Cmp.{nat_list_cmp_total}
 pub use Rattle.std.specs.Cmp.Lexicographic.{slice_cmp}
-pub use Rattle.std.specs.FinMap.{contains_key, contains_key-keys, entries, entries_sorted, get, keys}
-pub use Rattle.std.specs.List.{list_any, slice_get, starts_with}
+pub use Rattle.std.specs.FinMap.{contains_key, contains_key-keys, entries, entries_sorted, get}
+pub use Rattle.std.specs.List.{list_any, slice_get}
 pub use Rattle.std.specs.Ordering.{eq_by_cmp, is_lt, ordering_then}
 pub use Rattle.camp_base.specs.Trees.{Files, Lines}
