@@ -9,7 +9,7 @@ ghost use Rattle.camp_git.specs.Inside.Steps.{StaysBeside, StaysBesideNew, led_b
 use camp_base::{Apply, Path, Tree};
 use camp_catch::Catch;
 use camp_prim::Named;
-use camp_share::{Share, Shared, SharedList, SharedMap};
+use camp_share::{Shared, SharedList, SharedMap};
 use std::alloc::{AllocError, Global};
 
 /// The tree behind a patch, and paths outside which it is the tree in front of the patch.
@@ -49,30 +49,25 @@ pub(crate) fn step_over(
     let mut after = tree.try_clone()?;
     let mut paths = SharedMap::new(alloc);
     for catch in catches {
-        paths = run(catch.effect(), &mut after, &paths)?;
+        run(catch.effect(), &mut after, &mut paths)?;
     }
     Ok(Step { tree: after, paths })
 }
 
 /// Makes the changes of an effect, each of which applies where it is made, and adds their paths to others.
-fn run(
-    effect: &[Named],
-    tree: &mut Tree,
-    paths: &SharedMap<Path, ()>,
-) -> Result<SharedMap<Path, ()>, AllocError>
+fn run(effect: &[Named], tree: &mut Tree, paths: &mut SharedMap<Path, ()>) -> Result<(), AllocError>
     requires runs { (after : Files) × AppliesAll effect.now tree.old after }
     ensures runs { IfOk result (λ _. AppliesAll effect.now tree.old tree.new) }
-    ensures stays { IfOk result (λ all. StaysBesideNew paths.now all tree.old tree.new) }
+    ensures stays { IfOk result (λ _. StaysBesideNew paths.old paths.new tree.old tree.new) }
 {
-    let mut all = paths.share()?;
     for p in effect {
         let own = p.prim.path().try_clone()?;
-        all = all.inserted(own, ())?;
+        *paths = paths.inserted(own, ())?;
         match p.apply(tree) {
             Ok(()) => {}
             Err(Apply::DoesNotApply) => unreachable!(),
             Err(Apply::Memory) => return Err(AllocError),
         }
     }
-    Ok(all)
+    Ok(())
 }

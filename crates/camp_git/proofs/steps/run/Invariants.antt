@@ -6,5 +6,5 @@ use Rattle.camp_git.proofs.steps.run.Given as goal
 abbrev pub invariant-loop-p : goal.invariant-loop-p
 invariant-loop-p l = record {
   runs : RunsOn l.effect l.initial.tree (drop l.p-index l.effect) l.tree;
-  stays : StaysBesideNew l.paths l.all l.initial.tree l.tree;
+  stays : StaysBesideNew l.initial.paths l.paths l.initial.tree l.tree;
 }

@@ -11,6 +11,6 @@ run-requires c = record {
 
 pub loop-catch-preserved : goal.loop-catch-preserved
 loop-catch-preserved c = record {
-  fits = one_fits_on c.args.catches.now c.loop-catch.catch-index c.catch-item.result c.catch-item.result c.effect.result.now c.args.tree.now c.loop-catch.after c.run.new.tree c.loop-catch.invariant.fits (omega arith) c.catch-item.is (c.effect.ensures.exact ∙ ap effect_of c.deref.ensures) c.in_ok-paths.ensures.runs;
-  stays = stays_on c.loop-catch.paths c.in_ok-paths.paths c.args.tree.now c.loop-catch.after c.run.new.tree c.loop-catch.invariant.stays c.in_ok-paths.ensures.stays;
+  fits = one_fits_on c.args.catches.now c.loop-catch.catch-index c.catch-item.result c.catch-item.result c.effect.result.now c.args.tree.now c.loop-catch.after c.run.new.tree c.loop-catch.invariant.fits (omega arith) c.catch-item.is (c.effect.ensures.exact ∙ ap effect_of c.deref.ensures) c.in_ok-run.ensures.runs;
+  stays = stays_on c.loop-catch.paths c.run.new.paths c.args.tree.now c.loop-catch.after c.run.new.tree c.loop-catch.invariant.stays c.in_ok-run.ensures.stays;
 }
