@@ -43,11 +43,10 @@ pub(crate) fn recall(alloc: Global, reading: &Reading) -> Result<Book<State>, Ke
     ensures refused { IfErr result (λ why. (file : List ℕ) → IsReading file reading.now → IsRefusal why file) }
     ensures short { IfOk result (λ _. texts_of reading.now.texts.items ≡ [] → reading.now.behind ≤ most_unbegun) }
 {
-    let book = replay(alloc, &reading.texts)?;
     if reading.texts.is_empty() && reading.behind > MAX_UNBEGUN {
         return Err(KeptFault::NoStore);
     }
-    Ok(book)
+    replay(alloc, &reading.texts)
 }
 
 /// How many bytes of a file count for nothing.

@@ -1,5 +1,5 @@
 //! A book that is made of the texts of its calls.
-ghost use Rattle.std.specs.Prelude.{◌≡◌, ◌↔◌, ◌∷◌, List, ℕ, IfErr, IfOk, IsTrue};
+ghost use Rattle.std.specs.Prelude.{◌≡◌, ◌↔◌, [], ◌∷◌, List, ℕ, IfErr, IfOk, IsTrue};
 ghost use Rattle.camp_kept.specs.Faults.{IsRefusal};
 ghost use Rattle.camp_kept.specs.Keeping.{title};
 ghost use Rattle.camp_kept.specs.Replaying.{AreAsked, AreRecalled, AsksAgain, AsksCall};
@@ -34,15 +34,25 @@ fn is_title(text: &[u8]) -> bool
     text == TITLE
 }
 
-// Asks the calls whose texts these are.
+// The book of the calls whose texts these are.
 fn ask_all(alloc: Global, texts: &[Vec<u8>]) -> Result<Book<State>, KeptFault>
     ensures texts { IfOk result (AreAsked (texts_of texts.now)) }
     ensures refused { IfErr result (λ why. (file : List ℕ) → Stands (title ∷ texts_of texts.now) file → IsRefusal why file) }
 {
     let mut book = Book::new(alloc)?;
+    ask_each(alloc, &mut book, texts)?;
+    Ok(book)
+}
+
+// Asks the calls whose texts these are of a new book.
+fn ask_each(alloc: Global, book: &mut Book<State>, texts: &[Vec<u8>]) -> Result<(), KeptFault>
+    requires { book.old ≡ [] }
+    ensures texts { IfOk result (λ _. AreAsked (texts_of texts.now) book.new) }
+    ensures refused { IfErr result (λ why. (file : List ℕ) → Stands (title ∷ texts_of texts.now) file → IsRefusal why file) }
+{
     let mut at = BEFORE_TEXT + TITLE.len();
     for text in texts {
-        if !ask_again(alloc, &mut book, text)? {
+        if !ask_again(alloc, book, text)? {
             return Err(KeptFault::Damaged {
                 call: book.history().len().saturating_add(1),
                 at,
@@ -50,7 +60,7 @@ fn ask_all(alloc: Global, texts: &[Vec<u8>]) -> Result<Book<State>, KeptFault>
         }
         at = at.saturating_add(BEFORE_TEXT).saturating_add(text.len());
     }
-    Ok(book)
+    Ok(())
 }
 
 // Asks the call whose text this is. Whether it was accepted.

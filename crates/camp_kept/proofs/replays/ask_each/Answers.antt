@@ -7,7 +7,7 @@ use Rattle.camp_kept.proofs.Refusing.{not_accepted}
 use Rattle.camp_store.specs.Blocks.{Stands}
 use Rattle.camp_store.specs.Logs.{texts_of}
 use Rattle.camp_store.proofs.BlockLemmas.{around, texts_of-push}
-use Rattle.camp_kept.proofs.replays.ask_all.Goals as goal
+use Rattle.camp_kept.proofs.replays.ask_each.Goals as goal
 
 pub returns-then-not-branch-clause-refused : goal.returns-then-not-branch-clause-refused
 returns-then-not-branch-clause-refused c file stands calls accepted told =
