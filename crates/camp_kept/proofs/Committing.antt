@@ -1,7 +1,7 @@
 -- How the texts of a store grow.
-use Rattle.std.proofs.Common.{◌≡◌, ◌⊎◌, inl, inr, ℕ, suc, List, [], ◌∷◌, ◌++◌, length, take, drop, refl, sym, ◌∙◌, ap, subst, ◌-◌, arith, length-drop}
+use Rattle.std.proofs.Common.{◌≡◌, ◌⊎◌, inl, inr, ℕ, List, [], ◌∷◌, ◌++◌, length, take, drop, refl, sym, ◌∙◌, ap, subst, ◌-◌, arith, length-drop}
 use Rattle.std.specs.List.{AllByRecursion}
-use Rattle.std.proofs.lemmas.List.{drop-map, drop_at, map-append, take_all}
+use Rattle.std.proofs.lemmas.List.{drop-map, drop_at, length-map, map-append, take_all}
 use Rattle.camp_call.specs.declared.calls.Call.{Call}
 use Rattle.camp_kept.specs.Accepting.{AreAccepted}
 use Rattle.camp_kept.specs.Keeping.{Holds, IsStoreOf, Tells, call_texts, disk_in, store_texts, title}
@@ -72,5 +72,4 @@ holds_leave seen may_leave calls kept holds c now = record {
 }
 
 pub counted : (history : List (ℕ × Call)) → length history ≡ length (calls_of history)
-counted [] = refl
-counted (entry ∷ history) = ap suc (counted history)
+counted history = sym (length-map history (λ e. e.1))

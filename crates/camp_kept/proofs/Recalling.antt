@@ -19,7 +19,7 @@ use Rattle.camp_script.proofs.TextLemmas.{all_more}
 use Rattle.camp_script.proofs.Writable.{read_is_writable}
 use Rattle.camp_store.specs.Blocks.{Stands}
 use Rattle.camp_store.proofs.BlockLemmas.{stands_once}
-use Rattle.std.proofs.lemmas.Option.{same_Some}
+use Rattle.std.proofs.lemmas.Option.{none-some, same_Some}
 
 abbrev first_call : Call → Result (List (List Call)) LineFault → Call
 first_call c (Ok []) = c
@@ -114,13 +114,10 @@ sections_in (Err fault) = []
 read_alone : (text : List ℕ) (sections : List (List Call)) (call : Call) → script_of text ≡ Ok sections → IsScriptCall call → call_text call ≡ text → sections ≡ (call ∷ []) ∷ []
 read_alone text sections call reads can is = ap sections_in (sym reads ∙ ap script_of (sym is) ∙ text_reads call can)
 
-no_call : (call : Call) → None ≡ Some call → ⊥
-no_call call e = cc
-
 pub is_only : (text : List ℕ) (sections : List (List Call)) (found : Option Call) → script_of text ≡ Ok sections
     → ((call : Call) → sections ≡ (call ∷ []) ∷ [] → found ≡ Some call) → IfSome found (λ call. AllByRecursion (AllByRecursion IsScriptCall) sections → IsScriptCall call)
     → IsOnly text found
-is_only text sections None reads alone stand = λ call can is. no_call call (alone call (read_alone text sections call reads can is))
+is_only text sections None reads alone stand = λ call can is. none-some call (alone call (read_alone text sections call reads can is))
 is_only text sections (Some call) reads alone stand = (
   stand (read_is_writable text sections reads).calls,
   λ other can is. same_Some call other (alone other (read_alone text sections other reads can is)),

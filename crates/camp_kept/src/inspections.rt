@@ -1,4 +1,4 @@
-ghost use Rattle.std.specs.Prelude.{◌≡◌, IfErr, IfOk};
+ghost use Rattle.std.specs.Prelude.{IfErr, IfOk};
 ghost use Rattle.camp_kept.specs.Endings.{IsInspection};
 ghost use Rattle.camp_kept.specs.Faults.{IsRefusal};
 
