@@ -1,5 +1,5 @@
 -- Plain patches, taken back one by one.
-use Rattle.camp_questions.proofs.Words.{effect_of, flat_map, ◌≡◌, ℕ, false, List, [], ◌∷◌, ◌++◌, map, refl, sym, ap, ◌∙◌, subst, AllByRecursion, map-append, Catch, is_among, name_of, all_append, AreDistinct, Named, reverse, distinct_append, inverse_of, inverse_all-append, inverse_all-cons, inverse_all, Plain, AreOfPatch, ArePatches, ArePatchesOf, catches_in_order, names_in_order, GrowsToFront, GrowsToGo, AreInverses, AreTakenBack, HaveRoom, PatchCatches, reverse-cons, flat_map_more, AllZip, none_else}
+use Rattle.camp_questions.proofs.Words.{effect_of, flat_map, ◌≡◌, ℕ, false, List, [], ◌∷◌, ◌++◌, map, refl, sym, ap, ◌∙◌, subst, AllByRecursion, map-append, Catch, is_among, name_of, all_append, AreDistinct, Named, reverse, distinct_append, inverse_of, inverse_all-append, inverse_all-cons, inverse_all, Plain, AreOfPatch, ArePatches, ArePatchesOf, catches_in_order, names_in_order, GrowsToFront, GrowsToGo, IsInverted, AreInverses, HaveRoom, PatchCatches, reverse-cons, flat_map_more, AllZip, none_else}
 use Rattle.camp_questions.proofs.PlainLabels.{plain_effects}
 use Rattle.camp_questions.proofs.TakenBack.{needed_as_held}
 
@@ -70,17 +70,21 @@ own_all_back (p ∷ patches) (b ∷ backs) w own =
     (subst (λ n. AreOfPatch n b.catches.items) (sym w.0.0) (subst (AreOfPatch p.name) (sym one.inverses) here), own_all_back patches backs w.1 own.1)
 
 -- all patches of a list are taken back
-pub all_back : (list : List Catch) (patches backs : List PatchCatches) → ArePatchesOf list patches → HaveRoom list → AreAllBack patches backs → AreTakenBack patches backs
+pub all_back : (list : List Catch) (patches backs : List PatchCatches) → ArePatchesOf list patches → HaveRoom list → AreAllBack patches backs → IsInverted list backs
 all_back list patches backs of room w =
     let all = all_inverses patches backs w in
+    let called = called_back patches backs w in
     let same = same_plain all.forth room.forth (sym all.plain ∙ of.catches ∙ room.plain) in
     record {
-      room = record { forth = room.forth; plain = of.catches ∙ room.plain; room = room.room; room_back = room.room_back };
+      forth = room.forth;
+      plain = room.plain;
+      room = room.room;
+      room_back = room.room_back;
       are = record {
         own = own_all_back patches backs w of.are.own;
-        distinct = subst AreDistinct (sym (called_back patches backs w)) of.are.distinct;
+        distinct = subst AreDistinct (sym called) of.are.distinct;
       };
-      names = called_back patches backs w;
+      names = called ∙ of.names;
       inverses = all.inverses ∙ ap (λ l. map Plain (inverse_all l)) same;
     }
 
@@ -92,10 +96,9 @@ reversed patches are = record {
 }
 
 -- what names hold in the patches taken back, they need in the list
-pub needed_taken_back : (list : List Catch) (patches backs : List PatchCatches) (names grown : List (List ℕ)) → ArePatchesOf list patches → AreTakenBack patches backs → GrowsToGo (catches_in_order (reverse backs)) names grown → GrowsToFront list names grown
-needed_taken_back list patches backs names grown of taken grows =
-    let room = taken.room in
-    subst (λ l. GrowsToFront l names grown) (sym room.plain ∙ of.catches) (needed_as_held room.forth names grown room.room room.room_back (subst (λ l. GrowsToGo l names grown) taken.inverses grows))
+pub needed_taken_back : (list : List Catch) (backs : List PatchCatches) (names grown : List (List ℕ)) → IsInverted list backs → GrowsToGo (catches_in_order (reverse backs)) names grown → GrowsToFront list names grown
+needed_taken_back list backs names grown back grows =
+    subst (λ l. GrowsToFront l names grown) (sym back.plain) (needed_as_held back.forth names grown back.room back.room_back (subst (λ l. GrowsToGo l names grown) back.inverses grows))
 
 -- plain catches, each inverted
 pub record AreInvertedSoFar (list back : List Catch) : Type 0 where

@@ -1,5 +1,5 @@
 -- What a patch needs, found by a walk back from it over the patches taken back.
-use Rattle.camp_questions.proofs.Words.{◌≡◌, ◌<◌, ◌≤◌, ℕ, zero, suc, ◌+◌, ◌-◌, Bool, true, false, not, ◌&&◌, ◌||◌, cond, List, [], ◌∷◌, ◌++◌, bytes_eq, map, length, take, drop, get_or, replicate, None, Some, refl, sym, ap, ◌∙◌, subst, inl, inr, arith, AllByRecursion, length-replicate, take-append-drop, Catch, ArrangesBehind, has_patch, is_among, name_of, names_of, all_append, name_itself, or_cases, or_none, or_true, among_others, other_names, among_once, AreHeldIn, ComeToFront, CanGo, AreAmong, IsPlain, NeedsThese, set, cases_lt, All-from_recursion, All-get_or, get_or-take, get_or-map, get_or-reverse, get_or-set_same, get_or_append_left, get_or_default, get_or_past, get_or_push, length-map, length-reverse, length-set, length_push, take_all, reverse, inverse_all, PatchCatches, AreApart, ArePatches, catches_in_order, names_in_order, Needed, ArePatchesOf, AreTakenBack, AreKnown, AreMarkedBelow, AreReached, IsInverted, NeedEach, marked, is_marked, marked_in_both, needing, ComeBeforeAll, StickBehind, other_way, flat_map-append, append-nil, both_ways}
+use Rattle.camp_questions.proofs.Words.{◌≡◌, ◌<◌, ◌≤◌, ℕ, zero, suc, ◌+◌, ◌-◌, Bool, true, false, not, ◌&&◌, ◌||◌, cond, List, [], ◌∷◌, ◌++◌, bytes_eq, map, length, take, drop, get_or, replicate, None, Some, refl, sym, ap, ◌∙◌, subst, inl, inr, arith, AllByRecursion, length-replicate, take-append-drop, Catch, ArrangesBehind, has_patch, is_among, name_of, all_append, name_itself, or_cases, or_none, or_true, among_others, other_names, among_once, AreHeldIn, ComeToFront, CanGo, AreAmong, IsPlain, NeedsThese, set, cases_lt, All-from_recursion, All-get_or, get_or-take, get_or-map, get_or-reverse, get_or-set_same, get_or_append_left, get_or_default, get_or_past, get_or_push, length-map, length-reverse, length-set, length_push, take_all, reverse, inverse_all, PatchCatches, AreApart, ArePatches, catches_in_order, names_in_order, Needed, AreKnown, AreMarkedBelow, AreReached, IsInverted, NeedEach, marked, is_marked, marked_in_both, needing, ComeBeforeAll, StickBehind, other_way, flat_map-append, append-nil, both_ways}
 use Rattle.camp_questions.proofs.Growths.{alone_among}
 use Rattle.camp_questions.proofs.GraphSteps.{AreNeeded, all_needed, none_needed, one_needed}
 use Rattle.camp_questions.proofs.BranchGrowths.{needs_are_determined, needs_come_first, needs_are_least}
@@ -312,15 +312,3 @@ one_known branch names count all next one long within so_far called reached beco
 pub all_known : (branch : List Catch) (names : List (List ℕ)) (count : ℕ) (all : List Needed) → length names ≤ count → AreKnownSoFar branch names count all → NeedEach branch names all
 all_known branch names count all past so_far =
     all_needed branch names (take count names) all (take_all count names past) so_far.needed
-
--- a branch whose patches are taken back
-pub are_inverted : (branch : List Catch) (patches backs : List PatchCatches) → ArePatchesOf branch patches → AreTakenBack patches backs → names_in_order patches ≡ names_of branch → IsInverted branch backs
-are_inverted branch patches backs of taken own = record {
-  forth = taken.room.forth;
-  plain = sym of.catches ∙ taken.room.plain;
-  room = taken.room.room;
-  room_back = taken.room.room_back;
-  are = taken.are;
-  names = taken.names ∙ own;
-  inverses = taken.inverses;
-}

@@ -82,7 +82,7 @@ pub use Rattle.camp_questions.specs.Inside.Moving.{Passes, hunk_at}
 pub use Rattle.camp_questions.specs.Inside.Seeing.{AllSeenToo, ComesIf, ComesIfNamed, SeenToo, first_with}
 pub use Rattle.camp_questions.specs.Inside.StandingAside.{AllStay, ComeBeforeAll, StandsAside, StickBehind}
 pub use Rattle.camp_questions.specs.Inside.Telling.{IsTold}
-pub use Rattle.camp_questions.specs.Inside.TakingBack.{AreInverses, AreTakenBack, HaveRoom}
+pub use Rattle.camp_questions.specs.Inside.TakingBack.{AreInverses, HaveRoom}
 pub use Rattle.camp_questions.specs.Marks.{AreVersions, Makes, MarksAt, is_in_pair, names_in_pairs, with_made}
 pub use Rattle.camp_questions.specs.OpenConflicts.{AreOpenAmong, AreOpenIn, OpensWith, is_open}
 pub use Rattle.camp_questions.specs.Pictures.{Picture, drawn_about, hangs_on, kept_node, part_with, whole_picture, with_needing, with_needing_one, with_needs, with_needs_of}

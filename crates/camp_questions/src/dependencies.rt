@@ -49,9 +49,8 @@ fn held_there(branch: &Branch, names: &[Name]) -> Result<Names, AllocError>
     ensures { IfOk result (HeldBy branch.now names.now) }
 {
     let alloc = branch.catches().allocator();
+    let patches = by_patch(alloc, &branch.catches().to_vec()?)?;
     let named = set_of(alloc, names)?;
-    let catches = branch.catches().to_vec()?;
-    let patches = by_patch(alloc, &catches)?;
     let held = held_in(alloc, &patches, named)?;
     in_order(branch, &held)
 }
@@ -63,8 +62,7 @@ pub(crate) fn grown_to_front(branch: &Branch, names: NameSet) -> Result<NameSet,
 {
     let alloc = branch.catches().allocator();
     let catches = branch.catches().to_vec()?;
-    let patches = by_patch(alloc, &catches)?;
-    match taken_back(alloc, &catches, &patches)? {
+    match taken_back(alloc, &catches)? {
         Some(mut back) => {
             back.reverse();
             held_in(alloc, &back, names)

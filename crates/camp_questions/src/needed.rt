@@ -4,7 +4,7 @@ ghost use Rattle.camp_branch.specs.Fields.{names_in};
 ghost use Rattle.camp_questions.specs.Inside.Graphing.{NeedEach};
 
 use crate::dependencies::stuck_to_front;
-use crate::fast::{all_reached, by_patch, taken_back};
+use crate::fast::{all_reached, taken_back};
 use camp_base::Name;
 use camp_branch::{NameSet, set_of};
 use camp_catch::Catch;
@@ -28,8 +28,7 @@ pub(crate) fn all_needed(branch: &Branch, names: &[Name]) -> Result<Vec<Needed>,
 {
     let alloc = branch.catches().allocator();
     let catches = branch.catches().to_vec()?;
-    let patches = by_patch(alloc, &catches)?;
-    match taken_back(alloc, &catches, &patches)? {
+    match taken_back(alloc, &catches)? {
         Some(back) => all_reached(alloc, &back),
         None => all_stuck(alloc, &catches, names),
     }

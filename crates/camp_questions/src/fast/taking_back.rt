@@ -1,29 +1,30 @@
 //! Plain patches, taken back.
-ghost use Rattle.std.specs.Prelude.{IfOk, IfSome, IsTrue};
-ghost use Rattle.camp_questions.specs.Inside.ByPatch.{ArePatchesOf};
-ghost use Rattle.camp_questions.specs.Inside.TakingBack.{AreInverses, AreTakenBack, HaveRoom};
+ghost use Rattle.std.specs.Prelude.{List, IfOk, IfSome, IsTrue};
+ghost use Rattle.camp_branch.specs.Branches.{HasPatches, Patch};
+ghost use Rattle.camp_questions.specs.Inside.Graphing.{IsInverted};
+ghost use Rattle.camp_questions.specs.Inside.TakingBack.{AreInverses, HaveRoom};
 
-use crate::fast::patch_catches::PatchCatches;
+use crate::fast::patch_catches::{PatchCatches, by_patch};
 use camp_catch::Catch;
 use camp_seq::{Seq, has_room, invert_all};
 use camp_share::Shared;
 use std::alloc::{AllocError, Global};
 
-/// The patches, each with the inverses of its changes, the last first. None where one is in conflict, or
-/// they may have no room.
+/// The patches of a list, the last catch of each first, with the inverses of their changes. None where one
+/// is in conflict, or they may have no room.
 pub(crate) fn taken_back(
     alloc: Global,
     list: &[Shared<Catch>],
-    patches: &[PatchCatches],
 ) -> Result<Option<Vec<PatchCatches>>, AllocError>
-    requires { ArePatchesOf list.now patches.now }
-    ensures { IfOk result (λ back. IfSome back (λ back. AreTakenBack patches.now back.items)) }
+    requires { (patches : List Patch) × HasPatches list.now patches }
+    ensures { IfOk result (λ back. IfSome back (λ back. IsInverted list.now back.items)) }
 {
     if !have_room(alloc, list)? {
         return Ok(None);
     }
+    let patches = by_patch(alloc, list)?;
     let mut back = Vec::with_capacity(alloc, patches.len())?;
-    for patch in patches {
+    for patch in &patches {
         let catches = inverses(alloc, &patch.catches)?;
         let Some(catches) = catches else {
             return Ok(None);

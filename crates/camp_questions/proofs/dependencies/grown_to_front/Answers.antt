@@ -1,23 +1,21 @@
-use Rattle.camp_questions.proofs.Words.{IfOk-weaker, reverse, ◌≡◌, ◌∙◌, subst, names_in, ArePatchesOf, catches_in_order, GrowsToFront, GrowsToGo, AreTakenBack}
+use Rattle.camp_questions.proofs.Words.{IfOk-weaker, reverse, ◌≡◌, ◌∙◌, subst, names_in, catches_in_order, GrowsToFront, GrowsToGo, IsInverted}
 use Rattle.camp_questions.proofs.PatchesBack.{needed_taken_back, reversed}
 use Rattle.camp_questions.proofs.PatchesOfLists.{patches_there}
 use Rattle.camp_questions.proofs.dependencies.grown_to_front.Goals as goal
 
-pub by_patch-requires : goal.by_patch-requires
-by_patch-requires c =
+pub taken_back-requires : goal.taken_back-requires
+taken_back-requires c =
     patches_there c.args.branch.now c.deref.result.now (c.deref.ensures.value ∙ c.in_ok-catches.ensures.exact ∙ c.catches-2.ensures.value) c.catches-2.ensures.lawful
 
 pub held_in-requires : goal.held_in-requires
 held_in-requires c =
-    let taken : AreTakenBack c.deref-3.result.now c.in-Some.back.items = rw c.in-Some.is at c.in_ok-back.ensures in
-    rw (c.deref-in-Some.ensures.value, c.reverse.ensures.items) (reversed c.in-Some.back.items taken.are)
+    let back : IsInverted c.deref.result.now c.in-Some.back.items = rw c.in-Some.is at c.in_ok-back.ensures in
+    rw (c.deref-in-Some.ensures.value, c.reverse.ensures.items) (reversed c.in-Some.back.items back.are)
 
 pub returns-in-Some : goal.returns-in-Some
 returns-in-Some c =
     let names = names_in c.args.names in
-    let is : c.deref.result.now ≡ c.args.branch.now = c.deref.ensures.value ∙ c.in_ok-catches.ensures.exact ∙ c.catches-2.ensures.value in
-    let of = subst (λ l. ArePatchesOf l c.in_ok-patches.patches.items) is c.in_ok-patches.ensures in
-    let taken : AreTakenBack c.deref-3.result.now c.in-Some.back.items = rw c.in-Some.is at c.in_ok-back.ensures in
-    let taken_so = subst (λ l. AreTakenBack l c.in-Some.back.items) c.deref-3.ensures.value taken in
+    let list : c.deref.result.now ≡ c.args.branch.now = c.deref.ensures.value ∙ c.in_ok-catches.ensures.exact ∙ c.catches-2.ensures.value in
+    let back : IsInverted c.deref.result.now c.in-Some.back.items = rw c.in-Some.is at c.in_ok-back.ensures in
     let turned : c.deref-in-Some.result.now ≡ reverse c.in-Some.back.items = c.deref-in-Some.ensures.value ∙ c.reverse.ensures.items in
-    IfOk-weaker c.held_in.result (λ grown. GrowsToGo (catches_in_order c.deref-in-Some.result.now) names (names_in grown)) (λ grown. GrowsToFront c.args.branch.now names (names_in grown)) (λ grown grows. needed_taken_back c.args.branch.now c.in_ok-patches.patches.items c.in-Some.back.items names (names_in grown) of taken_so (subst (λ l. GrowsToGo (catches_in_order l) names (names_in grown)) turned grows)) c.held_in.ensures
+    IfOk-weaker c.held_in.result (λ grown. GrowsToGo (catches_in_order c.deref-in-Some.result.now) names (names_in grown)) (λ grown. GrowsToFront c.args.branch.now names (names_in grown)) (λ grown grows. needed_taken_back c.args.branch.now c.in-Some.back.items names (names_in grown) (subst (λ l. IsInverted l c.in-Some.back.items) list back) (subst (λ l. GrowsToGo (catches_in_order l) names (names_in grown)) turned grows)) c.held_in.ensures

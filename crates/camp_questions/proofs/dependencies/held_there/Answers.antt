@@ -6,12 +6,12 @@ use Rattle.camp_questions.proofs.dependencies.held_there.Goals as goal
 
 pub by_patch-requires : goal.by_patch-requires
 by_patch-requires c =
-    patches_there c.args.branch.now c.deref.result.now (c.deref.ensures.value ∙ c.in_ok-catches.ensures.exact ∙ c.catches-2.ensures.value) c.catches-2.ensures.lawful
+    patches_there c.args.branch.now c.deref.result.now (c.deref.ensures.value ∙ c.in_ok-to_vec.ensures.exact ∙ c.catches-2.ensures.value) c.catches-2.ensures.lawful
 
 pub returns : goal.returns
 returns c =
     let branch : List Catch = c.args.branch.now in
-    let list : c.deref.result.now ≡ branch = c.deref.ensures.value ∙ c.in_ok-catches.ensures.exact ∙ c.catches-2.ensures.value in
+    let list : c.deref.result.now ≡ branch = c.deref.ensures.value ∙ c.in_ok-to_vec.ensures.exact ∙ c.catches-2.ensures.value in
     let whole : catches_in_order c.deref-2.result.now ≡ branch = ap catches_in_order c.deref-2.ensures.value ∙ c.in_ok-patches.ensures.catches ∙ list in
     let grows = subst (λ l. GrowsToGo l (names_in c.in_ok-named.named) (names_in c.in_ok-held.held)) whole c.in_ok-held.ensures in
     IfOk-weaker c.in_order.result _ _ (λ told is. grown_in_order (map name_of branch) (CanGo branch) (AreHeldIn branch) (to_go branch) branch c.args.names.now (names_in c.in_ok-named.named) (names_in c.in_ok-held.held) told c.in_ok-named.ensures.exact grows is) c.in_order.ensures
