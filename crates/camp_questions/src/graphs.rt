@@ -15,8 +15,8 @@ use std::marker::Model;
 /// The patches of a branch, what each needs directly, and which are in conflict.
 #[derive(Drop)]
 pub struct PatchGraph {
-    patches: Vec<Node>,
-    conflicts: Conflicts,
+    pub(crate) patches: Vec<Node>,
+    pub(crate) conflicts: Conflicts,
 }
 
 /// A patch of a graph.
@@ -72,8 +72,8 @@ pub(crate) fn graph_of(branch: &Branch) -> Result<PatchGraph, AllocError>
     ensures { IfOk result (IsGraph branch.now) }
 {
     let names = branch.names()?;
-    let all = all_needed(branch, &names)?;
-    let patches = nodes(branch.catches().allocator(), &names, &all)?;
+    let alloc = branch.catches().allocator();
+    let patches = nodes(alloc, &names, &all_needed(branch, &names)?)?;
     let pairs = branch.conflicts()?;
     Ok(PatchGraph {
         patches,

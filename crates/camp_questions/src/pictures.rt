@@ -76,37 +76,27 @@ fn picture_in(branch: &Branch, names: &[Name]) -> Result<Picture, AllocError>
     ensures { IfOk result (λ picture. (graph : Drawn) × (pairs : List (List ℕ × List ℕ))
         × (picture ≡ drawn_about names.now (whole_picture graph pairs)) × IsGraph branch.now graph × AreOpenIn branch.now pairs) }
 {
-    let whole = graph_of(branch)?;
+    let part = drawn_about(branch.catches().allocator(), names, graph_of(branch)?)?;
     let unsettled = open_in(branch)?;
-    drawn_about(branch.catches().allocator(), names, whole, unsettled)
-}
-
-/// The whole picture, or the part of it with what patches need, and what needs them.
-fn drawn_about(
-    alloc: Global,
-    names: &[Name],
-    whole: PatchGraph,
-    unsettled: Conflicts,
-) -> Result<Picture, AllocError>
-    ensures { IfOk result (λ picture. picture ≡ drawn_about names.now (whole_picture whole unsettled)) }
-{
-    let (patches, conflicts) = whole.into_parts();
-    if names.is_empty() {
-        return Ok(Picture {
-            patches,
-            conflicts,
-            unsettled,
-        });
-    }
-    let kept = hanging_on(alloc, &patches, names)?;
-    let nodes = kept_nodes(alloc, &kept, &patches)?;
-    let mut pairs = Vec::from_slice(alloc, conflicts.pairs())?;
-    pairs.retain(|pair| are_kept(&kept, pair));
+    let (patches, conflicts) = part.into_parts();
     Ok(Picture {
-        patches: nodes,
-        conflicts: Conflicts::new(pairs),
+        patches,
+        conflicts,
         unsettled,
     })
+}
+
+/// The whole graph, or the part of it with what patches need, and what needs them.
+fn drawn_about(alloc: Global, names: &[Name], whole: PatchGraph) -> Result<PatchGraph, AllocError>
+    ensures { IfOk result (λ part. (pairs : List (List ℕ × List ℕ)) → whole_picture part pairs ≡ drawn_about names.now (whole_picture whole pairs)) }
+{
+    if names.is_empty() {
+        return Ok(whole);
+    }
+    let kept = hanging_on(alloc, whole.patches(), names)?;
+    let patches = kept_nodes(alloc, &kept, whole.patches())?;
+    let conflicts = kept_pairs(&kept, whole.conflicts())?;
+    Ok(PatchGraph { patches, conflicts })
 }
 
 /// The names of patches, of what they need, and of what needs them.
@@ -202,8 +192,11 @@ fn push_kept(left: &mut Vec<Node>, kept: &NameSet, node: &Node) -> Result<(), Al
     Ok(())
 }
 
-fn are_kept(kept: &NameSet, pair: &(Name, Name)) -> bool
-    ensures { result ≡ (has_name kept.now pair.now.0 && has_name kept.now pair.now.1) }
+/// The pairs of which both names are kept.
+fn kept_pairs(kept: &NameSet, conflicts: &Conflicts) -> Result<Conflicts, AllocError>
+    ensures { IfOk result (λ left. left ≡ filter (λ pair. has_name kept.now pair.0 && has_name kept.now pair.1) conflicts.now) }
 {
-    kept.contains_key(&pair.0) && kept.contains_key(&pair.1)
+    let mut pairs = Vec::from_slice(kept.allocator(), conflicts.pairs())?;
+    pairs.retain(|pair| kept.contains_key(&pair.0) && kept.contains_key(&pair.1));
+    Ok(Conflicts::new(pairs))
 }

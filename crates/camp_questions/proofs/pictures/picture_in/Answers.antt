@@ -1,6 +1,7 @@
-use Rattle.camp_questions.proofs.Words.{IfOk-weaker}
+use Rattle.camp_questions.proofs.Words.{◌∙◌}
 use Rattle.camp_questions.proofs.pictures.picture_in.Goals as goal
 
 pub returns : goal.returns
 returns c =
-    IfOk-weaker c.drawn_about.result _ _ (λ picture is. (c.in_ok-whole.whole, c.in_ok-unsettled.unsettled, is, c.in_ok-whole.ensures, c.in_ok-unsettled.ensures)) c.drawn_about.ensures
+    let pairs = c.in_ok-unsettled.unsettled in
+    (c.in_ok-graph_of.field-0, pairs, (λ i. record { patches = c.into_parts-patches.ensures.patches i; conflicts = c.into_parts-patches.ensures.conflicts i; unsettled = pairs }) ∙ c.in_ok-part.ensures pairs, c.in_ok-graph_of.ensures, c.in_ok-unsettled.ensures)
