@@ -126,8 +126,7 @@ fn marks_at(branch: &Branch, tree: &Tree, path: &Path) -> Result<Marked, AllocEr
         return Ok(Marked::NoFile);
     };
     let seen = labels_seen(branch)?;
-    let pairs = open_among(branch.catches(), &seen)?;
-    let names = names_in_pairs(branch, &pairs)?;
+    let names = names_in_pairs(branch, &open_among(branch.catches(), &seen)?)?;
     let versions = versions_of(&seen, tree, path, lines, names.as_slice())?;
     let file = with_marks(lines, &versions)?;
     Ok(Marked::File(file))

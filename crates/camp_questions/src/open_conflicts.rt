@@ -32,8 +32,7 @@ pub fn open_pairs(state: &State, branch: &Name) -> Result<Conflicts, Unanswered>
 pub(crate) fn open_in(branch: &Branch) -> Result<Conflicts, AllocError>
     ensures { IfOk result (AreOpenIn branch.now) }
 {
-    let seen = labels_seen(branch)?;
-    let pairs = open_among(branch.catches(), &seen)?;
+    let pairs = open_among(branch.catches(), &labels_seen(branch)?)?;
     Ok(Conflicts::new(pairs))
 }
 

@@ -55,8 +55,7 @@ fn next_most(most: usize, none_passed: bool) -> usize
 fn added(alloc: Global, changes: &[Named], x: &Contexted) -> Result<Contexted, AllocError>
     ensures { IfOk result (λ y. AddsAll changes.now x.now y) }
 {
-    let list = join(alloc, changes, &[])?;
-    Contexted::add(&list, x)
+    Contexted::add_given(join(alloc, changes, &[])?, x)
 }
 
 /// How far a label is passed by changes, from the last to the first: where that ends, and what it is there.

@@ -72,8 +72,7 @@ fn said_in(branch: &Branch, name: &Name) -> Result<Said, AllocError>
     ensures { IfOk result (λ changes. (side : List AnyNamed) × (changes ≡ changes_in side) × IsSideIn branch.now name.now side) }
 {
     let alloc = branch.catches().allocator();
-    let seen = labels_seen(branch)?;
-    let side = side_among(alloc, &seen, name)?;
+    let side = side_among(alloc, &labels_seen(branch)?, name)?;
     let mut changes = Vec::with_capacity(alloc, side.items().len())?;
     append_changes(&mut changes, side.items())?;
     Ok(Said { changes })
@@ -187,8 +186,7 @@ fn append_label(side: &mut Seq, x: &Contexted) -> Result<(), AllocError>
     if has_key(side.items(), &x.key()) {
         return Ok(());
     }
-    let back = invert_all(side)?;
-    let seen = Contexted::add(&back, x)?;
+    let seen = Contexted::add_given(invert_all(side)?, x)?;
     append_all(side, seen.context().items())?;
     side.push(seen.patch().try_clone()?)?;
     Ok(())

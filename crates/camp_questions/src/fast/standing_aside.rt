@@ -57,9 +57,9 @@ pub(crate) fn stand_aside(
     if is_stopped(going, &patch.catches) {
         return Ok(false);
     }
-    let named = set_of(alloc, slice::from_ref(&patch.name))?;
     let mut list = shared(alloc, going)?;
     append(&mut list, &patch.catches)?;
+    let named = set_of(alloc, slice::from_ref(&patch.name))?;
     match arrange(alloc, &list, &named) {
         Ok(arranged) => {
             *going = arranged.rest;
