@@ -3,7 +3,7 @@ use Rattle.camp_questions.proofs.Words.{◌≡◌, ℕ, cond, List, [], ◌∷�
 use Rattle.camp_call.specs.declared.calls.Call.{Call}
 use Rattle.camp_call.specs.declared.calls.Call.TheVariants as call
 use Rattle.camp_call.specs.declared.replies.Reply.TheVariants as reply
-use Rattle.camp_questions.specs.Foresight.{Foresees, ForeseesOf, StandsIn, branch_written}
+use Rattle.camp_questions.specs.Foresight.{ForeseesOf, IsAcceptedSo, StandsIn, branch_written}
 use Rattle.camp_questions.specs.declared.foresight.Standing.{Standing}
 use Rattle.camp_questions.specs.Inside.Foresight.{LedTo}
 use Rattle.camp_repo.specs.Objects.{replies_to, reply_of, state_behind}
@@ -55,9 +55,9 @@ stands_so next name catches tree copy pairs told has leads same are is = record 
 }
 
 -- an accepted call is foreseen
-pub accepted_so : (state : Contents) (call : Call) (next : Contents) (standing : Standing) (count : ℕ) → Next next ≡ step state call → count ≡ next.count → branch_written call ≡ Some standing.branch → StandsIn next standing → Foresees state call (record { reply = reply.Done count; changed = Some standing })
-accepted_so state call next standing count leads counted written stands =
-    subst (λ decision. ForeseesOf call decision (record { reply = reply.Done count; changed = Some standing })) leads (record { told = ap reply.Done counted; standing = standing; changed = refl; written = written; stands = stands })
+pub accepted_so : (call : Call) (next : Contents) (standing : Standing) (count : ℕ) → count ≡ next.count → branch_written call ≡ Some standing.branch → StandsIn next standing → IsAcceptedSo call next (record { reply = reply.Done count; changed = Some standing })
+accepted_so call next standing count counted written stands =
+    record { told = ap reply.Done counted; standing = standing; changed = refl; written = written; stands = stands }
 
 -- ---- what is foreseen of a call is what comes of it
 

@@ -1,5 +1,5 @@
-ghost use Rattle.std.specs.Prelude.{◌≡◌, ◌-◌, ◌^◌, ◌<◌, Some, IfErr, IfOk};
-ghost use Rattle.camp_questions.specs.Foresight.{Foresees, MayWantForesight, StandsIn, branch_written};
+ghost use Rattle.std.specs.Prelude.{◌≡◌, ◌-◌, ◌^◌, ◌<◌, IfErr, IfOk};
+ghost use Rattle.camp_questions.specs.Foresight.{Foresees, IsAcceptedSo, MayWantForesight, branch_written};
 ghost use Rattle.camp_questions.specs.Inside.Foresight.{LedTo};
 
 use camp_base::{Name, Tree};
@@ -37,21 +37,15 @@ pub fn what_if(state: &State, call: &Call) -> Result<Foreseen, AllocError>
             reply,
             changed: None,
         }),
-        Decided::Next(next) => {
-            let standing = written(&next, call)?;
-            Ok(Foreseen {
-                reply: Reply::Done(next.count()),
-                changed: Some(standing),
-            })
-        }
+        Decided::Next(next) => written(&next, call),
     }
 }
 
-/// The branch that an accepted call wrote to, as it stands in the state that the call led to.
-fn written(next: &State, call: &Call) -> Result<Standing, AllocError>
+/// The number of an accepted call, and the branch that it wrote to, as that stands in the state that the call led
+/// to.
+fn written(next: &State, call: &Call) -> Result<Foreseen, AllocError>
     requires { LedTo call.now next.now }
-    ensures branch { IfOk result (λ standing. branch_written call.now ≡ Some standing.branch) }
-    ensures stands { IfOk result (λ standing. StandsIn next.now standing) }
+    ensures { IfOk result (IsAcceptedSo call.now next.now) }
 {
     let Some(name) = branch_written(call) else {
         unreachable!();
@@ -61,10 +55,14 @@ fn written(next: &State, call: &Call) -> Result<Standing, AllocError>
     };
     let tree = branch.tree().try_clone()?;
     let pairs = branch.conflicts()?;
-    Ok(Standing {
+    let standing = Standing {
         branch: name,
         tree,
         conflicts: Conflicts::new(pairs),
+    };
+    Ok(Foreseen {
+        reply: Reply::Done(next.count()),
+        changed: Some(standing),
     })
 }
 
