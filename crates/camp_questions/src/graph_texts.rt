@@ -1,4 +1,4 @@
-ghost use Rattle.std.specs.Prelude.{◌≡◌, ◌++◌, ◌&&◌, IfOk, OnOk, bytes_eq, codes, string_bytes};
+ghost use Rattle.std.specs.Prelude.{◌≡◌, ◌++◌, IfOk, OnOk, codes, string_bytes};
 ghost use Rattle.std.specs.List.{flat_map};
 ghost use Rattle.camp_questions.specs.GraphTexts.{arrow_text, conflict_style, conflict_text, graph_text, is_pair_among, node_text};
 
@@ -87,13 +87,7 @@ fn conflict_style(is_open: bool) -> &'static str
 fn is_among(pairs: &[(Name, Name)], pair: &(Name, Name)) -> bool
     ensures { result ≡ is_pair_among pairs.now pair.now }
 {
-    pairs.iter().any(|other| is_same(pair, other))
-}
-
-fn is_same(pair: &(Name, Name), other: &(Name, Name)) -> bool
-    ensures { result ≡ (bytes_eq pair.now.0 other.now.0 && bytes_eq pair.now.1 other.now.1) }
-{
-    pair.0 == other.0 && pair.1 == other.1
+    pairs.contains(pair)
 }
 
 fn append_arrow(
