@@ -1,4 +1,5 @@
 -- Whose lines are waited for, and of which fault is told.
+use Rattle.std.proofs.lemmas.Bool.{and_from, and_left, and_right, not_from_false, not_from_true}
 use Rattle.std.specs.Prelude.{◌&&◌}
 use Rattle.camp_talk.proofs.Words.{◌≡◌, ◌∙◌, ℕ, Bool, true, false, true≢false, cond, List, Ok, Err, Result, not, ap, ◌==◌, ◌⊎◌, eqb-true, inl, inr, refl, sym, asked_by, first_of, lines_in, Asked, LineFault}
 use Rattle.camp_repo.specs.States.{Contents}
@@ -23,23 +24,14 @@ parts : (waits unknown is : Bool) → (waits && (unknown && not is)) ≡ true �
 parts true true false e = (refl, refl, refl)
 parts waits unknown is e = absurd (true≢false (sym e))
 
-whole : (waits unknown is : Bool) → waits ≡ true → unknown ≡ true → is ≡ false → (waits && (unknown && not is)) ≡ true
-whole true true false a b c = refl
-whole true true true a b c = absurd (true≢false c)
-whole true false is a b c = absurd (true≢false (sym b))
-whole false unknown is a b c = absurd (true≢false (sym a))
-
 fails : (waits unknown is : Bool) → (waits ≡ false) ⊎ ((unknown ≡ false) ⊎ (is ≡ true)) → (waits && (unknown && not is)) ≡ false
-fails false unknown is own = refl
-fails true false is own = refl
-fails true true true own = refl
-fails true true false (inl e) = absurd (true≢false e)
-fails true true false (inr (inl e)) = absurd (true≢false e)
-fails true true false (inr (inr e)) = absurd (true≢false (sym e))
+fails waits unknown is (inl e) = and_left waits (unknown && not is) e
+fails waits unknown is (inr (inl e)) = and_right waits (unknown && not is) (and_left unknown (not is) e)
+fails waits unknown is (inr (inr e)) = and_right waits (unknown && not is) (and_right unknown (not is) (not_from_true is e))
 
 -- whether a fault comes of another one, by its parts
 is_line : (before : Account) (kind : FaultKind) (line : List ℕ) → IsLineOf before kind line → comes_of_another before.awaited kind line ≡ true
-is_line before kind line taken = whole (may_be before.awaited line) (is_unknown kind) (begins_command line) taken.0 taken.1 taken.2
+is_line before kind line taken = and_from _ _ taken.0 (and_from _ _ taken.1 (not_from_false _ taken.2))
 
 is_own : (before : Account) (kind : FaultKind) (line : List ℕ) → IsOfItsOwn before kind line → comes_of_another before.awaited kind line ≡ false
 is_own before kind line own = fails (may_be before.awaited line) (is_unknown kind) (begins_command line) own

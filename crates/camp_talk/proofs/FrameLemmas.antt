@@ -1,6 +1,7 @@
 -- Frames of requests and of answers, part by part.
-use Rattle.camp_talk.proofs.Words.{◌==◌, zero, suc, ◌≡◌, ◌≢◌, ◌<◌, ◌≤◌, inl, inr, ℕ, Bool, true, false, cond, List, [], ◌∷◌, ◌++◌, length, take, drop, Option, None, Some, Err, refl, sym, ap, subst, ◌∙◌, append_assoc, arith, true≢false, take_all, length-append, length-take, All, All-cons, All-drop, All-head, All-nil, list_all, drop-append_seam, and_parts, Appends, Appends-trans, Consumes, Consumes-trans, append-nil, ◌-◌, lines_of, first_of, AppendsSome, Entries, IsLine, IsNotWriting, IsWriting, Takes}
+use Rattle.camp_talk.proofs.Words.{◌==◌, ◌≡◌, ◌≢◌, ◌<◌, ◌≤◌, inl, inr, ℕ, Bool, true, false, cond, List, [], ◌∷◌, ◌++◌, length, take, drop, Option, None, Some, Err, refl, sym, ap, subst, ◌∙◌, append_assoc, arith, true≢false, take_all, length-append, length-take, All, All-cons, All-drop, All-head, All-nil, list_all, drop-append_seam, and_parts, Appends, Appends-trans, Consumes, Consumes-trans, append-nil, ◌-◌, lines_of, first_of, AppendsSome, Entries, IsLine, IsNotWriting, IsWriting, Takes}
 use Rattle.std.proofs.Common.{unwrap_or, ◌&&◌}
+use Rattle.std.proofs.lemmas.Bool.{eqb-false}
 use Rattle.std.proofs.lemmas.Bool.Decides.{nat_tests}
 use Rattle.std.proofs.KnownBytes.{Appends-kept}
 use Rattle.std.proofs.lemmas.List.{nil_from_length}
@@ -135,8 +136,7 @@ module _ (line : List ℕ) (is : IsLine line) where
 
 -- a number is not none
 pub some_are : (n m : ℕ) → n ≡ m → (n == 0) ≡ false → 0 < m
-some_are zero m same is = absurd (true≢false is)
-some_are (suc n) m same is = omega (arith, same)
+some_are n m same is = let some = eqb-false n 0 is in omega (arith, same, some)
 
 module _ (a b : Option (List ℕ)) (old new : List ℕ) where
   -- the input had ended

@@ -1,15 +1,10 @@
 -- A line is read, part by part, and as much of it is held as is read.
-use Rattle.camp_talk.proofs.Words.{◌≡◌, ◌≢◌, ℕ, zero, suc, ◌+◌, ◌-◌, ◌<◌, ◌≤◌, min, Bool, true, false, cond, ◌==◌, nat_lt, List, [], ◌∷◌, ◌++◌, length, take, drop, position_or_len, Consumes, Consumes-trans, drop-append_seam, take-append_seam, All-append, All-cons, All-nil, as_read, Seen, Option, refl, sym, ap, subst, ◌∙◌, append_assoc, append-nil, arith, take_all, take-take, length-append, length-take-le, eqb-true, eq-eqb, true≢false, zero-le, take_more, passes_at_first, Ends, EndsAt, IsLine, ReadsLine, StopsAtLine, Takes, lines_of, with_last, feed_of, ended, seen_of, slice_set, not}
+use Rattle.camp_talk.proofs.Words.{◌≡◌, ◌≢◌, ℕ, zero, suc, ◌+◌, ◌-◌, ◌<◌, ◌≤◌, min, Bool, true, false, cond, ◌==◌, nat_lt, List, [], ◌∷◌, ◌++◌, length, take, drop, position_or_len, Consumes, Consumes-trans, drop-append_seam, take-append_seam, All-append, All-cons, All-nil, as_read, Seen, Option, refl, sym, ap, subst, ◌∙◌, append_assoc, append-nil, arith, take_all, take-take, length-append, length-take-le, eqb-true, zero-le, take_more, passes_at_first, Ends, EndsAt, IsLine, ReadsLine, StopsAtLine, Takes, lines_of, with_last, feed_of, ended, seen_of, slice_set, not}
+use Rattle.std.proofs.lemmas.Bool.{eqb-false, ltb-false, ltb-true}
 use Rattle.std.proofs.lemmas.Bool.Decides.{nat_tests}
 use Rattle.camp_talk.proofs.Cuts.{lines-last, lines-line}
 use Rattle.camp_talk.proofs.Parts.{ends_behind}
 use Rattle.camp_talk.specs.declared.lines.Seen.TheVariants as seen
-
-is_less : (a b : ℕ) → nat_lt a b ≡ true → a < b
-is_less a b less = grind (arith, nat_tests, less)
-
-is_more : (a b : ℕ) → nat_lt a b ≡ false → b ≤ a
-is_more a b more = grind (arith, nat_tests, more)
 
 -- ---- fronts
 
@@ -44,9 +39,6 @@ take_least (suc len) (suc room) (byte ∷ bytes) n is =
 abbrev feed : ℕ → Bool
 feed byte = byte == 10
 
-not_at : (byte other : ℕ) → (byte == other) ≡ false → byte ≢ other
-not_at byte other differs same = true≢false (sym (eq-eqb byte other same) ∙ differs)
-
 pub before_feed : (shown : List ℕ) → IsLine (take (position_or_len feed shown) shown)
 before_feed [] = All-nil (λ byte. byte ≢ 10)
 before_feed (byte ∷ shown) = at (byte == 10) refl (before_feed shown)
@@ -58,7 +50,7 @@ before_feed (byte ∷ shown) = at (byte == 10) refl (before_feed shown)
         let n = position_or_len feed shown in
         let next : suc n ≡ 1 + n = omega arith in
         subst (λ k. IsLine (take k (byte ∷ shown))) next
-        (All-cons (λ byte. byte ≢ 10) byte (take n shown) (not_at byte 10 other) others)
+        (All-cons (λ byte. byte ≢ 10) byte (take n shown) (eqb-false byte 10 other) others)
 
 module _ (shown : List ℕ) where
   abbrev len : ℕ
@@ -73,8 +65,8 @@ module _ (shown : List ℕ) where
           → take (len + length (feed_of (cond b seen.Line (cond empty seen.End seen.Part)))) shown
           ≡ take len shown ++ feed_of (cond b seen.Line (cond empty seen.End seen.Part))
       at true more empty =
-          take_more shown len 0 (is_less len (length shown) more)
-          ∙ ap (λ byte. take len shown ++ byte ∷ []) (eqb-true _ 10 (passes_at_first feed shown 0 (is_less len (length shown) more)))
+          take_more shown len 0 (ltb-true len (length shown) more)
+          ∙ ap (λ byte. take len shown ++ byte ∷ []) (eqb-true _ 10 (passes_at_first feed shown 0 (ltb-true len (length shown) more)))
       at false all true = ap (λ n. take n shown) (omega arith) ∙ sym (append-nil (take len shown))
       at false all false = ap (λ n. take n shown) (omega arith) ∙ sym (append-nil (take len shown))
 
@@ -84,7 +76,7 @@ taken_within shown before within = at (nat_lt before shown) refl (shown == 0)
   where
     at : (more : Bool) → nat_lt before shown ≡ more → (empty : Bool)
         → before + length (feed_of (cond more seen.Line (cond empty seen.End seen.Part))) ≤ shown
-    at true is empty = omega (arith, is_less before shown is)
+    at true is empty = omega (arith, ltb-true before shown is)
     at false is true = omega (arith, within)
     at false is false = omega (arith, within)
 
@@ -174,9 +166,9 @@ as_read_front (first ∷ second ∷ rest) = at (nat_lt (length rest) 1_048_575) 
   where
     at : (b : Bool) → nat_lt (length rest) 1_048_575 ≡ b
         → as_read (first ∷ second ∷ take 1_048_575 rest) ≡ as_read (first ∷ second ∷ rest)
-    at true short = ap (λ bytes. as_read (first ∷ second ∷ bytes)) (take_all 1_048_575 rest (omega (arith, is_less (length rest) 1_048_575 short)))
+    at true short = ap (λ bytes. as_read (first ∷ second ∷ bytes)) (take_all 1_048_575 rest (omega (arith, ltb-true (length rest) 1_048_575 short)))
     at false long =
-        let most = is_more (length rest) 1_048_575 long in
+        let most = ltb-false (length rest) 1_048_575 long in
         let held = length-take-le 1_048_575 rest most in
         as_read_long first second (take 1_048_575 rest) (omega arith)
         ∙ ap (λ bytes. first ∷ 63 ∷ bytes) (take-take 4_096 1_048_575 rest (omega arith))

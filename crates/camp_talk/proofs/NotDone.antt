@@ -1,5 +1,7 @@
 -- Commands that are not done.
-use Rattle.camp_talk.proofs.Words.{◌≡◌, ◌≢◌, ◌-◌, zero, suc, Bool, true, false, List, ◌∷◌, drop, map, ℕ, Result, Ok, Err, Vec, IfOk, arith, refl, ap, sym, subst, true≢false, ◌∙◌, first_of, without_end, Asked, Call, Entries, Gives, LineFault, ScriptFault, Standing, Tells, reply_text}
+use Rattle.camp_talk.proofs.Words.{◌≡◌, ◌≢◌, zero, suc, Bool, true, false, List, [], ◌∷◌, drop, map, ℕ, Result, Ok, Err, Vec, IfOk, refl, ap, sym, subst, true≢false, ◌∙◌, first_of, without_end, Asked, Call, Entries, Gives, LineFault, ScriptFault, Standing, Tells, reply_text}
+use Rattle.std.proofs.Common.{unwrap_or}
+use Rattle.std.specs.List.{slice_get}
 use Rattle.camp_call.specs.declared.replies.Reply.{Reply}
 use Rattle.camp_call.specs.declared.replies.Reply.TheVariants as reply
 use Rattle.camp_object.specs.Asking.{Ask, alone_at}
@@ -31,12 +33,8 @@ failures_ask before asked text now fails tells nothing =
 
 -- ---- the line of a number
 
-module _ (all rest : List (List ℕ)) (line : List ℕ) (steps : all ≡ line ∷ rest) where
-  -- lines stand before it
-  pub stands_behind : (before next : ℕ) → before ≢ 0 → next ≡ before - 1
-      → first_of (drop next (map without_end rest)) ≡ first_of (drop before (map without_end all))
-  stands_behind zero next some is = absurd (some refl)
-  stands_behind (suc before) next some is =
-      let same : next ≡ before = omega (arith, is) in
-      (λ j. first_of (drop (same j) (map without_end rest)))
-      ∙ sym (ap (λ (lines : List (List ℕ)). first_of (drop (suc before) (map without_end lines))) steps)
+pub stands_at : (lines : List (List ℕ)) (n : ℕ) → without_end (unwrap_or (slice_get lines n) []) ≡ first_of (drop n (map without_end lines))
+stands_at [] zero = refl
+stands_at [] (suc n) = refl
+stands_at (line ∷ lines) zero = refl
+stands_at (line ∷ lines) (suc n) = stands_at lines n

@@ -114,9 +114,5 @@ fn read_next<R: BufRead>(
 pub(crate) fn count_lines(bytes: &[u8]) -> u64
     ensures { result ≡ length (lines_of bytes.now) }
 {
-    let mut count = 0;
-    for _line in bytes.lines_with_terminator() {
-        count += 1;
-    }
-    count
+    bytes.lines_with_terminator().count() as u64
 }

@@ -44,15 +44,15 @@ pub(crate) fn hear<R: BufRead>(
         return Err(TalkFault::Internal);
     };
     let command = read_command(alloc, reader)?;
-    let Some(after) = lines.checked_add(count_lines(&command.bytes)) else {
-        return Err(TalkFault::Internal);
-    };
-    Ok(Heard {
-        said: respond(alloc, book, lines, cause, &command),
-        line,
-        lines: after,
-        is_whole: command.is_whole,
-    })
+    match lines.checked_add(count_lines(&command.bytes)) {
+        None => Err(TalkFault::Internal),
+        Some(after) => Ok(Heard {
+            said: respond(alloc, book, lines, cause, &command),
+            line,
+            lines: after,
+            is_whole: command.is_whole,
+        }),
+    }
 }
 
 /// Reads a command, asks it of a book at seat 0, writes its answer and flushes. Whether there may be

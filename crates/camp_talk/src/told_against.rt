@@ -54,9 +54,7 @@ pub(crate) fn tell_absent(
     if let Some(to) = &to {
         append_absent(&mut text, state, to)?;
     }
-    let branches = tell_branches(alloc, state)?;
-    text.extend_from_slice(&branches)?;
-    Ok(text)
+    both(Ok(text), tell_branches(alloc, state))
 }
 
 /// That the branch which a call would make is there; and which there are.

@@ -86,14 +86,11 @@ fn may_record(kind: FaultKind, line: &[u8]) -> bool
 fn line_at(command: &[u8], number: u64) -> &[u8]
     ensures { result.now ≡ line_at number (lines_of command.now) }
 {
-    let mut before = number.saturating_sub(1);
-    for line in command.lines_with_terminator() {
-        if before == 0 {
-            return without_end(line);
-        }
-        before -= 1;
+    let before = number.saturating_sub(1) as usize;
+    match command.lines_with_terminator().nth(before) {
+        Some(line) => without_end(line),
+        None => &[],
     }
-    &[]
 }
 
 // Of a command with a fault: its answer, the line, what is to be seen in it, the rule, what to write, and which

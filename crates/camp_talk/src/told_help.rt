@@ -1,5 +1,5 @@
 //! What is told of commands.
-ghost use Rattle.std.specs.Prelude.{◌≡◌, ◌++◌, IfOk};
+ghost use Rattle.std.specs.Prelude.{◌≡◌, IfOk};
 ghost use Rattle.std.specs.List.{flat_map};
 ghost use Rattle.camp_talk.specs.Help.{command_text, commands, details, example, help_text, summary};
 ghost use Rattle.camp_talk.specs.Told.{help_told};

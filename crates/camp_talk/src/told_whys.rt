@@ -119,11 +119,10 @@ fn refusal_told(
     ensures { IfOk result (λ text. text.items ≡ refusal_told state.now asked.now line.now answer.now found.now reason) }
 {
     let against = against_text(alloc, state, asked, found, reason)?;
-    let mut text = with_line(alloc, answer, line)?;
-    text.extend_from_slice(saying(reason).as_bytes())?;
-    text.extend_from_slice(&against)?;
-    text.extend_from_slice(cure_at(state, asked, found, reason).as_bytes())?;
-    Ok(text)
+    let front = with_line(alloc, answer, line)?;
+    let says = saying(reason).as_bytes();
+    let cure = cure_at(state, asked, found, reason).as_bytes();
+    joined(alloc, &[front.as_slice(), says, against.as_slice(), cure])
 }
 
 // What stands against a command: which branches it names, and what is there and what is not.

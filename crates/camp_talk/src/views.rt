@@ -68,8 +68,10 @@ fn see<R: BufRead>(
     ensures unwritten { IfErr result IsNotWriting }
 {
     let command = read_command(alloc, reader)?;
-    append_view(alloc, state, lines, &command, answer)?;
-    Ok(command.is_whole)
+    match append_view(alloc, state, lines, &command, answer) {
+        Err(why) => Err(why),
+        Ok(()) => Ok(command.is_whole),
+    }
 }
 
 // Puts what a view tells of a command behind an answer, and counts the lines of the command. After a fault the answer

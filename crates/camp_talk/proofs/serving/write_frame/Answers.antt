@@ -15,25 +15,17 @@ frame g c =
 pub returns-in_err-write_part : goal.returns-in_err-write_part
 returns-in_err-write_part g c =
     let then = (goal.at.returns-in_err-write_part g c).After-write_part in
-    let fails = digits_fail _ c.as_bytes.result.now c.args.answer.now _ (frame g then) (g.W.Write.contents c.args.writer.now)
-    (g.W.Write.contents c.write_part.new.writer) c.in_err-write_part.ensures in
-    search (rules, fails)
+    search (rules, digits_fail _ c.as_bytes.result.now c.args.answer.now _ (frame g then) (g.W.Write.contents c.args.writer.now) (g.W.Write.contents c.write_part.new.writer) c.in_err-write_part.ensures)
 
 pub returns-in_err-write_part-2 : goal.returns-in_err-write_part-2
 returns-in_err-write_part-2 g c =
     let then = (goal.at.returns-in_err-write_part-2 g c).After-write_part in
-    let fails = line_end_fails _ c.as_bytes.result.now c.args.answer.now _ (frame g then) (g.W.Write.contents c.args.writer.now)
-    (g.W.Write.contents c.write_part.new.writer) (g.W.Write.contents c.write_part-2.new.writer)
-    c.in_ok-write_part.ensures c.in_err-write_part-2.ensures in
-    search (rules, fails)
+    search (rules, line_end_fails _ c.as_bytes.result.now c.args.answer.now _ (frame g then) (g.W.Write.contents c.args.writer.now) (g.W.Write.contents c.write_part.new.writer) (g.W.Write.contents c.write_part-2.new.writer) c.in_ok-write_part.ensures c.in_err-write_part-2.ensures)
 
 pub returns-in_err-write_part-3 : goal.returns-in_err-write_part-3
 returns-in_err-write_part-3 g c =
     let then = (goal.at.returns-in_err-write_part-3 g c).After-write_part in
-    let fails = bytes_fail _ c.as_bytes.result.now c.args.answer.now _ (frame g then) (g.W.Write.contents c.args.writer.now)
-    (g.W.Write.contents c.write_part.new.writer) (g.W.Write.contents c.write_part-2.new.writer) (g.W.Write.contents c.write_part-3.new.writer)
-    c.in_ok-write_part.ensures c.in_ok-write_part-2.ensures c.in_err-write_part-3.ensures in
-    search (rules, fails)
+    search (rules, bytes_fail _ c.as_bytes.result.now c.args.answer.now _ (frame g then) (g.W.Write.contents c.args.writer.now) (g.W.Write.contents c.write_part.new.writer) (g.W.Write.contents c.write_part-2.new.writer) (g.W.Write.contents c.write_part-3.new.writer) c.in_ok-write_part.ensures c.in_ok-write_part-2.ensures c.in_err-write_part-3.ensures)
 
 pub returns-in-Err : goal.returns-in-Err
 returns-in-Err g c =

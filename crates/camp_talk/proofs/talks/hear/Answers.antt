@@ -16,16 +16,15 @@ lines g c =
 pub returns-in_err-command-clause-none : goal.returns-in_err-command-clause-none
 returns-in_err-command-clause-none g c =
     let before : Standing = record { history = c.args.book.now; lines = c.args.lines; cause = c.args.cause.now } in
-    let none = reads_none _ _ before _ c.in_err-command.ensures.fault c.in_err-command.ensures.within in
-    search (rules, none)
+    search (rules, reads_none _ _ before _ c.in_err-command.ensures.fault c.in_err-command.ensures.within)
 
-pub returns-in_default-checked_add-clause-none : goal.returns-in_default-checked_add-clause-none
-returns-in_default-checked_add-clause-none g c =
-    let then = (goal.at.returns-in_default-checked_add-clause-none g c).After-count_lines in
+pub returns-in-None-clause-none : goal.returns-in-None-clause-none
+returns-in-None-clause-none g c =
+    let then = (goal.at.returns-in-None-clause-none g c).After-count_lines in
     let read = c.in_ok-command.ensures.command in
     let whole = c.in_ok-command.command.is_whole in
     reads_too_much _ _ _ read.command (command_read _ _ whole read.command read.reads) (command_left _ _ whole read.command read.reads)
-    (omega (arith, lines g then, c.in_default-checked_add.is, c.checked_add-2.ensures))
+    (omega (arith, lines g then, c.in-None.is, c.checked_add-2.ensures))
 
 pub returns-clause-hears : goal.returns-clause-hears
 returns-clause-hears g c =

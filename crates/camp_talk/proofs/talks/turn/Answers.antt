@@ -7,8 +7,7 @@ pub returns-in_err-heard-clause-turns : goal.returns-in_err-heard-clause-turns
 returns-in_err-heard-clause-turns g c =
     let same = same_standing c.args.lines.now c.hear.new.book c.args.book.now c.hear.new.cause c.args.cause.now
     c.in_err-heard.ensures.same.0 c.in_err-heard.ensures.same.1 in
-    let turns = broken _ _ _ _ _ _ _ c.in_err-heard.ensures.none (Keeps-refl (g.W.Write.contents c.args.writer.now)) same in
-    search (rules, turns)
+    search (rules, broken _ _ _ _ _ _ _ c.in_err-heard.ensures.none (Keeps-refl (g.W.Write.contents c.args.writer.now)) same)
 
 pub returns-clause-turns : goal.returns-clause-turns
 returns-clause-turns g c =

@@ -1,14 +1,25 @@
-use Rattle.camp_talk.proofs.Words.{refl, ap, map, drop, ◌-◌, ◌∙◌, first_of, lines_without_end, without_end}
-use Rattle.camp_talk.proofs.NotDone.{stands_behind}
+use Rattle.std.proofs.Common.{unwrap_or}
+use Rattle.std.proofs.lemmas.Iterator.Consumers.{YieldsList-from_first, nth_from_yields_List}
+use Rattle.std.specs.Prelude.{option_map}
+use Rattle.camp_talk.proofs.Words.{◌≡◌, ◌∙◌, ◌-◌, ap, drop, first_of, lines_of, lines_without_end, map, refl, sym, without_end, []}
+use Rattle.camp_talk.proofs.NotDone.{stands_at}
+use Rattle.camp_talk.specs.Whys.{line_at}
+use Rattle.camp_talk.proofs.told_faults.line_at.Goals.{After-nth}
 use Rattle.camp_talk.proofs.told_faults.line_at.Goals as goal
 
-pub loop-line-init : goal.loop-line-init
-loop-line-init c =
-    let lines = c.into_iter-line-iterator.ensures.into_iter_gives ∙ c.lines_with_terminator-line-items.ensures.value in
-    let cut = ap (map without_end) lines ∙ lines_without_end c.args.command.now in
-    (λ j. first_of (drop (c.saturating_sub-before.ensures j) (cut j)))
+-- what stands at the place of the line
+there : (c : After-nth) → without_end (unwrap_or (option_map (λ line. line.now) c.nth.result) []) ≡ line_at c.args.number (lines_of c.args.command.now)
+there c =
+    let lines = c.lines_with_terminator.result in
+    ap (λ found. without_end (unwrap_or found [])) (nth_from_yields_List _ _ _ c.nth.ensures.ran (YieldsList-from_first (λ line. line.now) (λ rest. rest) lines refl))
+    ∙ stands_at lines c.saturating_sub-before.result
+    ∙ ap (λ n. first_of (drop n (map without_end lines))) c.saturating_sub-before.ensures
+    ∙ ap (λ ls. first_of (drop (c.args.number - 1) ls)) (ap (map without_end) c.lines_with_terminator.ensures.value ∙ lines_without_end c.args.command.now)
 
-pub loop-line-preserved : goal.loop-line-preserved
-loop-line-preserved c =
-    stands_behind c.loop-line.line-iterator c.next.new.self c.in-Some.line.now c.in-Some.ensures.steps c.loop-line.before (c.loop-line.before - 1)
-    c.if-before-eq0.false refl ∙ c.loop-line.invariant
+pub returns-in-Some : goal.returns-in-Some
+returns-in-Some c =
+    c.without_end.ensures.exact ∙ ap (λ found. without_end (unwrap_or (option_map (λ line. line.now) found) [])) (sym c.in-Some.is) ∙ there (goal.at.returns-in-Some c).After-nth
+
+pub returns-in-None : goal.returns-in-None
+returns-in-None c =
+    ap (λ found. without_end (unwrap_or (option_map (λ line. line.now) found) [])) (sym c.in-None.is) ∙ there (goal.at.returns-in-None c).After-nth

@@ -5,14 +5,13 @@ use Rattle.camp_talk.proofs.views.see.Goals as goal
 
 pub returns-in_err-command-clause-unwritten : goal.returns-in_err-command-clause-unwritten
 returns-in_err-command-clause-unwritten g c =
-    let fault = not_writing _ c.in_err-command.ensures.fault in
-    search (rules, fault)
+    search (rules, not_writing _ c.in_err-command.ensures.fault)
 
 pub returns-clause-sees : goal.returns-clause-sees
 returns-clause-sees g c =
     let command = c.in_ok-command.command in
     let read = c.in_ok-command.ensures.command in
-    let shown = c.in_ok-append_view.ensures.shows in
+    let shown = c.in-Ok.ensures.shows in
     let lines : length (lines_of command.bytes.items) ≡ length (lines_of read.command) =
     ap (λ (ls : List (List ℕ)). length ls) read.lines ∙ length-map (lines_of read.command) as_read in
     let gives = subst (λ (ls : List (List ℕ)). Gives command.asked (asked_of ls)) read.lines c.in_ok-command.ensures.asked in
@@ -21,7 +20,7 @@ returns-clause-sees g c =
       reads = read.reads;
       sees = record {
         shows = shown.2 (asked_of (lines_in read.command)) gives;
-        counts = c.in_ok-append_view.ensures.counts.0 ∙ ap (λ (n : ℕ). c.args.lines.now + n) lines;
+        counts = c.in-Ok.ensures.counts.0 ∙ ap (λ (n : ℕ). c.args.lines.now + n) lines;
       };
       grows = shown.1;
     }
@@ -30,7 +29,7 @@ pub returns-clause-counts : goal.returns-clause-counts
 returns-clause-counts g c =
     let command = c.in_ok-command.command in
     let read = c.in_ok-command.ensures.command in
-    let counts = c.in_ok-append_view.ensures.counts in
+    let counts = c.in-Ok.ensures.counts in
     let lines : length (lines_of command.bytes.items) ≡ length (lines_of read.command) =
     ap (λ (ls : List (List ℕ)). length ls) read.lines ∙ length-map (lines_of read.command) as_read in
     λ (more : command.is_whole ≡ true).
