@@ -90,8 +90,7 @@ impl Contexted {
     }
 }
 
-/// The elements of a list are added, from the last to the first. The context is copied once, from where one of them
-/// may change it, and then changed in its place in memory.
+/// The elements of a list are added, from the last to the first. Where none may change the context, it is not copied.
 fn add_items(r: &[Named], x: Contexted) -> Result<Contexted, AllocError>
     ensures { IfOk result (AddsAll r.now x) }
 {
@@ -99,14 +98,21 @@ fn add_items(r: &[Named], x: Contexted) -> Result<Contexted, AllocError>
     if count == 0 {
         return Ok(x);
     }
-    let mut context = copy_with_room(&x, count)?;
+    add_to_copy(&r[..count], &x)
+}
+
+/// The same where the first to be added may change the context, which is copied once, and then changed in its place in
+/// memory.
+fn add_to_copy(r: &[Named], x: &Contexted) -> Result<Contexted, AllocError>
+    ensures { IfOk result (AddsAll r.now x.now) }
+{
+    let mut context = copy_with_room(x, r.len())?;
     let mut patch = x.patch().try_clone()?;
     let mut told = x.context_is_ordered();
-    for at in (0..count).rev() {
+    for at in (0..r.len()).rev() {
         told = add_to(&r[at], &mut context, &mut patch, told)?;
     }
-    let sum = made(x.allocator(), context, patch, told)?;
-    Ok(sum)
+    made(x.allocator(), context, patch, told)
 }
 
 /// The context, with room for so many more elements.

@@ -27,7 +27,6 @@ pub fn adding_the_empty_list_changes_nothing()
 {}
 
 /// Whether two contexted patches conflict does not depend on which comes first.
-#[tactic(auto, using(crate::proofs::ConflictLaws::are_symmetric))]
 pub fn conflict_is_symmetric()
     ensures law { AreSymmetric }
 {}

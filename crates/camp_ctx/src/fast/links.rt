@@ -75,10 +75,13 @@ fn may_link(r: &[Named], s: &[Named], patch: &Named) -> bool {
 fn links(a: &Named, r: &[Named], s: &[Named], patch: &Named) -> bool
     ensures { IsTrue result ↔ Links a.now (r.now ++ s.now) patch.now }
 {
-    match r.first().or(s.first()) {
-        Some(q) => holds(a, q),
-        None => !can_commute(a, patch),
+    if let Some(q) = r.first() {
+        return holds(a, q);
     }
+    if let Some(q) = s.first() {
+        return holds(a, q);
+    }
+    !can_commute(a, patch)
 }
 
 /// Whether two neighbours neither commute nor are inverse by their labels.
