@@ -1,7 +1,6 @@
 -- How the fields of a state become those of the next.
-use Rattle.camp_repo.proofs.Words.{◌≡◌, ◌+◌, ℕ, false, cond, List, [], ◌∷◌, ◌++◌, length, zip, slice_set, None, Ok, Err, bytes_eq, codes, refl, sym, ap, ◌∙◌, AllZip, list_any, Catch, Outcome, placed, settled, Contents, after, catches_of, initial, with_catches, accepted, becomes, length_push, firsts-zip}
-use Rattle.std.proofs.lemmas.List.{length-set, map-id}
-use Rattle.std.proofs.lemmas.Slice.Zip.{AllZip-map}
+use Rattle.camp_repo.proofs.Words.{◌≡◌, ◌+◌, ℕ, false, cond, List, [], ◌∷◌, ◌++◌, length, zip, slice_set, None, Ok, Err, bytes_eq, codes, refl, sym, ap, ◌∙◌, list_any, Catch, Outcome, placed, settled, Contents, after, catches_of, initial, with_catches, accepted, becomes, length_push, firsts-zip}
+use Rattle.std.proofs.lemmas.List.{length-set}
 use Rattle.camp_repo.proofs.BranchSteps.{absent}
 use Rattle.camp_repo.proofs.PlaceSteps.{as_long, zip_grown, zip_placed}
 
@@ -22,14 +21,13 @@ module _ (names : List (List ℕ)) (branches : List (List Catch)) (count : ℕ) 
         let made = (λ i. zip (same i) (set i)) ∙ zip_placed names branches place branch long ∙ ap (λ bs. placed bs place branch) same_branches in
         λ i. record { branches = made i; count = (view i).count + 1 }
 
-  module _ (name : List ℕ) (branch : List Catch) (cloned next_names : List (List ℕ)) (next_branches : List (List Catch)) (fresh : catches_of now.branches name ≡ None) (clone : AllZip (λ one other. other ≡ one) names cloned) (inserted : next_names ≡ cond (list_any (bytes_eq name) cloned) cloned (cloned ++ name ∷ [])) (pushed : next_branches ≡ branches ++ branch ∷ []) where
+  module _ (name : List ℕ) (branch : List Catch) (next_names : List (List ℕ)) (next_branches : List (List Catch)) (fresh : catches_of now.branches name ≡ None) (inserted : next_names ≡ cond (list_any (bytes_eq name) names) names (names ++ name ∷ [])) (pushed : next_branches ≡ branches ++ branch ∷ []) where
     not_there : list_any (bytes_eq name) names ≡ false
     not_there =
         ap (list_any (bytes_eq name)) (sym (firsts-zip names branches (sym long))) ∙ absent (zip names branches) name (ap (λ bs. catches_of bs name) same_branches ∙ fresh)
 
     next_keys : next_names ≡ names ++ name ∷ []
-    next_keys =
-        inserted ∙ ap (λ ns. cond (list_any (bytes_eq name) ns) ns (ns ++ name ∷ [])) (AllZip-map (λ n. n) names cloned clone ∙ map-id names) ∙ ap (λ b. cond b names (names ++ name ∷ [])) not_there
+    next_keys = inserted ∙ ap (λ b. cond b names (names ++ name ∷ [])) not_there
 
     pub grown_as_long : length next_names ≡ length next_branches
     grown_as_long =

@@ -1,4 +1,4 @@
-ghost use Rattle.std.specs.Prelude.{◌≡◌, ◌-◌, ◌^◌, ◌<◌, ◌++◌, [], ◌∷◌, List, None, Some, length, map, codes, slice_get, IfOk, IfSome, MatchOption};
+ghost use Rattle.std.specs.Prelude.{◌≡◌, ◌-◌, ◌^◌, ◌<◌, ◌++◌, [], ◌∷◌, List, None, Some, length, map, codes, slice_get, bytes_eq, if◌then◌else◌, IfOk, IfSome, MatchOption};
 ghost use Rattle.std.specs.List.{list_any};
 ghost use Rattle.camp_branch.specs.Agreeing.{Agree};
 ghost use Rattle.camp_branch.specs.Branches.{has_patch};
@@ -236,12 +236,8 @@ impl State {
         let known = self
             .known
             .copied(place, self.len(), branch.catches().len())?;
-        let mut names = (*self.names).clone()?;
-        names.insert(*name)?;
-        let alloc = self.branches.allocator();
-        let names = Shared::new(alloc, names)?;
-        let branch = Shared::new(alloc, branch.try_clone()?)?;
-        let branches = self.branches.pushed(branch)?;
+        let names = with_name(self.allocator(), &self.names, name)?;
+        let branches = with_copy_behind(&self.branches, branch)?;
         Ok(State {
             names,
             branches,
@@ -249,6 +245,31 @@ impl State {
             count: self.count + 1,
         })
     }
+}
+
+/// The names, and one more behind them where it is not among them.
+fn with_name(
+    alloc: Global,
+    names: &IndexSet<Name>,
+    name: &Name,
+) -> Result<Shared<IndexSet<Name>>, AllocError>
+    ensures { IfOk result (λ all. all.keys ≡
+        (if list_any (bytes_eq name.now) names.now.keys then names.now.keys else names.now.keys ++ name.now ∷ [])) }
+{
+    let mut all = names.clone()?;
+    all.insert(*name)?;
+    Shared::new(alloc, all)
+}
+
+/// The branches, and a copy of one behind them.
+fn with_copy_behind(
+    branches: &SharedList<Shared<Branch>>,
+    branch: &Branch,
+) -> Result<SharedList<Shared<Branch>>, AllocError>
+    ensures { IfOk result (λ all. all ≡ branches.now ++ branch.now ∷ []) }
+{
+    let copy = Shared::new(branches.allocator(), branch.try_clone()?)?;
+    branches.pushed(copy)
 }
 
 /// Whether some branch has a patch of this name.
