@@ -49,10 +49,10 @@ pub not_past_context : (a : Named) (x : ContextedPatch) (s : List Named) → s �
 not_past_context a x s is never y w = never (w.passed, w.a') (subst (λ t. Passes a t w.passed w.a') (sym is) w.past_context)
 
 -- what passed a context
-module _ (a : Named) (x : ContextedPatch) (s passed : List Named) (a' : Named) (is : s ≡ x.context) (past : Passes a s passed a') where
+module _ (a : Named) (x : ContextedPatch) (passed : List Named) (a' : Named) (past : Passes a x.context passed a') where
   pub not_past_patch : (p : Named) → p ≡ x.patch → ((pair : Named × Named) → ¬ (Commute a' p pair.0 pair.1)) → GivesNone (PassesBy a) x
   not_past_patch p patch never y w =
-      let pass = one_pass a s passed w.passed a' w.a' past (subst (λ t. Passes a t w.passed w.a') (sym is) w.past_context) in
+      let pass = one_pass a x.context passed w.passed a' w.a' past w.past_context in
       never (y.patch, w.a'') (subst (λ q. Commute a' q y.patch w.a'') (sym patch) (subst (λ b. Commute b x.patch y.patch w.a'') (sym pass.1) w.past_patch))
 
   pub passes_by_from : (y : ContextedPatch) (p patch a'' : Named) → p ≡ x.patch → Commute a' p patch a'' → Norm passed y.context → y.patch ≡ patch → PassesBy a x y
@@ -60,7 +60,7 @@ module _ (a : Named) (x : ContextedPatch) (s passed : List Named) (a' : Named) (
     a' = a';
     a'' = a'';
     passed = passed;
-    past_context = subst (λ t. Passes a t passed a') is past;
+    past_context = past;
     past_patch = subst (λ q. Commute a' x.patch q a'') (sym same) (subst (λ q. Commute a' q patch a'') here swap);
     context = order;
   }

@@ -3,7 +3,7 @@ ghost use Rattle.camp_base.specs.Answers.{Finds};
 ghost use Rattle.camp_prim.specs.Effect.{inverse_of};
 ghost use Rattle.camp_prim.specs.Labels.{label_of};
 ghost use Rattle.camp_seq.specs.NormalOrder.{Norm};
-ghost use Rattle.camp_seq.specs.Passing.{Fronts};
+ghost use Rattle.camp_seq.specs.Passing.{Fronts, Passes};
 ghost use Rattle.camp_ctx.specs.Adding.{Adds, AddsAll, PassesBy, PassesByAll};
 ghost use Rattle.camp_ctx.specs.Inside.InPlace.{KeepsOrder, behind};
 
@@ -78,16 +78,29 @@ impl Contexted {
         if x.stays_behind(a) {
             return Ok(Some(x.try_clone()?));
         }
-        let Some((mut context, moved)) = past(a, x.context())? else {
+        let Some((context, moved)) = past(a, x.context())? else {
             return Ok(None);
         };
-        let Some((patch, _)) = commute(&moved, x.patch())? else {
-            return Ok(None);
-        };
-        let told = order_passed(a, &mut context, &patch, x.context_is_ordered());
-        let before = made(x.allocator(), context, patch, told)?;
-        Ok(Some(before))
+        past_patch(a, context, &moved, x)
     }
+}
+
+/// The same where the primitive has passed the context, as `moved`. None where it can't pass the patch.
+fn past_patch(
+    a: &Named,
+    mut context: Seq,
+    moved: &Named,
+    x: &Contexted,
+) -> Result<Option<Contexted>, AllocError>
+    requires { Passes a.now x.now.context context moved.now }
+    ensures { IfOk result (Finds (PassesBy a.now x.now)) }
+{
+    let Some((patch, _)) = commute(moved, x.patch())? else {
+        return Ok(None);
+    };
+    let told = order_passed(a, &mut context, &patch, x.context_is_ordered());
+    let before = made(x.allocator(), context, patch, told)?;
+    Ok(Some(before))
 }
 
 /// The elements of a list are added, from the last to the first. Where none may change the context, it is not copied.
