@@ -1,4 +1,4 @@
-ghost use Rattle.std.specs.Prelude.{◌≡◌, ◌≤◌, [], ◌∷◌, length, IfOk, IfErr, None, Some};
+ghost use Rattle.std.specs.Prelude.{◌≡◌, ◌≤◌, ◌↔◌, [], ◌∷◌, length, IfOk, IfErr, IsTrue, None, Some};
 ghost use Rattle.std.specs.FinMap.{get, len};
 ghost use Rattle.camp_base.specs.Answers.{Finds, FindsPair};
 ghost use Rattle.camp_prim.specs.Effect.{inverse_of};
@@ -8,7 +8,7 @@ ghost use Rattle.camp_seq.specs.Passing.{Fronts, PassesAll};
 ghost use Rattle.camp_ctx.specs.Adding.{Adds, PassesBy};
 ghost use Rattle.camp_ctx.specs.Contexts.{context_key, patch_key};
 ghost use Rattle.camp_catch.specs.Commuting.{BothPlain, CommuteCatch, CommutePlainConflictor, ConflictDissolves, ConflictorPastPlain, MayWant, PlainLeavesTheSet, PlainPastConflictor};
-ghost use Rattle.camp_catch.specs.Conflictors.{Becomes};
+ghost use Rattle.camp_catch.specs.Conflictors.{Becomes, against};
 ghost use Rattle.camp_catch.specs.declared.catches.Catch.TheVariants.{Plain};
 
 use crate::conflictors::commute_conflictors;
@@ -135,13 +135,21 @@ fn conflict_dissolves(
 ) -> Result<Option<(Catch, Catch)>, AllocError>
     ensures { IfOk result (FindsPair (ConflictDissolves a.now k.now)) }
 {
-    let q = k.identity.patch();
-    if !k.is_same(&against(alloc, a, q)?) {
+    if !is_against(alloc, a, k)? {
         return Ok(None);
     }
+    let q = k.identity.patch();
     let first = against(alloc, q, a)?;
     let second = q.try_clone()?;
     Ok(Some((Catch::Plain(second), Catch::Conflictor(first))))
+}
+
+/// Whether a conflictor is that of two patches: `([a^], {:a}, :q)`.
+fn is_against(alloc: Global, a: &Named, k: &Conflictor) -> Result<bool, AllocError>
+    ensures { IfOk result (λ told. IsTrue told ↔ (k.now ≡ against a.now k.now.identity.patch)) }
+{
+    let both = against(alloc, a, k.identity.patch())?;
+    Ok(k.is_same(&both))
 }
 
 /// `[a] (s, Y, l) <-> (s', Y without a, l) ([], {l}, z)`, where `s ~ a^ s'`

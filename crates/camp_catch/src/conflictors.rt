@@ -2,9 +2,10 @@ ghost use Rattle.std.specs.Prelude.{◌≡◌, ◌≢◌, ◌≤◌, ◌↔◌, 
 ghost use Rattle.std.specs.FinMap.{get, len};
 ghost use Rattle.camp_base.specs.Answers.{FindsPair};
 ghost use Rattle.camp_seq.specs.NormalOrder.{Splits};
+ghost use Rattle.camp_seq.specs.Running.{inverse_all};
 ghost use Rattle.camp_ctx.specs.Contexts.{context_key, patch_key, ContextedPatch};
 ghost use Rattle.camp_catch.specs.Commuting.{CommuteConflictors, EffectsPass, OneOfSeveralConflicts, OnlyConflictGoes, TwoConflictorsApart, labels_undone};
-ghost use Rattle.camp_catch.specs.Inside.Seen.{JoinsInOrder};
+ghost use Rattle.camp_catch.specs.Inside.Seen.{JoinedBehind, JoinsInOrder, LeavesTheOthers};
 
 use crate::seen::{
     all_pass_before, both_behind, has_no_context, joined, others_before, takes_back,
@@ -91,13 +92,40 @@ fn one_of_several_conflicts(
     requires several { 2 ≤ len k.now.conflicts }
     ensures { IfOk result (FindsPair (OneOfSeveralConflicts j.now k.now)) }
 {
+    let Some((moved, rest)) = leaves_the_others(alloc, j, k)? else {
+        return Ok(None);
+    };
+    let own = joined_behind(&k.effect, rest, j, &k.identity)?;
+    Ok(Some((Catch::Conflictor(moved), Catch::Conflictor(own))))
+}
+
+/// `(common s', Z', l')` and `rr'`
+fn leaves_the_others(
+    alloc: Global,
+    j: &Conflictor,
+    k: &Conflictor,
+) -> Result<Option<(Conflictor, Seq)>, AllocError>
+    ensures { IfOk result (FindsPair (LeavesTheOthers j.now k.now)) }
+{
     let others = k.conflicts.without(&j.identity.key())?;
     let Some((effect, rest)) = effects_pass(alloc, &j.effect, &k.effect, &others)? else {
         return Ok(None);
     };
     let moved = others_before(&rest, effect, k, &others)?;
-    let own = joined(both_behind(&k.effect, rest, j)?, &k.identity)?;
-    Ok(Some((Catch::Conflictor(moved), Catch::Conflictor(own))))
+    Ok(Some((moved, rest)))
+}
+
+/// `(s, X' and l, i')`, where `r^` added to `X` and `i` gives `X'` and `i'`
+fn joined_behind(
+    r: &Seq,
+    s: Seq,
+    k: &Conflictor,
+    l: &Contexted,
+) -> Result<Conflictor, AllocError>
+    ensures { IfOk result (JoinedBehind (inverse_all r.now) s k.now l.now) }
+{
+    let moved = both_behind(r, s, k)?;
+    joined(moved, l)
 }
 
 /// Two effects commute, but for what the first undoes of a set, which stays first.

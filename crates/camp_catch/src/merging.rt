@@ -1,11 +1,15 @@
 ghost use Rattle.std.specs.Prelude.{◌≡◌, IfOk};
 ghost use Rattle.camp_base.specs.Answers.{FindsPair};
+ghost use Rattle.camp_prim.specs.Commuting.{Commute};
+ghost use Rattle.camp_prim.specs.Effect.{inverse_of};
+ghost use Rattle.camp_prim.specs.declared.named.Named.{Named};
+ghost use Rattle.camp_seq.specs.Merging.{Merges};
 ghost use Rattle.camp_seq.specs.Running.{inverse_all};
 ghost use Rattle.camp_ctx.specs.Adding.{AddsAll};
 ghost use Rattle.camp_ctx.specs.Conflicts.{Conflict};
 ghost use Rattle.camp_ctx.specs.Contexts.{ContextedPatch, bare};
 ghost use Rattle.camp_catch.specs.Inside.TwoConflictors.{EffectsMerge, JoinEachOther, TellsConflict, TellsPlainConflict};
-ghost use Rattle.camp_catch.specs.Merging.{Clean, MergeCatch, MergePlainConflictor, Mirror, PlainBesideConflictor, PlainJoinsConflictor, TwoConflictors};
+ghost use Rattle.camp_catch.specs.Merging.{Clean, FirstConflict, MergeCatch, MergePlainConflictor, Mirror, PlainBesideConflictor, PlainJoinsConflictor, TwoConflictors};
 ghost use Rattle.camp_catch.specs.declared.catches.Catch.TheVariants.{Plain};
 
 use crate::seen::{against, both_behind, in_conflict_with, joined, one_before, takes_back};
@@ -34,23 +38,38 @@ pub fn merge(alloc: Global, j: &Catch, k: &Catch) -> Result<Option<(Catch, Catch
 fn both_plain(alloc: Global, a: &Named, b: &Named) -> Result<Option<(Catch, Catch)>, AllocError>
     ensures exact { IfOk result (FindsPair (MergeCatch (Plain a.now) (Plain b.now))) }
 {
-    if let Some(pair) = clean(a, b)? {
-        return Ok(Some(pair));
+    match clean(a, b)? {
+        Some(pair) => Ok(Some(pair)),
+        None => Ok(Some(first_conflict(alloc, a, b)?)),
     }
-    // `[a] | [b] -> ([a^], {:a}, :b) | ([b^], {:b}, :a)`
+}
+
+/// `[a] | [b] -> ([a^], {:a}, :b) | ([b^], {:b}, :a)`
+fn first_conflict(alloc: Global, a: &Named, b: &Named) -> Result<(Catch, Catch), AllocError>
+    requires { (b' a' : Named) → ¬ (Merges a.now b.now b' a') }
+    ensures { IfOk result (λ pair. FirstConflict a.now b.now pair.0 pair.1) }
+{
     let after = against(alloc, a, b)?;
     let beside = against(alloc, b, a)?;
-    Ok(Some((Catch::Conflictor(after), Catch::Conflictor(beside))))
+    Ok((Catch::Conflictor(after), Catch::Conflictor(beside)))
 }
 
 /// `[a] | [b] -> [b'] | [a']`
 fn clean(a: &Named, b: &Named) -> Result<Option<(Catch, Catch)>, AllocError>
     ensures exact { IfOk result (FindsPair (Clean a.now b.now)) }
 {
-    let Some((b, back)) = commute(&inverse(a)?, b)? else {
+    let Some((b, back)) = before_inverse(a, b)? else {
         return Ok(None);
     };
     Ok(Some((Catch::Plain(b), Catch::Plain(back.invert()))))
+}
+
+/// `[a^] [b] <-> [b'] [back]`
+fn before_inverse(a: &Named, b: &Named) -> Result<Option<(Named, Named)>, AllocError>
+    ensures { IfOk result (FindsPair (Commute (inverse_of a.now) b.now)) }
+{
+    let back = inverse(a)?;
+    commute(&back, b)
 }
 
 /// A plain catch and a conflictor: the plain one joins the conflictor's set where it conflicts with
@@ -103,7 +122,7 @@ fn plain_joins_conflictor(
     requires { (seen : ContextedPatch) × AddsAll k.now.effect k.now.identity seen × Conflict (bare a.now) seen }
     ensures { IfOk result (λ pair. PlainJoinsConflictor a.now k.now pair.0 pair.1) }
 {
-    let z = seen_behind(&k.effect, &bare(alloc, a)?)?;
+    let z = patch_behind(alloc, &k.effect, a)?;
     let taken = takes_back(alloc, a, k, &z)?;
     let beside = in_conflict_with(alloc, &k.identity, &z)?;
     Ok((Catch::Conflictor(taken), Catch::Conflictor(beside)))
@@ -167,6 +186,14 @@ pub(crate) fn seen_behind(list: &Seq, x: &Contexted) -> Result<Contexted, AllocE
 {
     let back = invert_all(list)?;
     Contexted::add_given(back, x)
+}
+
+/// `:a` as it is seen behind a list that it stands before.
+fn patch_behind(alloc: Global, list: &Seq, a: &Named) -> Result<Contexted, AllocError>
+    ensures { IfOk result (AddsAll (inverse_all list.now) (bare a.now)) }
+{
+    let own = bare(alloc, a)?;
+    seen_behind(list, &own)
 }
 
 /// Two conflictors, each in conflict with the other's identity too where they are in conflict.

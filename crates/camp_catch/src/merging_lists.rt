@@ -8,6 +8,7 @@ ghost use Rattle.camp_catch.specs.Catches.{catch_key};
 ghost use Rattle.camp_catch.specs.declared.catches.Catch.{Catch as AnyCatch};
 
 use crate::fast::{Gaining, all_gaining, merge_as_they_are, merge_behind_all};
+use crate::moves::put_both;
 use crate::{Catch, Unmade, merge};
 use camp_prim::Key;
 use camp_share::{Share, Shared};
@@ -76,12 +77,10 @@ pub(crate) fn merge_one(
     if merge_as_they_are(alloc, j, k)? {
         return Ok(true);
     }
-    let Some((after, beside)) = merge(alloc, j, k)? else {
+    let Some(pair) = merge(alloc, j, k)? else {
         return Ok(false);
     };
-    let beside = Shared::new(alloc, beside)?;
-    *k = Shared::new(alloc, after)?;
-    *j = beside;
+    put_both(alloc, pair, j, k)?;
     Ok(true)
 }
 

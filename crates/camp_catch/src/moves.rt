@@ -38,11 +38,25 @@ pub(crate) fn commute_in_place(
     if commute_as_they_are(j, k)? {
         return Ok(true);
     }
-    let Some((before, behind)) = commute(alloc, j, k)? else {
+    let Some(pair) = commute(alloc, j, k)? else {
         return Ok(false);
     };
-    let behind = Shared::new(alloc, behind)?;
-    *k = Shared::new(alloc, before)?;
-    *j = behind;
+    put_both(alloc, pair, j, k)?;
     Ok(true)
+}
+
+/// Puts the two of a pair in the places of `k` and `j`.
+pub(crate) fn put_both(
+    alloc: Global,
+    pair: (Catch, Catch),
+    j: &mut Shared<Catch>,
+    k: &mut Shared<Catch>,
+) -> Result<(), AllocError>
+    ensures { IfOk result (λ done. (k.new ≡ pair.0) × (j.new ≡ pair.1)) }
+{
+    let (first, second) = pair;
+    let second = Shared::new(alloc, second)?;
+    *k = Shared::new(alloc, first)?;
+    *j = second;
+    Ok(())
 }

@@ -8,12 +8,11 @@ ghost use Rattle.camp_catch.specs.Conflictors.{Becomes, against, in_conflict_wit
 ghost use Rattle.camp_catch.specs.Inside.Seen.{LeavesSet, TakesBack};
 
 use crate::Conflictor;
-use crate::values::{alone, bare, inverse, one};
-use camp_ctx::{Contexted, CtxSet, join};
+use crate::values::{alone, alone_bare, bare, inverse_before};
+use camp_ctx::{Contexted, CtxSet};
 use camp_prim::{Key, Named};
 use camp_seq::{Seq, invert_all, ordered};
 use std::alloc::{AllocError, Global};
-use std::slice;
 
 /// `(s', X', i)`, where `s'` is `s` in normal order, and `a` added to `X` gives `X'`
 fn set_before(a: &Named, s: Seq, k: &Conflictor, i: Contexted) -> Result<Conflictor, AllocError>
@@ -118,7 +117,7 @@ pub(crate) fn takes_back(
 ) -> Result<Conflictor, AllocError>
     ensures { IfOk result (TakesBack a.now k.now l.now) }
 {
-    let whole = join(alloc, slice::from_ref(&inverse(a)?), k.effect.items())?;
+    let whole = inverse_before(alloc, a, k.effect.items())?;
     let conflicts = k.conflicts.insert(l)?;
     let identity = k.identity.try_clone()?;
     Ok(Conflictor {
@@ -146,8 +145,8 @@ pub(crate) fn without_member(key: &Key, s: Seq, k: &Conflictor) -> Result<Confli
 pub(crate) fn against(alloc: Global, a: &Named, b: &Named) -> Result<Conflictor, AllocError>
     ensures { IfOk result (λ made. made ≡ against a.now b.now) }
 {
-    let effect = one(alloc, &inverse(a)?)?;
-    let conflicts = alone(alloc, &bare(alloc, a)?)?;
+    let effect = inverse_before(alloc, a, &[])?;
+    let conflicts = alone_bare(alloc, a)?;
     let identity = bare(alloc, b)?;
     Ok(Conflictor {
         effect,

@@ -24,6 +24,14 @@ pub(crate) fn inverse(p: &Named) -> Result<Named, AllocError>
     Ok(copy.invert())
 }
 
+/// `p^` before a list
+pub(crate) fn inverse_before(alloc: Global, p: &Named, s: &[Named]) -> Result<Seq, AllocError>
+    ensures { IfOk result (λ list. list ≡ inverse_of p.now ∷ s.now) }
+{
+    let back = inverse(p)?;
+    join(alloc, slice::from_ref(&back), s)
+}
+
 /// `:p`
 pub(crate) fn bare(alloc: Global, p: &Named) -> Result<Contexted, AllocError>
     ensures { IfOk result (λ x. x ≡ bare p.now) }
@@ -37,6 +45,14 @@ pub(crate) fn alone(alloc: Global, x: &Contexted) -> Result<CtxSet, AllocError>
     ensures { IfOk result (λ set. set ≡ only x.now) }
 {
     CtxSet::empty(alloc).insert(x)
+}
+
+/// `{:p}`
+pub(crate) fn alone_bare(alloc: Global, p: &Named) -> Result<CtxSet, AllocError>
+    ensures { IfOk result (λ set. set ≡ only (bare p.now)) }
+{
+    let x = bare(alloc, p)?;
+    alone(alloc, &x)
 }
 
 /// Whether an element is an inverse whose absolute label stands in a set.

@@ -1,11 +1,14 @@
 -- Conflictors that bodies make of others.
 use Rattle.std.specs.Prelude.{◌≡◌, List, ◌∷◌, ◌++◌}
+use Rattle.std.specs.FinMap.{remove}
 use Rattle.camp_prim.specs.Effect.{inverse_of}
 use Rattle.camp_prim.specs.declared.labels.Key.{Key}
 use Rattle.camp_prim.specs.declared.named.Named.{Named}
 use Rattle.camp_seq.specs.NormalOrder.{Norm}
-use Rattle.camp_ctx.specs.Contexts.{ContextedPatch}
-use Rattle.camp_catch.specs.Conflictors.{joined_by, with_effect, without}
+use Rattle.camp_ctx.specs.Adding.{AddsAll}
+use Rattle.camp_ctx.specs.Contexts.{ContextedPatch, context_key}
+use Rattle.camp_catch.specs.Commuting.{EffectsPass}
+use Rattle.camp_catch.specs.Conflictors.{Becomes, joined_by, with_effect, without}
 use Rattle.camp_catch.specs.declared.catches.Conflictor.{Conflictor}
 
 -- (s', X and l, i), where s' is a^ r in normal order
@@ -13,6 +16,22 @@ pub record TakesBack (a : Named) (k : Conflictor) (l : ContextedPatch) (made : C
   pub s' : List Named
   pub effect : Norm (inverse_of a ∷ k.effect) s'
   pub is : made ≡ with_effect s' (joined_by l k)
+
+-- (s, X' and l, i'), where r added to X and i gives X' and i'
+pub record JoinedBehind (r s : List Named) (k : Conflictor) (l : ContextedPatch) (made : Conflictor) : Type 0 where
+  pub moved : Conflictor
+  pub becomes : Becomes (λ t. t ≡ s) (AddsAll r) (AddsAll r) k moved
+  pub is : made ≡ joined_by l moved
+
+-- (r, X and i', l), where s added to i gives i'
+abbrev pub JoinedBySeen : List Named → ContextedPatch → Conflictor → Conflictor → Type 0
+JoinedBySeen s i k made = (i' : ContextedPatch) × AddsAll s i i' × (made ≡ joined_by i' k)
+
+-- (common s', Z', l') and rr', of (common rr, X, i) (s, Y, l), where Z is Y without the first
+pub record LeavesTheOthers (j k moved : Conflictor) (rr' : List Named) : Type 0 where
+  pub effect : List Named
+  pub effects : EffectsPass j.effect k.effect (remove k.conflicts (context_key j.identity)) effect rr'
+  pub becomes : Becomes (λ s. s ≡ effect) (AddsAll rr') (AddsAll rr') (without (context_key j.identity) k) moved
 
 -- (s', X without a label, i), where s' is s in normal order
 pub record LeavesSet (key : Key) (s : List Named) (k made : Conflictor) : Type 0 where

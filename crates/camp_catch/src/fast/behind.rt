@@ -2,7 +2,9 @@
 ghost use Rattle.std.specs.Prelude.{List, IfOk};
 ghost use Rattle.std.specs.Result.{MatchResult};
 ghost use Rattle.camp_base.specs.Answers.{Finds};
+ghost use Rattle.camp_seq.specs.Running.{inverse_all};
 ghost use Rattle.camp_catch.specs.Inside.InPlace.{MergesBehind};
+ghost use Rattle.camp_catch.specs.Inside.Seen.{JoinedBySeen};
 ghost use Rattle.camp_catch.specs.Making.{ComesTo};
 ghost use Rattle.camp_catch.specs.MergingLists.{MergesWithAll, SticksWithin};
 ghost use Rattle.camp_catch.specs.declared.catches.Catch.{Catch as AnyCatch};
@@ -13,6 +15,7 @@ use crate::merging::{conflict_before, merged_effects, seen_behind};
 use crate::merging_lists::no_merge;
 use crate::seen::{both_behind, joined};
 use crate::{Catch, Conflictor, NoMerge, Unmade, merge};
+use camp_ctx::Contexted;
 use camp_share::{Share, Shared};
 use std::alloc::{AllocError, Global};
 
@@ -83,7 +86,14 @@ fn conflictor_behind(
     if !in_conflict {
         return Ok(Some(Catch::Conflictor(moved)));
     }
-    let identity = seen_behind(&moved.effect, &j.identity)?;
-    let joined = joined(moved, &identity)?;
+    let joined = joined_by_seen(moved, &j.identity)?;
     Ok(Some(Catch::Conflictor(joined)))
+}
+
+/// `(r, X and i', l)`, where `r^` added to `i` gives `i'`
+fn joined_by_seen(k: Conflictor, i: &Contexted) -> Result<Conflictor, AllocError>
+    ensures { IfOk result (JoinedBySeen (inverse_all k.effect) i.now k) }
+{
+    let seen = seen_behind(&k.effect, i)?;
+    joined(k, &seen)
 }

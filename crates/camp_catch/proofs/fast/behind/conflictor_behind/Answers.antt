@@ -12,4 +12,4 @@ returns-then-not-in_conflict c =
 
 pub returns : goal.returns
 returns c =
-    record { exact = joined_behind c.args.j.now c.args.k.now _ _ _ _ (rw c.in-Some.is at c.in_ok-s2.ensures.exact) c.in_ok-in_conflict.ensures c.in_ok-moved.ensures c.if-not-in_conflict.false _ c.in_ok-identity.ensures _ c.in_ok-joined.ensures }
+    record { exact = joined_behind c.args.j.now c.args.k.now _ _ _ _ (rw c.in-Some.is at c.in_ok-s2.ensures.exact) c.in_ok-in_conflict.ensures c.in_ok-moved.ensures c.if-not-in_conflict.false _ c.in_ok-joined.ensures.1 _ c.in_ok-joined.ensures.2 }
