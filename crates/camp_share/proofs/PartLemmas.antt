@@ -1,10 +1,10 @@
 -- Elements and ranges of lists in parts.
-use Rattle.camp_share.proofs.Words.{◌≡◌, ℕ, suc, ◌+◌, ◌-◌, ◌<◌, ◌≤◌, List, [], ◌∷◌, ◌++◌, length, get_or, set, take, drop, Option, None, Some, Bor, sym, ap, subst, ◌∙◌, refl, arith, drop_all, drop-drop, get_or_default, get_or-drop, length-drop, append-nil, append_assoc, length-append, take_more, drop_more, take_all, take-append-drop, take-append-le, drop-append-le}
+use Rattle.camp_share.proofs.Words.{◌≡◌, ℕ, suc, ◌+◌, ◌-◌, ◌<◌, ◌≤◌, List, [], ◌∷◌, ◌++◌, length, get_or, set, take, drop, Option, None, Some, Result, Ok, Err, IfOk, Bor, sym, ap, subst, ◌∙◌, refl, arith, drop_all, drop-drop, get_or_default, get_or-drop, length-drop, append-nil, append_assoc, length-append, take_more, drop_more, take_all, take-append-drop, take-append-le, drop-append-le}
 use Rattle.camp_share.proofs.Words.{set_split, take-append-add, drop-append-add, All, slice_get, slice_range, insert, remove, TakesFirst, deref, option_copied, flat_map-append, recursion_from_All, joined, IsPart, offset, IsPlace, Vec, vec_len}
 use Rattle.std.specs.Prelude.{IfSome, MatchOption}
 use Rattle.std.proofs.Common.{inl, inr}
 use Rattle.std.proofs.lemmas.Bool.{cases_lt}
-use Rattle.std.proofs.lemmas.List.{drop-take}
+use Rattle.std.proofs.lemmas.List.{drop-take, length-take-le, take_rest}
 use Rattle.std.proofs.lemmas.Option.{slice_get_past, slice_get_read}
 use Rattle.std.specs.List.{AllByRecursion, splice}
 
@@ -274,6 +274,35 @@ changed_in_last front last items same changed from to border begins kept new ran
     (sym (take-append-add front last (from - border)) ∙ ap (λ k. take k (front ++ last)) {x = length front + (from - border)} {y = from} (omega arith))
     ∙ ap (λ xs. take from (front ++ last) ++ (items ++ xs))
     (sym (drop-append-add front last (to - border)) ∙ ap (λ k. drop k (front ++ last)) {x = length front + (to - border)} {y = to} (omega arith))
+
+-- what two results say, where both are Ok
+pub both_ok : {A B E : Type 0} (r : Result (A × B) E) (a : Result A E) (b : Result B E) (P : A → Type 0) (Q : B → Type 0) (R : A × B → Type 0) → IfOk r (λ p. a ≡ Ok p.0) → IfOk r (λ p. b ≡ Ok p.1) → IfOk a P → IfOk b Q → ((x : A) (y : B) → P x → Q y → R (x, y)) → IfOk r R
+both_ok (Ok p) a b P Q R one other first second follows = follows p.0 p.1 (subst (λ r. IfOk r P) one first) (subst (λ r. IfOk r Q) other second)
+both_ok (Err e) a b P Q R one other first second follows = tt
+
+-- a list with others in place of some, copied piece by piece
+pub spliced_copies : {X : Type 0} (xs old first more all new : List X) (from to : ℕ) → old ≡ xs → first ≡ take from old → more ≡ first ++ new → all ≡ more ++ take (length old - to) (drop to old) → all ≡ splice xs from to new
+spliced_copies xs old first more all new from to is front grown whole =
+    whole ∙ ap (λ ys. more ++ ys) (take_rest old to) ∙ ap (λ ys. ys ++ drop to old) (grown ∙ ap (λ ys. ys ++ new) front)
+    ∙ append_assoc (take from old) new (drop to old) ∙ ap (λ ys. take from ys ++ (new ++ drop to ys)) is
+
+-- two pieces of a list, with others in place of elements of the first
+pub changed_in_front : {X : Type 0} (front last items changed same : List X) (from to : ℕ) → changed ≡ splice front from to items → same ≡ last → from ≤ to → to ≤ length front → changed ++ same ≡ splice (front ++ last) from to items
+changed_in_front front last items changed same from to new kept range within =
+    ap (λ xs. changed ++ xs) kept ∙ ap (λ xs. xs ++ last) new ∙ append_assoc (take from front) (items ++ drop to front) last
+    ∙ ap (λ xs. take from front ++ xs) (append_assoc items (drop to front) last)
+    ∙ ap (λ xs. xs ++ (items ++ (drop to front ++ last))) (sym (take-append-le from front last (omega arith)))
+    ∙ ap (λ xs. take from (front ++ last) ++ (items ++ xs)) (sym (drop-append-le to front last within))
+
+-- others put at the end of a list
+pub joined_at_end : {X : Type 0} (front items : List X) (border : ℕ) → border ≡ length front → splice front border border items ≡ front ++ items
+joined_at_end front items border end =
+    ap (λ xs. xs ++ (items ++ drop border front)) (take_all border front (omega arith))
+    ∙ ap (λ xs. front ++ (items ++ xs)) (drop_all border front (omega arith)) ∙ ap (λ xs. front ++ xs) (append-nil items)
+
+-- the first elements of a list and one more
+pub one_more : {X : Type 0} (xs first items : List X) (x : X) (n : ℕ) → n ≤ length xs → first ≡ take n xs → items ≡ first ++ x ∷ [] → length items ≡ n + 1
+one_more xs first items x n within front grown = ap length grown ∙ length-append first (x ∷ []) ∙ ap (λ ys. length ys + 1) front ∙ ap (λ k. k + 1) (length-take-le n xs within)
 
 -- another one in place of the one at a place
 pub one_replaced : {X : Type 0} (xs all : List X) (x : X) (i : ℕ) → i < length xs → all ≡ splice xs i (i + 1) (x ∷ []) → all ≡ set xs i x

@@ -2,8 +2,8 @@ ghost use Rattle.std.specs.Prelude.{◌≡◌, ◌+◌, ◌*◌, ◌<◌, ◌≤
 ghost use Rattle.std.specs.List.{All, insert, remove};
 ghost use Rattle.camp_share.specs.Inside.Parts.{joined, longest_part, IsPart, offset, IsPlace};
 
-use crate::growing::{Growing, MAX_PART_LENGTH, Part, append_copies, first_of};
-use crate::{Share, Shared};
+use crate::Share;
+use crate::growing::{Growing, MAX_PART_LENGTH, Part, append_copies, first_of, push_as_part};
 use std::alloc::{AllocError, Global};
 use std::marker::Model;
 
@@ -93,14 +93,14 @@ impl<T: Share + Drop> Change<T> {
         ensures items { IfOk result (λ new. joined new ≡ self ++ drop (offset parts.now index place) (joined parts.now)) }
         ensures parts { IfOk result (λ new. All IsPart new) }
     {
-        let cut = self.push_cut(parts, index, place)?;
-        let next = self.push_small(parts, cut)?;
+        let next = self.push_cut(parts, index, place)?;
         let mut new = self.into_parts()?;
         new.push_rest(parts, next)?;
         Ok(new)
     }
 
-    // Adds the elements of a part from a place on, and tells where the parts behind begin.
+    // Adds the elements of a part from a place on, and those of the part behind it if they fit. Tells where
+    // the parts behind begin.
     fn push_cut(
         &mut self,
         parts: &Growing<Part<T>>,
@@ -114,11 +114,11 @@ impl<T: Share + Drop> Change<T> {
         ensures items { IfOk result (λ rest. self.new ++ joined (drop rest parts.now) ≡ self.old ++ drop (offset parts.now index place) (joined parts.now)) }
     {
         if place == 0 {
-            return Ok(index);
+            return self.push_small(parts, index);
         }
         let part = parts.at(index);
         self.middle.push_items(&part[place..])?;
-        Ok(index + 1)
+        self.push_small(parts, index + 1)
     }
 
     // Adds the elements of a part if they fit behind the last ones, and tells where the parts behind begin.
@@ -333,13 +333,12 @@ fn push_as_parts<T: Share + Drop>(
     ensures parts { OnOk result (All IsPart parts.new) }
 {
     let mut items = items;
-    let alloc = *items.allocator();
     if items.len() > MAX_PART_LENGTH {
         let rest = items.split_off(items.len() / 2)?;
-        parts.push(Shared::new(alloc, items)?)?;
-        return parts.push(Shared::new(alloc, rest)?);
+        push_as_part(parts, items)?;
+        return push_as_part(parts, rest);
     }
-    parts.push(Shared::new(alloc, items)?)
+    push_as_part(parts, items)
 }
 
 // The parts without the element at a place.

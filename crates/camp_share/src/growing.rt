@@ -1,4 +1,4 @@
-ghost use Rattle.std.specs.Prelude.{◌≡◌, ◌+◌, ◌-◌, ◌<◌, ◌≤◌, ◌^◌, List, [], ◌∷◌, ◌++◌, length, take, drop, slice_index_or, IfOk, OnOk};
+ghost use Rattle.std.specs.Prelude.{◌≡◌, ◌+◌, ◌-◌, ◌<◌, ◌≤◌, ◌^◌, List, [], ◌∷◌, ◌++◌, length, take, drop, slice_index_or, IfOk, OnErr, OnOk};
 ghost use Rattle.std.specs.List.{All};
 ghost use Rattle.std.specs.Map.Iter.{ShowsInOrder, deref};
 ghost use Rattle.camp_share.specs.Inside.Parts.{joined, longest_part, IsPart};
@@ -109,7 +109,7 @@ impl<T: Share + Drop> Growing<T> {
                 let last = first_of(part, left)?;
                 return Ok(Growing { closed, last });
             }
-            closed.push(part.share()?)?;
+            push_copy(&mut closed, part)?;
             left -= part.len();
         }
         let last = first_of(&self.last, left)?;
@@ -207,15 +207,13 @@ impl<T: Share + Drop> Growing<T> {
         ensures { OnOk result (self.new ≡ self.old ++ part.now.items) }
     {
         if self.last.is_empty() {
-            self.closed.push(part.share()?)?;
-            return Ok(());
+            return push_copy(&mut self.closed, part);
         }
         if self.last.len() <= MAX_PART_LENGTH - part.len() {
             return self.push_items(part);
         }
         close(&mut self.closed, &mut self.last)?;
-        self.closed.push(part.share()?)?;
-        Ok(())
+        push_copy(&mut self.closed, part)
     }
 
     // Whether elements are in the last part, and so many more fit there.
@@ -231,8 +229,7 @@ impl<T: Share + Drop> Growing<T> {
     {
         parts.push_items(&self.closed)?;
         if !self.last.is_empty() {
-            let alloc = *self.last.allocator();
-            parts.push(Shared::new(alloc, self.last)?)?;
+            return push_as_part(parts, self.last);
         }
         Ok(())
     }
@@ -281,6 +278,26 @@ pub(crate) fn copies<T: Share + Drop>(
     Ok(copies)
 }
 
+// Puts a copy of an element behind others.
+pub(crate) fn push_copy<T: Share + Drop>(items: &mut Vec<T>, item: &T) -> Result<(), AllocError>
+    ensures pushed { OnOk result (items.new.items ≡ items.old.items ++ item.now ∷ []) }
+    ensures same { OnErr result (items.new.items ≡ items.old.items) }
+{
+    items.push(item.share()?)?;
+    Ok(())
+}
+
+// Adds elements to a list of parts, as a part of their own.
+pub(crate) fn push_as_part<T: Drop>(
+    parts: &mut Growing<Part<T>>,
+    items: Vec<T>,
+) -> Result<(), AllocError>
+    ensures { OnOk result (parts.new ≡ parts.old ++ items ∷ []) }
+{
+    let alloc = *items.allocator();
+    parts.push(Shared::new(alloc, items)?)
+}
+
 // Puts copies of elements behind others.
 pub(crate) fn append_copies<T: Share + Drop>(
     items: &mut Vec<T>,
@@ -319,16 +336,16 @@ fn take_back<T: Share + Drop>(
     ensures part { IsPart last.new }
     ensures parts { All IsPart closed.new.items }
 {
-    let Some(part) = closed.pop() else {
+    let Some(part) = closed.last() else {
         return Ok(());
     };
     if part.len() > MAX_PART_LENGTH - last.len() {
-        closed.push(part)?;
         return Ok(());
     }
-    let mut all = copies(*last.allocator(), &part, part.len() + last.len())?;
+    let mut all = copies(*last.allocator(), part, part.len() + last.len())?;
     all.append(last)?;
     *last = all;
+    closed.pop();
     Ok(())
 }
 

@@ -52,22 +52,25 @@ impl<'a, T> Iterator for Steps<'a, T> {
     ghost remaining = { λ s. at_most (length s) };
 
     fn next(&mut self) -> Option<&'a T> {
-        if self.part.is_empty() {
-            let closed = self.closed;
-            if closed.is_empty() {
-                self.part = self.last;
-                self.last = &[];
-            } else {
-                self.part = &closed[0];
-                self.closed = &closed[1..];
-            }
+        if !self.part.is_empty() {
+            let part = self.part;
+            self.part = &part[1..];
+            return Some(&part[0]);
         }
-        let part = self.part;
-        if part.is_empty() {
+        let closed = self.closed;
+        if !closed.is_empty() {
+            let part = &closed[0];
+            self.closed = &closed[1..];
+            self.part = &part[1..];
+            return Some(&part[0]);
+        }
+        let end = self.last;
+        if end.is_empty() {
             return None;
         }
-        self.part = &part[1..];
-        Some(&part[0])
+        self.last = &[];
+        self.part = &end[1..];
+        Some(&end[0])
     }
 }
 

@@ -5,6 +5,7 @@ ghost use Rattle.std.specs.Option.{option_copied};
 ghost use Rattle.std.specs.Cmp.Lexicographic.{pointwise, lists_per, lists_equiv};
 ghost use Rattle.std.specs.Map.Iter.{ShowsInOrder, deref};
 
+use crate::growing::push_copy;
 use crate::iters::are_equal;
 use crate::pieces::{Front, OnePart, has_room, spliced};
 use crate::{Iter, Share};
@@ -135,7 +136,7 @@ impl<T: Share + Drop> SharedList<T> {
     {
         let mut items = Vec::with_capacity(self.alloc, to - from)?;
         for item in self.iter_from(from).take(to - from) {
-            items.push(item.share()?)?;
+            push_copy(&mut items, item)?;
         }
         Ok(items)
     }

@@ -1,8 +1,9 @@
 ghost use Rattle.std.specs.Prelude.{◌≡◌, ◌<◌, ◌≤◌, [], ◌∷◌, ◌++◌, length, drop, IfOk};
+ghost use Rattle.std.specs.declared.result.Result.TheVariants.{Ok};
 ghost use Rattle.std.specs.List.{remove, splice};
 ghost use Rattle.std.specs.Map.Iter.{ShowsInOrder, deref};
 
-use crate::growing::{MAX_PART_LENGTH, Part, append_copies};
+use crate::growing::{MAX_PART_LENGTH, Part, append_copies, copies};
 use crate::part_lists::PartList;
 use crate::{Iter, Share, Shared};
 use std::alloc::{AllocError, Global};
@@ -160,8 +161,7 @@ impl<T: Share + Drop> OnePart<T> {
     {
         let old = self.items();
         let room = (old.len() - (to - from)).saturating_add(1);
-        let mut items = Vec::with_capacity(alloc, room)?;
-        append_copies(&mut items, &old[..from])?;
+        let mut items = copies(alloc, &old[..from], room)?;
         items.push(item)?;
         append_copies(&mut items, &old[to..])?;
         OnePart::of(items)
@@ -181,8 +181,7 @@ impl<T: Share + Drop> OnePart<T> {
     {
         let old = self.items();
         let room = (old.len() - (to - from)).saturating_add(new.len());
-        let mut items = Vec::with_capacity(alloc, room)?;
-        append_copies(&mut items, &old[..from])?;
+        let mut items = copies(alloc, &old[..from], room)?;
         append_copies(&mut items, new)?;
         append_copies(&mut items, &old[to..])?;
         OnePart::of(items)
@@ -226,20 +225,48 @@ pub(crate) fn spliced<T: Share + Drop>(
     let border = front.len();
     if from < border && to <= border {
         let list = front.spliced(alloc, from, to, items)?;
-        return Ok((Front::of(alloc, list)?, last.share()?));
+        return both(Front::of(alloc, list), last.share());
     }
     if from >= border && has_room(border, last, to - from, items.len()) {
-        let changed = last.spliced(alloc, from - border, to - border, items)?;
-        let same = front.share()?;
-        return Ok((same, changed));
+        let changed = last.spliced(alloc, from - border, to - border, items);
+        return both(front.share(), changed);
     }
     let list = front.spliced(alloc, border, border, last.items())?;
+    spliced_whole(list, alloc, from, to, items)
+}
+
+// The elements of a list with copies of others in place of those from one place up to another. Few that
+// are put at its end stand apart.
+fn spliced_whole<T: Share + Drop>(
+    list: PartList<T>,
+    alloc: Global,
+    from: usize,
+    to: usize,
+    items: &[T],
+) -> Result<(Front<T>, OnePart<T>), AllocError>
+    requires range { from ≤ to }
+    requires within { to ≤ length list }
+    ensures { IfOk result (λ new. new.0 ++ new.1 ≡ splice list from to items.now) }
+{
     if from == list.len() && items.len() <= FEW {
-        let front = Front::of(alloc, list)?;
-        return Ok((front, OnePart::empty().spliced(alloc, 0, 0, items)?));
+        let last = OnePart::empty().spliced(alloc, 0, 0, items);
+        return both(Front::of(alloc, list), last);
     }
     let list = list.spliced(from, to, items)?;
-    Ok((Front::of(alloc, list)?, OnePart::empty()))
+    both(Front::of(alloc, list), Ok(OnePart::empty()))
+}
+
+// Two values, where both could be made.
+fn both<A: Drop, B: Drop>(
+    first: Result<A, AllocError>,
+    second: Result<B, AllocError>,
+) -> Result<(A, B), AllocError>
+    ensures first { IfOk result (λ pair. first ≡ Ok pair.0) }
+    ensures second { IfOk result (λ pair. second ≡ Ok pair.1) }
+{
+    let first = first?;
+    let second = second?;
+    Ok((first, second))
 }
 
 // Whether a last part may have so many elements in place of as many that go. It may have those of a

@@ -1,5 +1,5 @@
-use Rattle.camp_share.proofs.Words.{◌<◌, ◌++◌, ◌∷◌, [], length, take, drop, ◌∙◌, ap, arith, Vec, IfOk-weaker, joined, offset}
-use Rattle.camp_share.proofs.PartLemmas.{parts_fewer, length_grown, renewed_behind, inserted_between}
+use Rattle.camp_share.proofs.Words.{◌≡◌, ◌+◌, ◌<◌, ◌++◌, ◌∷◌, [], length, take, drop, ◌∙◌, ap, arith, Vec, IfOk-weaker, joined, offset, length-append}
+use Rattle.camp_share.proofs.PartLemmas.{parts_fewer, length_grown, one_more, renewed_behind, inserted_between}
 use Rattle.camp_share.proofs.changes.inserted_at.Goals as goal
 
 pub len-requires : goal.len-requires
@@ -25,3 +25,16 @@ returns-clause-items g c =
     (renewed_behind parts index place c.at.result.now inside c.at.ensures (omega (arith, c.behind_with_room-index.ensures.place.1)) _ _ _ _ _
     (c.in_ok-items.ensures ∙ ap (λ (p : Vec _ _). take place p.items) c.deref.ensures) c.in_ok-push-2.ensures.items is))
     c.with_end_of.ensures.items
+
+pub with_end_of-requires-clause-within : goal.with_end_of-requires-clause-within
+with_end_of-requires-clause-within g c = omega (arith, c.behind_with_room-index.ensures.place.0)
+
+pub with_end_of-requires-clause-some : goal.with_end_of-requires-clause-some
+with_end_of-requires-clause-some g c = omega (arith, ap length c.in_ok-push-2.ensures.items, length-append c.in_ok-items.items.items (c.args.item ∷ []))
+
+pub with_end_of-requires-clause-few : goal.with_end_of-requires-clause-few
+with_end_of-requires-clause-few g c =
+    let place = c.behind_with_room-index.result.1 in
+    let longer = length_grown c.args.parts.now c.behind_with_room-index.result.0 c.at.result.now (omega (arith, c.behind_with_room-index.ensures.place.0)) c.at.ensures in
+    let more : length c.push-2.new.self.items ≡ place + 1 = one_more c.at.result.now.items _ _ c.args.item _ (omega (arith, c.behind_with_room-index.ensures.place.1)) (c.in_ok-items.ensures ∙ ap (λ (p : Vec _ _). take place p.items) c.deref.ensures) c.in_ok-push-2.ensures.items in
+    omega (arith, more)

@@ -1,4 +1,4 @@
-use Rattle.camp_share.proofs.Words.{◌≡◌, ◌<◌, ◌+◌, ◌++◌, length, take, drop, ◌∙◌, ap, arith, Vec, joined, offset}
+use Rattle.camp_share.proofs.Words.{◌≡◌, ◌<◌, ◌+◌, ◌++◌, length, take, drop, ◌∙◌, ap, arith, Vec, joined, offset, common_steps}
 use Rattle.camp_share.proofs.PartLemmas.{parts_fewer, length_grown, renewed_behind}
 use Rattle.camp_share.proofs.changes.spliced_in_part.Goals as goal
 
@@ -19,3 +19,12 @@ returns-clause-items g c =
     (c.in_ok-items.ensures ∙ ap (λ (p : Vec _ _). take place p.items) c.deref-3.ensures) c.in_ok-append_copies.ensures.joined c.in_ok-changed.ensures.items
     ∙ ap (λ n. take (offset parts index place) (joined parts) ++ new ++ drop n (joined parts)) moved
     ∙ ap (λ n. take n (joined parts) ++ new ++ drop (n + gone) (joined parts)) c.behind_with_room-index.ensures.same
+
+pub with_end_of-requires-clause-some : goal.with_end_of-requires-clause-some
+with_end_of-requires-clause-some g c = grind (arith, common_steps)
+
+pub with_end_of-requires-clause-few : goal.with_end_of-requires-clause-few
+with_end_of-requires-clause-few g c = grind (arith, common_steps)
+
+pub with_end_of-requires-clause-within : goal.with_end_of-requires-clause-within
+with_end_of-requires-clause-within g c = omega (arith, c.behind_with_room-index.ensures.place.0)

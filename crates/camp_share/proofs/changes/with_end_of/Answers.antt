@@ -1,4 +1,4 @@
-use Rattle.camp_share.proofs.Words.{sym, ap, subst, ◌∙◌, arith, Vec, take, All, All-append, All-drop, joined, IsPart, common_steps}
+use Rattle.camp_share.proofs.Words.{sym, ap, subst, ◌∙◌, arith, Vec, take, All, All-append, All-drop, All-take, joined, IsPart, common_steps, ◌≡◌, length}
 use Rattle.camp_share.proofs.PartLemmas.{parts_fewer, length_grown, joined_between, pushed_behind}
 use Rattle.camp_share.proofs.changes.with_end_of.Goals as goal
 
@@ -17,16 +17,22 @@ returns-clause-parts g c =
     subst (All IsPart) (sym c.in_ok-push_rest.ensures) (All-append IsPart _ _ c.in_ok-push_as_parts.ensures.parts (All-drop IsPart _ _ c.requires.parts))
 
 pub offset_bounds-deref-place : goal.offset_bounds-deref-place
-offset_bounds-deref-place g c = grind (arith, common_steps)
+offset_bounds-deref-place g c =
+    let longer = length_grown c.args.parts.now c.args.index c.at-part.result.now c.requires.within c.at-part.ensures in
+    let size : length c.deref-2.result.now ≡ length c.at-part.result.now.items = ap length (c.deref-2.ensures.value ∙ ap (λ (p : Vec _ _). p.items) c.deref.ensures) in omega (arith, c.requires.place.1)
 
 pub slice_bounds-append_copies-count : goal.slice_bounds-append_copies-count
-slice_bounds-append_copies-count g c = grind (arith, common_steps)
+slice_bounds-append_copies-count g c =
+    let longer = length_grown c.args.parts.now c.args.index c.at-part.result.now c.requires.within c.at-part.ensures in
+    let size : length c.deref-2.result.now ≡ length c.at-part.result.now.items = ap length (c.deref-2.ensures.value ∙ ap (λ (p : Vec _ _). p.items) c.deref.ensures) in omega (arith, c.requires.place.1)
 
 pub slice_bounds-append_copies-start : goal.slice_bounds-append_copies-start
-slice_bounds-append_copies-start g c = grind (arith, common_steps)
+slice_bounds-append_copies-start g c =
+    let longer = length_grown c.args.parts.now c.args.index c.at-part.result.now c.requires.within c.at-part.ensures in
+    let size : length c.deref-2.result.now ≡ length c.at-part.result.now.items = ap length (c.deref-2.ensures.value ∙ ap (λ (p : Vec _ _). p.items) c.deref.ensures) in omega (arith, c.requires.place.1)
 
 pub push_as_parts-requires-clause-parts : goal.push_as_parts-requires-clause-parts
-push_as_parts-requires-clause-parts g c κs = grind (arith, common_steps)
+push_as_parts-requires-clause-parts g c κs = subst (All IsPart) (sym c.in_ok-new.ensures) (All-take IsPart _ _ c.requires.parts) κs
 
 pub push_as_parts-requires-clause-some : goal.push_as_parts-requires-clause-some
 push_as_parts-requires-clause-some g c = grind (arith, common_steps)
