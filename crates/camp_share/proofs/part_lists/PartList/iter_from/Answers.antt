@@ -1,4 +1,4 @@
-use Rattle.camp_share.proofs.Words.{subst, ◌∙◌, arith, All, All-tail, IsPart}
+use Rattle.camp_share.proofs.Words.{subst, ◌∙◌, arith, All, All-tail, IsPart, common_steps}
 use Rattle.camp_share.proofs.PartLemmas.{left_behind, length_told}
 use Rattle.camp_share.proofs.part_lists.PartList.iter_from.Goals as goal
 
@@ -12,3 +12,9 @@ loop-part-preserved g c =
       parts = All-tail IsPart _ _ (subst (All IsPart) c.in-Some-next.ensures.steps c.loop-part.invariant.parts);
       rest = left_behind c.loop-part.parts c.next.new.self c.in-Some-next.part.now c.loop-part.start c.len-start.result c.in-Some-next.ensures.steps less (omega arith) ∙ c.loop-part.invariant.rest;
     }
+
+pub returns-then-start-len-clause-rest : goal.returns-then-start-len-clause-rest
+returns-then-start-len-clause-rest g c = grind (arith, common_steps)
+
+pub returns-clause-rest : goal.returns-clause-rest
+returns-clause-rest g c = grind (arith, common_steps)

@@ -1,4 +1,4 @@
-use Rattle.camp_share.proofs.Words.{◌+◌, ◌-◌, ◌≤◌, ◌++◌, length, drop, ap, ◌∙◌, arith, Vec, length-drop, take_all, joined}
+use Rattle.camp_share.proofs.Words.{◌+◌, ◌-◌, ◌≤◌, ◌++◌, length, drop, ap, ◌∙◌, arith, Vec, length-drop, take_all, joined, common_steps}
 use Rattle.camp_share.proofs.PartLemmas.{length_told, end_fits, from_end}
 use Rattle.camp_share.proofs.part_lists.PartList.near_end.Goals as goal
 
@@ -41,3 +41,9 @@ returns-then-start-from g c =
           ∙ ap (λ ps. drop (from - start) part.items ++ joined ps) rest ∙ whole ∙ ap (drop from) c.self.view_is),
       c.new.ensures.runs,
     )
+
+pub loop-at-preserved : goal.loop-at-preserved
+loop-at-preserved g c = grind (arith, common_steps)
+
+pub loop-at-init : goal.loop-at-init
+loop-at-init g c = grind (arith, common_steps)
