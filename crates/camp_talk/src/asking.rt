@@ -1,5 +1,5 @@
 //! What a command asks.
-ghost use Rattle.std.specs.Prelude.{◌≡◌, ◌∷◌, [], List, Result, codes};
+ghost use Rattle.std.specs.Prelude.{◌≡◌, ◌∷◌, [], List, Result, bytes_eq, codes};
 ghost use Rattle.camp_call.specs.declared.calls.Call.{Call as SaidCall};
 ghost use Rattle.camp_script.specs.Gives.{Gives};
 ghost use Rattle.camp_script.specs.Lines.{is_skipped, lines_of, words_of};
@@ -18,9 +18,16 @@ pub(crate) fn is_skipped(line: &[u8]) -> bool
     ensures { result ≡ is_skipped (words_of line.now) }
 {
     match Words::new(line).next() {
-        Some(word) => word.first() == Some(&b'#'),
+        Some(word) => word.starts_with(b"#"),
         None => true,
     }
+}
+
+/// Whether a word, or a line, is this one.
+pub(crate) fn is_word(word: &[u8], other: &[u8]) -> bool
+    ensures { result ≡ bytes_eq word.now other.now }
+{
+    word == other
 }
 
 /// What a command asks, by the script that its call is.
@@ -36,15 +43,16 @@ pub(crate) fn read_asked(
     let Some(word) = words.next() else {
         return read_call(script);
     };
-    if word == b"whatif".as_slice() {
+    if is_word(word, b"whatif") {
         return read_what_if(script);
     }
     if is_why(word) {
         return read_why(words);
     }
-    match read_question(alloc, word, words)? {
-        Some(question) => Ok(Asked::Question(question)),
-        None => read_call(script),
+    match read_question(alloc, word, words) {
+        Ok(Some(question)) => Ok(Asked::Question(question)),
+        Ok(None) => read_call(script),
+        Err(fault) => Err(fault),
     }
 }
 
@@ -88,7 +96,7 @@ fn read_call(script: Result<Script, ScriptFault>) -> Result<Asked, ScriptFault>
 fn is_why(word: &[u8]) -> bool
     ensures { result ≡ is_why word.now }
 {
-    word == b"why".as_slice() || word == b"why\r".as_slice()
+    is_word(word, b"why") || is_word(word, b"why\r")
 }
 
 fn read_why(words: Words<'_>) -> Result<Asked, ScriptFault>

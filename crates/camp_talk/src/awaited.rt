@@ -3,6 +3,7 @@ ghost use Rattle.std.specs.Prelude.{◌≡◌};
 ghost use Rattle.camp_script.specs.Lines.{words_of};
 ghost use Rattle.camp_talk.specs.Accounts.{awaited_after, begins_command, is_edit, is_form, is_group, is_record, is_short, left_behind, left_by, may_be, said_in};
 
+use crate::asking::is_word;
 use camp_script::{Words, begins_edit, begins_with, behind_word};
 use camp_why::{begins_signed, call_part};
 
@@ -39,8 +40,8 @@ impl Awaited {
         match self {
             Awaited::Nothing => Awaited::Nothing,
             Awaited::Signed => Awaited::Body,
-            Awaited::Body if line == b"end".as_slice() => Awaited::Nothing,
-            Awaited::GroupBody if line == b"end".as_slice() => Awaited::Group,
+            Awaited::Body if is_word(line, b"end") => Awaited::Nothing,
+            Awaited::GroupBody if is_word(line, b"end") => Awaited::Group,
             Awaited::Group if begins_edit(line) => Awaited::GroupBody,
             Awaited::Group if begins_with(line, b"done") => Awaited::Nothing,
             same => same,
@@ -125,5 +126,5 @@ fn is_edit(word: &[u8]) -> bool
 fn is_form(word: &[u8], small: &[u8], capital: &[u8], capitals: &[u8]) -> bool
     ensures { result ≡ is_form small.now capital.now capitals.now word.now }
 {
-    word == small || word == capital || word == capitals
+    is_word(word, small) || is_word(word, capital) || is_word(word, capitals)
 }

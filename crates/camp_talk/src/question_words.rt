@@ -3,6 +3,7 @@ ghost use Rattle.std.specs.Prelude.{map};
 ghost use Rattle.camp_script.specs.Gives.{Gives};
 ghost use Rattle.camp_talk.specs.Asking.{branch_alone, branch_and_any_names, branch_and_names, branch_and_path, branches_and_names, conflict_question, plain_question, question_of, short_question, two_names};
 
+use crate::asking::is_word;
 use crate::questions::Question;
 use crate::topics::help_topic;
 use camp_base::{Name, Path};
@@ -21,19 +22,19 @@ pub(crate) fn read_question(
 ) -> Result<Option<Question>, ScriptFault>
     ensures { Gives result (question_of word.now words.entry) }
 {
-    if word == b"needs".as_slice() {
+    if is_word(word, b"needs") {
         let (branch, names) = branch_and_names(alloc, words)?;
         return Ok(Some(Question::Needs { branch, names }));
     }
-    if word == b"held".as_slice() {
+    if is_word(word, b"held") {
         let (branch, names) = branch_and_names(alloc, words)?;
         return Ok(Some(Question::Held { branch, names }));
     }
-    if word == b"along".as_slice() {
+    if is_word(word, b"along") {
         let (from, to, names) = branches_and_names(alloc, words)?;
         return Ok(Some(Question::Along { from, to, names }));
     }
-    if word == b"graph".as_slice() {
+    if is_word(word, b"graph") {
         let (branch, names) = branch_and_any_names(alloc, words)?;
         return Ok(Some(Question::Graph { branch, names }));
     }
@@ -48,15 +49,15 @@ fn short_question(
 ) -> Result<Option<Question>, ScriptFault>
     ensures { Gives result (short_question word.now (map (λ word. word.now) words.now)) }
 {
-    if word == b"missing".as_slice() {
+    if is_word(word, b"missing") {
         let (from, to) = two_names(words)?;
         return Ok(Some(Question::Missing { from, to }));
     }
-    if word == b"show".as_slice() {
+    if is_word(word, b"show") {
         let (branch, name) = two_names(words)?;
         return Ok(Some(Question::Show { branch, name }));
     }
-    if word == b"annotate".as_slice() {
+    if is_word(word, b"annotate") {
         let (branch, path) = branch_and_path(alloc, words)?;
         return Ok(Some(Question::Annotate { branch, path }));
     }
@@ -70,19 +71,19 @@ fn conflict_question(
 ) -> Result<Option<Question>, ScriptFault>
     ensures { Gives result (conflict_question word.now (map (λ word. word.now) words.now)) }
 {
-    if word == b"open".as_slice() {
+    if is_word(word, b"open") {
         let branch = branch_alone(words)?;
         return Ok(Some(Question::Open(branch)));
     }
-    if word == b"side".as_slice() {
+    if is_word(word, b"side") {
         let (branch, name) = two_names(words)?;
         return Ok(Some(Question::Side { branch, name }));
     }
-    if word == b"marks".as_slice() {
+    if is_word(word, b"marks") {
         let (branch, path) = branch_and_path(alloc, words)?;
         return Ok(Some(Question::Marks { branch, path }));
     }
-    if word == b"file".as_slice() {
+    if is_word(word, b"file") {
         let (branch, path) = branch_and_path(alloc, words)?;
         return Ok(Some(Question::File { branch, path }));
     }
@@ -92,19 +93,19 @@ fn conflict_question(
 fn plain_question(word: &[u8], words: &[&[u8]]) -> Result<Option<Question>, ScriptFault>
     ensures { Gives result (plain_question word.now (map (λ word. word.now) words.now)) }
 {
-    if word == b"history".as_slice() {
+    if is_word(word, b"history") {
         no_words(1, words)?;
         return Ok(Some(Question::History));
     }
-    if word == b"keep".as_slice() {
+    if is_word(word, b"keep") {
         no_words(1, words)?;
         return Ok(Some(Question::Keep));
     }
-    if word == b"branches".as_slice() {
+    if is_word(word, b"branches") {
         no_words(1, words)?;
         return Ok(Some(Question::Branches));
     }
-    if word == b"help".as_slice() {
+    if is_word(word, b"help") {
         let topic = help_topic(words)?;
         return Ok(Some(Question::Help(topic)));
     }

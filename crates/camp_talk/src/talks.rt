@@ -43,16 +43,23 @@ pub(crate) fn hear<R: BufRead>(
     let Some(line) = lines.checked_add(1) else {
         return Err(TalkFault::Internal);
     };
-    let command = read_command(alloc, reader)?;
-    match lines.checked_add(count_lines(&command.bytes)) {
-        None => Err(TalkFault::Internal),
-        Some(after) => Ok(Heard {
-            said: respond(alloc, book, lines, cause, &command),
-            line,
-            lines: after,
-            is_whole: command.is_whole,
-        }),
-    }
+    let command = match read_command(alloc, reader) {
+        Ok(command) => command,
+        Err(why) => return Err(why),
+    };
+    let is_whole = command.is_whole;
+    let Some(after) = lines.checked_add(count_lines(&command.bytes)) else {
+        drop(command);
+        return Err(TalkFault::Internal);
+    };
+    let said = respond(alloc, book, lines, cause, &command);
+    drop(command);
+    Ok(Heard {
+        said,
+        line,
+        lines: after,
+        is_whole,
+    })
 }
 
 /// Reads a command, asks it of a book at seat 0, writes its answer and flushes. Whether there may be

@@ -8,7 +8,7 @@ ghost use Rattle.camp_talk.specs.Asking.{first_begun, first_numbered, first_of, 
 ghost use Rattle.camp_talk.specs.Help.{example};
 ghost use Rattle.camp_talk.specs.Refusals.{number_of};
 
-use crate::asking::first_line;
+use crate::asking::{first_line, is_word};
 use crate::questions::{Reason, Topic};
 use crate::told_help::{commands, example};
 use crate::told_refusals::{number_of, reasons};
@@ -30,7 +30,7 @@ pub(crate) fn help_topic(words: &[&[u8]]) -> Result<Topic, ScriptFault>
 fn word_topic(word: &[u8]) -> Result<Topic, ScriptFault>
     ensures { Gives result (word_topic word.now) }
 {
-    if word == b"refused".as_slice() {
+    if is_word(word, b"refused") {
         return Ok(Topic::Refusals);
     }
     topic_at(word)
@@ -40,7 +40,7 @@ fn word_topic(word: &[u8]) -> Result<Topic, ScriptFault>
 fn refusal_topic(word: &[u8], number: &[u8]) -> Result<Topic, ScriptFault>
     ensures { Gives result (refusal_topic word.now number.now) }
 {
-    if word != b"refused".as_slice() {
+    if !is_word(word, b"refused") {
         return Err(at_line(1, FaultKind::WrongNumberOfWords));
     }
     match reason_at(number) {

@@ -67,10 +67,16 @@ fn see<R: BufRead>(
     ensures kept { OnErr result (answer.new.items ≡ answer.old.items) }
     ensures unwritten { IfErr result IsNotWriting }
 {
-    let command = read_command(alloc, reader)?;
-    match append_view(alloc, state, lines, &command, answer) {
+    let command = match read_command(alloc, reader) {
+        Ok(command) => command,
+        Err(why) => return Err(why),
+    };
+    let is_whole = command.is_whole;
+    let shown = append_view(alloc, state, lines, &command, answer);
+    drop(command);
+    match shown {
+        Ok(()) => Ok(is_whole),
         Err(why) => Err(why),
-        Ok(()) => Ok(command.is_whole),
     }
 }
 

@@ -4,7 +4,7 @@ use Rattle.camp_talk.proofs.question_words.read_question.Goals as goal
 
 pub returns : goal.returns
 returns c =
-    let first = ap (map (λ word. word.now)) c.as_slice-5.ensures.value ∙ c.first_words-words.ensures.exact in
+    let first = ap (map (λ word. word.now)) c.as_slice.ensures.value ∙ c.first_words-words.ensures.exact in
     let other : bytes_eq c.args.word.now (codes "needs") ≡ false = search rules in
     let neither : bytes_eq c.args.word.now (codes "held") ≡ false = search rules in
     let nor : bytes_eq c.args.word.now (codes "along") ≡ false = search rules in

@@ -3,33 +3,33 @@ use Rattle.camp_talk.proofs.Firsts.{command_long}
 use Rattle.camp_talk.proofs.ViewLemmas.{not_writing}
 use Rattle.camp_talk.proofs.views.see.Goals as goal
 
-pub returns-in_err-command-clause-unwritten : goal.returns-in_err-command-clause-unwritten
-returns-in_err-command-clause-unwritten g c =
-    search (rules, not_writing _ c.in_err-command.ensures.fault)
+pub returns-in-Err-clause-unwritten : goal.returns-in-Err-clause-unwritten
+returns-in-Err-clause-unwritten g c =
+    search (rules, not_writing _ c.in-Err.ensures.fault)
 
-pub returns-clause-sees : goal.returns-clause-sees
-returns-clause-sees g c =
-    let command = c.in_ok-command.command in
-    let read = c.in_ok-command.ensures.command in
-    let shown = c.in-Ok.ensures.shows in
+pub returns-in-Ok-shown-clause-sees : goal.returns-in-Ok-shown-clause-sees
+returns-in-Ok-shown-clause-sees g c =
+    let command = c.in-Ok.command in
+    let read = c.in-Ok.ensures.command in
+    let shown = c.in-Ok-shown.ensures.shows in
     let lines : length (lines_of command.bytes.items) ≡ length (lines_of read.command) =
     ap (λ (ls : List (List ℕ)). length ls) read.lines ∙ length-map (lines_of read.command) as_read in
-    let gives = subst (λ (ls : List (List ℕ)). Gives command.asked (asked_of ls)) read.lines c.in_ok-command.ensures.asked in
+    let gives = subst (λ (ls : List (List ℕ)). Gives command.asked (asked_of ls)) read.lines c.in-Ok.ensures.asked in
     record {
       said = record { command = read.command; answer = shown.0 };
       reads = read.reads;
       sees = record {
         shows = shown.2 (asked_of (lines_in read.command)) gives;
-        counts = c.in-Ok.ensures.counts.0 ∙ ap (λ (n : ℕ). c.args.lines.now + n) lines;
+        counts = c.in-Ok-shown.ensures.counts.0 ∙ ap (λ (n : ℕ). c.args.lines.now + n) lines;
       };
       grows = shown.1;
     }
 
-pub returns-clause-counts : goal.returns-clause-counts
-returns-clause-counts g c =
-    let command = c.in_ok-command.command in
-    let read = c.in_ok-command.ensures.command in
-    let counts = c.in-Ok.ensures.counts in
+pub returns-in-Ok-shown-clause-counts : goal.returns-in-Ok-shown-clause-counts
+returns-in-Ok-shown-clause-counts g c =
+    let command = c.in-Ok.command in
+    let read = c.in-Ok.ensures.command in
+    let counts = c.in-Ok-shown.ensures.counts in
     let lines : length (lines_of command.bytes.items) ≡ length (lines_of read.command) =
     ap (λ (ls : List (List ℕ)). length ls) read.lines ∙ length-map (lines_of read.command) as_read in
     λ (more : command.is_whole ≡ true).
