@@ -1,12 +1,11 @@
 //! What help is asked for.
 ghost use Rattle.std.specs.Option.{option_copied};
-ghost use Rattle.std.specs.Prelude.{◌≡◌, bytes_eq, map};
+ghost use Rattle.std.specs.Prelude.{◌≡◌, map};
 ghost use Rattle.camp_script.specs.Gives.{Gives};
 ghost use Rattle.camp_script.specs.Lines.{lines_of, words_of};
 ghost use Rattle.camp_script.specs.Pieces.{begins_with};
 ghost use Rattle.camp_talk.specs.Asking.{first_begun, first_numbered, first_of, help_line, reason_at, refusal_topic, topic_at, word_topic};
 ghost use Rattle.camp_talk.specs.Help.{example};
-ghost use Rattle.camp_talk.specs.Refusals.{number_of};
 
 use crate::asking::{first_line, is_word};
 use crate::questions::{Reason, Topic};
@@ -64,14 +63,9 @@ pub(crate) fn reason_at(number: &[u8]) -> Option<Reason>
 fn first_numbered<'a>(number: &[u8], reasons: &'a [Reason]) -> Option<&'a Reason>
     ensures { option_copied result ≡ first_numbered number.now reasons.now }
 {
-    reasons.iter().find(|reason| has_number(number, **reason))
-}
-
-// Whether a reason has a number.
-fn has_number(number: &[u8], reason: Reason) -> bool
-    ensures { result ≡ bytes_eq (number_of reason) number.now }
-{
-    number_of(reason).as_bytes() == number
+    reasons
+        .iter()
+        .find(|reason| is_word(number_of(**reason).as_bytes(), number))
 }
 
 // The command that a word begins.
