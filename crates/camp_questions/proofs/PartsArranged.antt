@@ -1,5 +1,11 @@
 -- Lists of catches that are arranged part by part.
-use Rattle.camp_questions.proofs.Words.{◌≡◌, ◌<◌, ℕ, ◌+◌, ◌-◌, true≢false, false, ◌||◌, arith, get_or, length, take, take_more, List, [], ◌∷◌, ◌++◌, bytes_eq, append-nil, append_assoc, refl, sym, ap, ◌∙◌, subst, inl, inr, AllByRecursion, Key, Catch, AreAlike, Arrange, ArrangeSticks, ArrangesBehind, SticksBehind, StopsAt, is_among, is_among_is, name_of, take_all, DoNotCommute, IsOf, catch_key, KeysPart, keys_of, keep_labels, arrange_by_members, AreApart, AreOfPatch, AllStay, ComeBeforeAll, StickBehind}
+use Rattle.camp_questions.proofs.Words.{◌≡◌, ◌<◌, ℕ, ◌+◌, ◌-◌, true≢false, false, ◌||◌, arith, get_or, length, take, take_more, List, [], ◌∷◌, ◌++◌, bytes_eq, append-nil, append_assoc, refl, sym, ap, ◌∙◌, subst, inl, inr, AllByRecursion, Key, Catch, AreAlike, Arrange, ArrangeSticks, ArrangesBehind, SticksBehind, StopsAt, is_among, is_among_is, name_of, take_all, DoNotCommute, IsOf, catch_key, KeysPart, keys_of, keep_labels, arrange_by_members, AreApart, AreOfPatch, AllStay, StickBehind, Result, Ok, Err}
+use Rattle.std.specs.Result.{MatchResult}
+use Rattle.camp_catch.specs.Making.{ComesTo}
+use Rattle.camp_catch.specs.declared.arranging.Arranged.{Arranged}
+use Rattle.camp_catch.specs.declared.arranging.Stuck.{Stuck}
+use Rattle.camp_catch.specs.declared.faults.Unmade.{Unmade}
+use Rattle.camp_catch.specs.declared.faults.Unmade.TheVariants.{Blocked, Memory}
 use Rattle.camp_questions.proofs.BranchGrowths.{contains_alike}
 use Rattle.camp_questions.proofs.PatchFronts.{AreNotOf, all_are, all_images, at_first}
 
@@ -121,15 +127,17 @@ module _ (names : List (List ℕ)) where
   stuck_behind rest (k ∷ going) list patch on are (inr (inr w)) =
       subst (λ r. SticksBehind names r list patch on) (append_assoc rest (k ∷ []) going) (stuck_behind (rest ++ k ∷ []) going list patch on are.1 w.1)
 
--- where the patch comes to the front of what goes and its catches, it comes before what goes
-pub comes_before_all : (name : List ℕ) (set : List (List ℕ)) (going list first left : List Catch) → AreAlike set (name ∷ []) → AreApart name going → Arrange set (going ++ list) first left → ComeBeforeAll name going list left
-comes_before_all name set going list first left alike apart w =
-    (first, others_first (name ∷ []) [] going list first left (others_of_it name going apart) (arrange_by_members.arranged set (name ∷ []) (contains_alike set (name ∷ []) alike) (going ++ list) first left w))
-
--- where it sticks on its way there, it can not
-pub stuck_before_all : (name : List ℕ) (set : List (List ℕ)) (going list : List Catch) (patch on : Key) → AreAlike set (name ∷ []) → AreApart name going → ArrangeSticks set (going ++ list) patch on → StickBehind name going list
-stuck_before_all name set going list patch on alike apart w =
-    (patch, on, stuck_behind (name ∷ []) [] going list patch on (others_of_it name going apart) (arrange_by_members.sticks set (name ∷ []) (contains_alike set (name ∷ []) alike) (going ++ list) patch on w))
+-- where the catches of a patch are arranged behind those that go, it comes before these, or it sticks
+pub arranged_or_stuck : (name : List ℕ) (set : List (List ℕ)) (going list whole : List Catch) (made : Result Arranged (Unmade Stuck)) → AreAlike set (name ∷ []) → AreApart name going → whole ≡ going ++ list
+    → ComesTo (λ answer. MatchResult answer (λ arranged. Arrange set whole arranged.first.items arranged.rest.items) (λ stuck. ArrangeSticks set whole stuck.patch stuck.on)) made
+    → ComesTo (λ answer. MatchResult answer (λ arranged. ArrangesBehind (name ∷ []) going list arranged.first.items arranged.rest.items) (λ stuck. SticksBehind (name ∷ []) going list stuck.patch stuck.on)) made
+arranged_or_stuck name set going list whole (Ok arranged) alike apart is w =
+    let first : List Catch = arranged.first.items in
+    let rest : List Catch = arranged.rest.items in
+    others_first (name ∷ []) [] going list first rest (others_of_it name going apart) (arrange_by_members.arranged set (name ∷ []) (contains_alike set (name ∷ []) alike) (going ++ list) first rest (subst (λ l. Arrange set l first rest) is w))
+arranged_or_stuck name set going list whole (Err (Blocked stuck)) alike apart is w =
+    stuck_behind (name ∷ []) [] going list stuck.patch stuck.on (others_of_it name going apart) (arrange_by_members.sticks set (name ∷ []) (contains_alike set (name ∷ []) alike) (going ++ list) stuck.patch stuck.on (subst (λ l. ArrangeSticks set l stuck.patch stuck.on) is w))
+arranged_or_stuck name set going list whole (Err Memory) alike apart is w = tt
 
 -- what holds of all keys of a list holds of those behind what is arranged
 keys_kept : (P : Key → Type 0) (names : List (List ℕ)) (keys first rest : List Key) → KeysPart names keys first rest → AllByRecursion P keys → AllByRecursion P rest

@@ -1,10 +1,12 @@
 //! A file with the open sides of its conflicts.
-ghost use Rattle.std.specs.Prelude.{◌≡◌, ◌++◌, [], IfOk, OnOk};
+ghost use Rattle.std.specs.Prelude.{◌≡◌, ◌++◌, [], ℕ, List, IfOk, OnOk};
 ghost use Rattle.std.specs.FinMap.{get};
 ghost use Rattle.camp_branch.specs.Branches.{LeadsTo};
-ghost use Rattle.camp_ctx.specs.Contexts.{AreValid};
+ghost use Rattle.camp_ctx.specs.Contexts.{AreValid, ContextedPatches};
 ghost use Rattle.camp_questions.specs.Answers.{TellsOrWants};
 ghost use Rattle.camp_questions.specs.Marks.{AreMarked, AreVersions, Makes, MarksAt, names_in_pairs, with_made};
+ghost use Rattle.camp_questions.specs.OpenConflicts.{AreOpenAmong};
+ghost use Rattle.camp_questions.specs.Sides.{AreSeen};
 
 use crate::Unanswered;
 use crate::contents::file_at;
@@ -125,11 +127,35 @@ fn marks_at(branch: &Branch, tree: &Tree, path: &Path) -> Result<Marked, AllocEr
     let Some(lines) = tree.file(path) else {
         return Ok(Marked::NoFile);
     };
-    let seen = labels_seen(branch)?;
-    let names = names_in_pairs(branch, &open_among(branch.catches(), &seen)?)?;
-    let versions = versions_of(&seen, tree, path, lines, names.as_slice())?;
+    let versions = versions_at(branch, tree, path, lines)?;
     let file = with_marks(lines, &versions)?;
     Ok(Marked::File(file))
+}
+
+/// The versions of a file that the patches of a branch in open conflicts would make, in their order.
+fn versions_at(
+    branch: &Branch,
+    tree: &Tree,
+    path: &Path,
+    lines: &SharedList<Line>,
+) -> Result<Vec<Version>, AllocError>
+    requires { LeadsTo branch.now tree.now }
+    ensures { IfOk result (λ versions. (seen : ContextedPatches) × (pairs : List (List ℕ × List ℕ)) × AreSeen branch.now seen
+        × AreOpenAmong branch.now seen pairs
+        × AreVersions seen tree.now path.now lines.now (names_in_pairs branch.now pairs) versions.items) }
+{
+    let seen = labels_seen(branch)?;
+    let names = names_in_open(branch, &seen)?;
+    versions_of(&seen, tree, path, lines, names.as_slice())
+}
+
+/// The names of the patches of a branch that are in an open conflict.
+fn names_in_open(branch: &Branch, seen: &CtxSet) -> Result<Names, AllocError>
+    ensures { IfOk result (λ names. (pairs : List (List ℕ × List ℕ)) × AreOpenAmong branch.now seen.now pairs
+        × (names ≡ names_in_pairs branch.now pairs)) }
+{
+    let pairs = open_among(branch.catches(), seen)?;
+    names_in_pairs(branch, &pairs)
 }
 
 /// The names of the patches of a branch that are in one of some pairs.

@@ -6,7 +6,7 @@ ghost use Rattle.camp_branch.specs.Fields.{has_name, names_in};
 ghost use Rattle.camp_questions.specs.Answers.{TellsOrWants};
 ghost use Rattle.camp_questions.specs.Graphs.{Drawn, IsGraph};
 ghost use Rattle.camp_questions.specs.OpenConflicts.{AreOpenIn};
-ghost use Rattle.camp_questions.specs.Pictures.{IsPictured, drawn_about, hangs_on, kept_node, whole_picture, with_needing, with_needing_one, with_needs, with_needs_of};
+ghost use Rattle.camp_questions.specs.Pictures.{IsPictured, drawn_about, hangs_on, kept_node, part_with, whole_picture, with_needing, with_needing_one, with_needs, with_needs_of};
 
 use crate::finding::branch_with;
 use crate::graphs::graph_of;
@@ -93,6 +93,14 @@ fn drawn_about(alloc: Global, names: &[Name], whole: PatchGraph) -> Result<Patch
     if names.is_empty() {
         return Ok(whole);
     }
+    part_about(alloc, names, &whole)
+}
+
+/// The part of a graph with what patches need, and what needs them.
+fn part_about(alloc: Global, names: &[Name], whole: &PatchGraph) -> Result<PatchGraph, AllocError>
+    ensures { IfOk result (λ part. (pairs : List (List ℕ × List ℕ)) →
+        whole_picture part pairs ≡ part_with (hangs_on whole.now.patches names.now) (whole_picture whole.now pairs)) }
+{
     let kept = hanging_on(alloc, whole.patches(), names)?;
     let patches = kept_nodes(alloc, &kept, whole.patches())?;
     let conflicts = kept_pairs(&kept, whole.conflicts())?;

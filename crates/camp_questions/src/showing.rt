@@ -103,11 +103,17 @@ fn changes_of(alloc: Global, catches: &[Shared<Catch>]) -> Result<Vec<Primitive>
     Ok(changes)
 }
 
+/// The changes of an effect.
+pub(crate) fn changes_in(alloc: Global, effect: &[Named]) -> Result<Vec<Primitive>, AllocError>
+    ensures { IfOk result (λ changes. changes.items ≡ changes_in effect.now) }
+{
+    let mut changes = Vec::with_capacity(alloc, effect.len())?;
+    append_changes(&mut changes, effect)?;
+    Ok(changes)
+}
+
 /// Puts changes behind others, each without its label.
-pub(crate) fn append_changes(
-    changes: &mut Vec<Primitive>,
-    effect: &[Named],
-) -> Result<(), AllocError>
+fn append_changes(changes: &mut Vec<Primitive>, effect: &[Named]) -> Result<(), AllocError>
     ensures { OnOk result (changes.new.items ≡ changes.old.items ++ changes_in effect.now) }
 {
     for p in effect {

@@ -15,7 +15,7 @@ ghost use Rattle.camp_questions.specs.Sides.{AreSeen, ComesBehind, IsSide, IsSid
 use crate::Unanswered;
 use crate::finding::branch_with;
 use crate::passing::seen_before;
-use crate::showing::append_changes;
+use crate::showing::changes_in;
 use crate::telling::told;
 use camp_base::Name;
 use camp_catch::{Catch, Conflictor};
@@ -71,11 +71,17 @@ pub fn side(state: &State, branch: &Name, name: &Name) -> Result<Said, Unanswere
 fn said_in(branch: &Branch, name: &Name) -> Result<Said, AllocError>
     ensures { IfOk result (λ changes. (side : List AnyNamed) × (changes ≡ changes_in side) × IsSideIn branch.now name.now side) }
 {
-    let alloc = branch.catches().allocator();
-    let side = side_among(alloc, &labels_seen(branch)?, name)?;
-    let mut changes = Vec::with_capacity(alloc, side.items().len())?;
-    append_changes(&mut changes, side.items())?;
+    let side = side_in(branch, name)?;
+    let changes = changes_in(branch.catches().allocator(), side.items())?;
     Ok(Said { changes })
+}
+
+/// The side of a patch in a branch.
+fn side_in(branch: &Branch, name: &Name) -> Result<Seq, AllocError>
+    ensures { IfOk result (IsSideIn branch.now name.now) }
+{
+    let seen = labels_seen(branch)?;
+    side_among(branch.catches().allocator(), &seen, name)
 }
 
 /// The labels in conflict of a branch, as seen from its end: from the last catch to the first, with

@@ -78,16 +78,31 @@ impl Walk {
         requires { StandsWithin hunk.now (known_in self.old) }
         ensures { OnOk result (known_in self.new ≡ behind_hunk name.now key hunk.now (known_in self.old)) }
     {
-        let alloc = self.names.allocator();
         let from = hunk.line() as usize - 1;
         let to = from + hunk.old().len();
         let gone = self.names.copied(from, to)?;
-        let own = own_names(alloc, &gone, name, hunk)?;
-        let before = keep(&mut self.taken, key, gone)?;
-        let coming = names_coming(before, own, hunk.new().len()).to_vec()?;
+        let coming = names_behind(&mut self.taken, name, key, hunk, gone)?;
         self.names = self.names.spliced(from, to, &coming)?;
         Ok(())
     }
+}
+
+// The names of the lines that come with a hunk. Those of the lines that go are kept under its key.
+fn names_behind(
+    taken: &mut BTreeMap<Key, SharedList<Name>>,
+    name: &Name,
+    key: Key,
+    hunk: &Hunk,
+    gone: SharedList<Name>,
+) -> Result<Vec<Name>, AllocError>
+    requires { length gone ≡ length hunk.now.old }
+    ensures coming { IfOk result (λ coming.
+        coming.items ≡ names_coming (get (kept_in taken.old) key) (own_names gone name.now hunk.now) (length hunk.now.new)) }
+    ensures kept { OnOk result (kept_in taken.new ≡ insert (kept_in taken.old) key gone) }
+{
+    let own = own_names(&gone, name, hunk)?;
+    let before = keep(taken, key, gone)?;
+    names_coming(before, own, hunk.new().len()).to_vec()
 }
 
 // Keeps names under a key, and gives those that were kept there.
@@ -121,7 +136,6 @@ fn names_coming(
 // The names that a hunk itself gives to its new lines: those that are on both of its sides at their
 // beginnings or at their ends keep theirs, and all others have the name of the patch.
 fn own_names(
-    alloc: Global,
     gone: &SharedList<Name>,
     name: &Name,
     hunk: &Hunk,
@@ -131,6 +145,6 @@ fn own_names(
 {
     let front = common_front(hunk.old(), hunk.new());
     let end = common_end(&hunk.old()[front..], &hunk.new()[front..]);
-    let between = vec![in alloc; *name; hunk.new().len() - front - end]?;
+    let between = vec![in gone.allocator(); *name; hunk.new().len() - front - end]?;
     gone.spliced(front, gone.len() - end, &between)
 }

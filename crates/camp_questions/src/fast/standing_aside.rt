@@ -1,15 +1,17 @@
 //! One walk over the patches of a list: those that come before all that go stay, and the others go too.
-ghost use Rattle.std.specs.Prelude.{ℕ, List, IfOk, IsTrue};
+ghost use Rattle.std.specs.Prelude.{◌≡◌, ℕ, List, [], ◌∷◌, IfOk, IsTrue};
+ghost use Rattle.std.specs.Result.{MatchResult};
 ghost use Rattle.camp_branch.specs.Fields.{names_in};
-ghost use Rattle.camp_catch.specs.Arranging.{ComesBefore, DoNotCommute};
+ghost use Rattle.camp_catch.specs.Arranging.{ArrangesBehind, ComesBefore, DoNotCommute, SticksBehind};
 ghost use Rattle.camp_catch.specs.Commuting.{CommuteCatch};
+ghost use Rattle.camp_catch.specs.Making.{ComesTo};
 ghost use Rattle.camp_questions.specs.Inside.ByPatch.{AreApart, AreOfPatch, ArePatches, catches_in_order};
 ghost use Rattle.camp_questions.specs.Inside.Growing.{GrowsToGo};
 ghost use Rattle.camp_questions.specs.Inside.StandingAside.{AllStay, StandsAside, StickBehind};
 
 use crate::fast::patch_catches::{PatchCatches, append, shared};
 use camp_branch::{NameSet, set_of};
-use camp_catch::{Catch, Unmade, arrange};
+use camp_catch::{Arranged, Catch, Stuck, Unmade, arrange};
 use camp_prim::{commutes, stay};
 use camp_share::Shared;
 use std::alloc::{AllocError, Global};
@@ -25,16 +27,30 @@ pub(crate) fn held_in(
     requires { ArePatches patches.now }
     ensures { IfOk result (λ held. GrowsToGo (catches_in_order patches.now) (names_in names) (names_in held)) }
 {
-    let mut held = names;
     let mut going = Vec::new(alloc);
+    walk_over(alloc, patches, names, &mut going)
+}
+
+/// Walks over the patches, where none goes yet.
+fn walk_over(
+    alloc: Global,
+    patches: &[PatchCatches],
+    names: NameSet,
+    going: &mut Vec<Shared<Catch>>,
+) -> Result<NameSet, AllocError>
+    requires are { ArePatches patches.now }
+    requires none { going.old.items ≡ [] }
+    ensures { IfOk result (λ held. GrowsToGo (catches_in_order patches.now) (names_in names) (names_in held)) }
+{
+    let mut held = names;
     for patch in patches {
         if !held.contains_key(&patch.name) {
-            if stand_aside(alloc, &mut going, patch)? {
+            if stand_aside(alloc, going, patch)? {
                 continue;
             }
             held = held.inserted(patch.name, ())?;
         }
-        append(&mut going, &patch.catches)?;
+        append(going, &patch.catches)?;
     }
     Ok(held)
 }
@@ -57,10 +73,7 @@ pub(crate) fn stand_aside(
     if is_stopped(going, &patch.catches) {
         return Ok(false);
     }
-    let mut list = shared(alloc, going)?;
-    append(&mut list, &patch.catches)?;
-    let named = set_of(alloc, slice::from_ref(&patch.name))?;
-    match arrange(alloc, &list, &named) {
+    match arranged_behind(alloc, going, patch) {
         Ok(arranged) => {
             *going = arranged.rest;
             Ok(true)
@@ -68,6 +81,23 @@ pub(crate) fn stand_aside(
         Err(Unmade::Blocked(_)) => Ok(false),
         Err(Unmade::Memory) => Err(AllocError),
     }
+}
+
+/// The catches of a patch, commuted left over those that go, and these.
+fn arranged_behind(
+    alloc: Global,
+    going: &[Shared<Catch>],
+    patch: &PatchCatches,
+) -> Result<Arranged, Unmade<Stuck>>
+    requires { AreApart patch.now.name going.now }
+    ensures { ComesTo (λ answer. MatchResult answer
+        (λ arranged. ArrangesBehind (patch.now.name ∷ []) going.now patch.now.catches.items arranged.first.items arranged.rest.items)
+        (λ stuck. SticksBehind (patch.now.name ∷ []) going.now patch.now.catches.items stuck.patch stuck.on)) result }
+{
+    let mut list = shared(alloc, going)?;
+    append(&mut list, &patch.catches)?;
+    let named = set_of(alloc, slice::from_ref(&patch.name))?;
+    arrange(alloc, &list, &named)
 }
 
 /// Whether catches come before others, and all stay as they are. Where it says no, they may still come.

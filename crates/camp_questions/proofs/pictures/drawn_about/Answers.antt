@@ -1,5 +1,5 @@
-use Rattle.camp_questions.proofs.Words.{Bool, List, ℕ, ◌≡◌, ◌&&◌, ◌∙◌, ap, filter, map, has_listed, map_of, nat_cmp, slice_cmp, Node, has_name, hangs_on, kept_node, whole_picture}
-use Rattle.camp_questions.proofs.Picturing.{all_drawn, part_drawn, part_made}
+use Rattle.camp_questions.proofs.Words.{IfOk-weaker, whole_picture}
+use Rattle.camp_questions.proofs.Picturing.{all_drawn, part_drawn}
 use Rattle.camp_questions.proofs.pictures.drawn_about.Goals as goal
 
 pub returns-then-is_empty : goal.returns-then-is_empty
@@ -7,12 +7,5 @@ returns-then-is_empty c pairs =
     all_drawn c.args.names.now (whole_picture c.args.whole pairs) c.is_empty.result c.is_empty.ensures c.if-is_empty.true
 
 pub returns : goal.returns
-returns c pairs =
-    let names : List (List ℕ) = c.args.names.now in
-    let nodes : List Node = c.args.whole.patches in
-    let others : List ℕ → Bool = has_name c.in_ok-kept.kept in
-    let same : (name : List ℕ) → others name ≡ hangs_on nodes names name = λ name. has_listed (map_of (slice_cmp nat_cmp) c.in_ok-kept.kept) name ∙ c.in_ok-kept.ensures name ∙ ap (λ l. hangs_on l names name) c.patches.ensures.value in
-    let left = c.in_ok-patches.ensures ∙ ap (λ l. map (kept_node others) (filter (λ (n : Node). others n.name) l)) c.patches-2.ensures.value in
-    let between = c.in_ok-conflicts.ensures ∙ ap (filter (λ pair. others pair.0 && others pair.1)) c.conflicts.ensures.value in
-    let made = part_made (hangs_on nodes names) others nodes c.in_ok-patches.patches.items c.args.whole.conflicts c.in_ok-conflicts.conflicts pairs same left between in
-    part_drawn names (whole_picture c.args.whole pairs) _ c.is_empty.result c.is_empty.ensures c.if-is_empty.false made
+returns c =
+    IfOk-weaker c.part_about.result _ _ (λ part made pairs. part_drawn c.args.names.now (whole_picture c.args.whole pairs) (whole_picture part pairs) c.is_empty.result c.is_empty.ensures c.if-is_empty.false (made pairs)) c.part_about.ensures

@@ -1,6 +1,6 @@
 use Rattle.camp_questions.proofs.Words.{take, names_in, catches_in_order}
 use Rattle.camp_questions.proofs.WalkedPatches.{IsGrown}
-use Rattle.camp_questions.proofs.fast.standing_aside.held_in.Given as goal
+use Rattle.camp_questions.proofs.fast.standing_aside.walk_over.Given as goal
 
 abbrev pub invariant-loop-patch : goal.invariant-loop-patch
 invariant-loop-patch l =
