@@ -1,4 +1,4 @@
-use Rattle.camp_share.proofs.Words.{◌≡◌, ◌++◌, take, sym, ap, subst, ◌∙◌, All, All-take, joined, IsPart}
+use Rattle.camp_share.proofs.Words.{◌++◌, take, sym, ap, subst, ◌∙◌, All, All-take, joined, IsPart}
 use Rattle.camp_share.proofs.changes.Change.before.Goals as goal
 
 pub invariant_of-result : goal.invariant_of-result

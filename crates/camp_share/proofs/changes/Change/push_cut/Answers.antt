@@ -1,4 +1,4 @@
-use Rattle.camp_share.proofs.Words.{◌≡◌, ◌<◌, ◌++◌, length, drop, Vec, ap, ◌∙◌, arith, IfOk-weaker, joined, offset}
+use Rattle.camp_share.proofs.Words.{◌++◌, drop, Vec, ap, ◌∙◌, arith, IfOk-weaker, joined, offset}
 use Rattle.camp_share.proofs.PartLemmas.{parts_fewer, place_within, behind_part, pushed_behind, length_grown}
 use Rattle.camp_share.proofs.changes.Change.push_cut.Goals as goal
 

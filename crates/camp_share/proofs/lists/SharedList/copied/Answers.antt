@@ -1,4 +1,4 @@
-use Rattle.camp_share.proofs.Words.{[], ◌++◌, take, drop, ap, ◌∙◌, append-nil, slice_range}
+use Rattle.camp_share.proofs.Words.{◌++◌, ap, ◌∙◌, append-nil, slice_range}
 use Rattle.camp_share.proofs.PartLemmas.{joined_at_end}
 use Rattle.camp_share.proofs.lists.SharedList.copied.Goals as goal
 
