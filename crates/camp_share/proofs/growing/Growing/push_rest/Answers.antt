@@ -18,3 +18,9 @@ loop-part-preserved g c = grind (arith, common_steps)
 
 pub returns-else-left-eq0 : goal.returns-else-left-eq0
 returns-else-left-eq0 g c = grind (arith, common_steps)
+
+pub push_behind-requires-clause-part : goal.push_behind-requires-clause-part
+push_behind-requires-clause-part g c = grind (arith, common_steps)
+
+pub returns-in_ok-settle : goal.returns-in_ok-settle
+returns-in_ok-settle g c = grind (arith, common_steps)
