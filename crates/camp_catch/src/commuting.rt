@@ -144,7 +144,7 @@ fn conflict_dissolves(
     Ok(Some((Catch::Plain(second), Catch::Conflictor(first))))
 }
 
-/// Whether a conflictor is that of two patches: `([a^], {:a}, :q)`.
+/// Whether a conflictor is `([a^], {:a}, :q)`, with `q` the patch of its identity.
 fn is_against(alloc: Global, a: &Named, k: &Conflictor) -> Result<bool, AllocError>
     ensures { IfOk result (λ told. IsTrue told ↔ (k.now ≡ against a.now k.now.identity.patch)) }
 {

@@ -99,7 +99,7 @@ fn one_of_several_conflicts(
     Ok(Some((Catch::Conflictor(moved), Catch::Conflictor(own))))
 }
 
-/// `(common s', Z', l')` and `rr'`
+/// `(common s', Z', l')` and `rr'`, where `rr s <-> s' rr'`. None where these do not commute.
 fn leaves_the_others(
     alloc: Global,
     j: &Conflictor,

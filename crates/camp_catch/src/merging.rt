@@ -64,7 +64,7 @@ fn clean(a: &Named, b: &Named) -> Result<Option<(Catch, Catch)>, AllocError>
     Ok(Some((Catch::Plain(b), Catch::Plain(back.invert()))))
 }
 
-/// `[a^] [b] <-> [b'] [back]`
+/// `a^ b <-> b' back`. None where they do not commute.
 fn before_inverse(a: &Named, b: &Named) -> Result<Option<(Named, Named)>, AllocError>
     ensures { IfOk result (FindsPair (Commute (inverse_of a.now) b.now)) }
 {

@@ -103,7 +103,8 @@ fn past_patch(
     Ok(Some(before))
 }
 
-/// The elements of a list are added, from the last to the first. Where none may change the context, it is not copied.
+/// The elements of a list are added, from the last to the first. Where each surely leaves the contexted patch as it is,
+/// nothing is copied.
 fn add_items(r: &[Named], x: Contexted) -> Result<Contexted, AllocError>
     ensures { IfOk result (AddsAll r.now x) }
 {
@@ -114,8 +115,7 @@ fn add_items(r: &[Named], x: Contexted) -> Result<Contexted, AllocError>
     add_to_copy(&r[..count], &x)
 }
 
-/// The same where the first to be added may change the context, which is copied once, and then changed in its place in
-/// memory.
+/// The same with a copy of the context, which is made once, and then changed in its place in memory.
 fn add_to_copy(r: &[Named], x: &Contexted) -> Result<Contexted, AllocError>
     ensures { IfOk result (AddsAll r.now x.now) }
 {

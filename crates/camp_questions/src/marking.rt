@@ -149,7 +149,7 @@ fn versions_at(
     versions_of(&seen, tree, path, lines, names.as_slice())
 }
 
-/// The names of the patches of a branch that are in an open conflict.
+/// The names of the patches of a branch that are in an open conflict, as these labels are seen.
 fn names_in_open(branch: &Branch, seen: &CtxSet) -> Result<Names, AllocError>
     ensures { IfOk result (λ names. (pairs : List (List ℕ × List ℕ)) × AreOpenAmong branch.now seen.now pairs
         × (names ≡ names_in_pairs branch.now pairs)) }

@@ -96,7 +96,7 @@ fn drawn_about(alloc: Global, names: &[Name], whole: PatchGraph) -> Result<Patch
     part_about(alloc, names, &whole)
 }
 
-/// The part of a graph with what patches need, and what needs them.
+/// The part of a graph with these patches, what they need, and what needs them.
 fn part_about(alloc: Global, names: &[Name], whole: &PatchGraph) -> Result<PatchGraph, AllocError>
     ensures { IfOk result (λ part. (pairs : List (List ℕ × List ℕ)) →
         whole_picture part pairs ≡ part_with (hangs_on whole.now.patches names.now) (whole_picture whole.now pairs)) }

@@ -103,7 +103,7 @@ fn changes_of(alloc: Global, catches: &[Shared<Catch>]) -> Result<Vec<Primitive>
     Ok(changes)
 }
 
-/// The changes of an effect.
+/// The changes of a list, without their labels.
 pub(crate) fn changes_in(alloc: Global, effect: &[Named]) -> Result<Vec<Primitive>, AllocError>
     ensures { IfOk result (λ changes. changes.items ≡ changes_in effect.now) }
 {

@@ -99,8 +99,8 @@ impl<T: Share + Drop> Change<T> {
         Ok(new)
     }
 
-    // Adds the elements of a part from a place on, and those of the part behind it if they fit. Tells where
-    // the parts behind begin.
+    // Adds the elements of a part from a place on, if there is such a place, and then those of the next part if
+    // they fit. Tells where the parts begin that are left.
     fn push_cut(
         &mut self,
         parts: &Growing<Part<T>>,

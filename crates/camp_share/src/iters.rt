@@ -59,7 +59,7 @@ impl<'a, T> Iterator for Steps<'a, T> {
         }
         let closed = self.closed;
         if !closed.is_empty() {
-            let part = &closed[0];
+            let part: &[T] = &closed[0];
             self.closed = &closed[1..];
             self.part = &part[1..];
             return Some(&part[0]);

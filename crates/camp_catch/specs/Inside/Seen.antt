@@ -17,17 +17,18 @@ pub record TakesBack (a : Named) (k : Conflictor) (l : ContextedPatch) (made : C
   pub effect : Norm (inverse_of a ∷ k.effect) s'
   pub is : made ≡ with_effect s' (joined_by l k)
 
--- (s, X' and l, i'), where r added to X and i gives X' and i'
-pub record JoinedBehind (r s : List Named) (k : Conflictor) (l : ContextedPatch) (made : Conflictor) : Type 0 where
+-- (s, X' and l, i'), where t added to X and i gives X' and i'
+pub record JoinedBehind (t s : List Named) (k : Conflictor) (l : ContextedPatch) (made : Conflictor) : Type 0 where
   pub moved : Conflictor
-  pub becomes : Becomes (λ t. t ≡ s) (AddsAll r) (AddsAll r) k moved
+  pub becomes : Becomes (λ effect. effect ≡ s) (AddsAll t) (AddsAll t) k moved
   pub is : made ≡ joined_by l moved
 
--- (r, X and i', l), where s added to i gives i'
+-- (s, Y and i', l), where t added to i gives i'
 abbrev pub JoinedBySeen : List Named → ContextedPatch → Conflictor → Conflictor → Type 0
-JoinedBySeen s i k made = (i' : ContextedPatch) × AddsAll s i i' × (made ≡ joined_by i' k)
+JoinedBySeen t i k made = (i' : ContextedPatch) × AddsAll t i i' × (made ≡ joined_by i' k)
 
--- (common s', Z', l') and rr', of (common rr, X, i) (s, Y, l), where Z is Y without the first
+-- (common rr, X, i) (s, Y, l): (common s', Z', l') and rr', where rr s <-> s' rr', Z is Y without the patch of the first
+-- conflictor, and rr' added to Z and l gives Z' and l'
 pub record LeavesTheOthers (j k moved : Conflictor) (rr' : List Named) : Type 0 where
   pub effect : List Named
   pub effects : EffectsPass j.effect k.effect (remove k.conflicts (context_key j.identity)) effect rr'

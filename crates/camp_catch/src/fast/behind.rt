@@ -90,7 +90,7 @@ fn conflictor_behind(
     Ok(Some(Catch::Conflictor(joined)))
 }
 
-/// `(r, X and i', l)`, where `r^` added to `i` gives `i'`
+/// `(s, Y and i', l)`, where `s^` added to `i` gives `i'`
 fn joined_by_seen(k: Conflictor, i: &Contexted) -> Result<Conflictor, AllocError>
     ensures { IfOk result (JoinedBySeen (inverse_all k.effect) i.now k) }
 {

@@ -31,7 +31,7 @@ pub(crate) fn held_in(
     walk_over(alloc, patches, names, &mut going)
 }
 
-/// Walks over the patches, where none goes yet.
+/// These names, and those of all patches that go with them. Nothing is behind which a patch has to come at first.
 fn walk_over(
     alloc: Global,
     patches: &[PatchCatches],
@@ -83,7 +83,7 @@ pub(crate) fn stand_aside(
     }
 }
 
-/// The catches of a patch, commuted left over those that go, and these.
+/// The catches of a patch, commuted to before those that go, and those that go behind them. Blocked where they stick.
 fn arranged_behind(
     alloc: Global,
     going: &[Shared<Catch>],

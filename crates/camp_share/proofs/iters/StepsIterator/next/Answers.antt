@@ -1,9 +1,6 @@
 use Rattle.camp_share.proofs.Words.{arith, common_steps}
 use Rattle.camp_share.proofs.iters.StepsIterator.next.Goals as goal
 
-pub index-requires : goal.index-requires
-index-requires g c = grind (arith, common_steps)
-
 pub returns-then-not-is_empty-clause-steps : goal.returns-then-not-is_empty-clause-steps
 returns-then-not-is_empty-clause-steps g c = grind (arith, common_steps)
 
