@@ -116,12 +116,7 @@ fn leaves_the_others(
 }
 
 /// `(s, X' and l, i')`, where `r^` added to `X` and `i` gives `X'` and `i'`
-fn joined_behind(
-    r: &Seq,
-    s: Seq,
-    k: &Conflictor,
-    l: &Contexted,
-) -> Result<Conflictor, AllocError>
+fn joined_behind(r: &Seq, s: Seq, k: &Conflictor, l: &Contexted) -> Result<Conflictor, AllocError>
     ensures { IfOk result (JoinedBehind (inverse_all r.now) s k.now l.now) }
 {
     let moved = both_behind(r, s, k)?;
