@@ -56,7 +56,7 @@ enum {
  * CAMP_NOT_OPEN: it is open already, and stays as it is. CAMP_MEMORY: it stays closed. */
 int32_t camp_open(camp *repository);
 
-/* Asks the commands of a text, which is a conversation of its own: docs/shell.md has the commands and their answers. The
+/* Asks the commands of a text, which is a conversation of its own: docs/conversation.md has the commands and their answers. The
  * answer is that of each command, one behind another; a refusal or a fault is an answer as any other. A body that is not
  * ended has its fault; lines count from 1 in each text.
  * CAMP_MEMORY: the first commands were answered as far as the answer goes, and one more may have been done. Where you

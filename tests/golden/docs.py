@@ -1,0 +1,172 @@
+#!/usr/bin/env python3
+"""Runs the sessions of the documents and compares what comes with what the page shows.
+
+A session is a fenced block of one of two kinds, in README.md, docs/, examples/, clients/ and crates/*/README.md:
+
+```console   Each line `$ COMMAND` is a command for bash; the lines below it, up to the next one, are what it writes to
+             standard output and standard error. A command goes on over a `\\` at its end, and over a here-document. A line
+             that is just `...` stands for any lines. All blocks of a page are one session of bash, which starts at
+             the top of the repository; files that it makes land in a temporary folder.
+
+```camp      Commands of `camp_shell`; the lines that begin with `#` are its answers. (It skips such lines as comments, so
+             that a whole block can be pasted.) All blocks of a page are one conversation. An answer `ok NUMBER`
+             may be left out. A block "```camp new" starts another conversation.
+
+SHELL_CAMP and CAMP name the two programs; without them those of crates/*/out, or of ./play, are taken. A page whose
+session needs a program that is not there is skipped, and named. With arguments, runs only these pages.
+Prints what differs, and one line; the exit status is 0 where nothing does.
+"""
+
+import glob
+import os
+import re
+import subprocess
+import sys
+import tempfile
+
+TOP = os.path.abspath(os.path.join(os.path.dirname(__file__), "../.."))
+BLOCK = re.compile(r"^```(console|camp)( new)?\n(.*?)^```$", re.M | re.S)
+MARK = "== end of command "
+
+
+def program(variable, *places):
+    """The path of a program, or None."""
+    for path in [os.environ.get(variable, ""), *(f"{TOP}/{place}" for place in places)]:
+        if path and os.access(path, os.X_OK):
+            return os.path.abspath(path)
+    return None
+
+
+def commands_of(block):
+    """The commands of a console block, each with the lines that it writes."""
+    found, lines = [], block.splitlines()
+    while lines:
+        line = lines.pop(0)
+        if not line.startswith("$ "):
+            if not found:
+                raise ValueError(f"output before the first command: {line}")
+            found[-1][1].append(line)
+            continue
+        command = line[2:]
+        while command.endswith("\\") and lines:
+            command += "\n" + lines.pop(0)
+        word = re.search(r"<<-?'?(\w+)'?", command)
+        while word and lines:
+            command += "\n" + lines[0]
+            if lines.pop(0) == word[1]:
+                break
+        found.append((command, []))
+    return found
+
+
+def is_match(wanted, lines):
+    """Whether lines are those that are wanted, where `...` stands for any lines."""
+    if not wanted:
+        return not lines
+    if wanted[0] == "...":
+        return any(is_match(wanted[1:], lines[at:]) for at in range(len(lines) + 1))
+    return bool(lines) and lines[0] == wanted[0] and is_match(wanted[1:], lines[1:])
+
+
+def run_console(commands, path):
+    """Runs commands in one bash, in a folder with links to the top of the repository. Yields the lines of each."""
+    with tempfile.TemporaryDirectory(prefix="docs-") as folder:
+        for entry in os.listdir(TOP):
+            if entry != ".git":
+                os.symlink(f"{TOP}/{entry}", f"{folder}/{entry}")
+        script = "".join(f"{command}\necho '{MARK}{at}'\n" for at, (command, _) in enumerate(commands))
+        done = subprocess.run(["bash"], input=script, text=True, errors="replace", stdout=subprocess.PIPE,
+                              stderr=subprocess.STDOUT, cwd=folder, env={**os.environ, "PATH": path}, timeout=300)
+    at, lines = 0, []
+    for line in done.stdout.splitlines():
+        if line == f"{MARK}{at}":
+            yield lines
+            at, lines = at + 1, []
+        else:
+            lines.append(line)
+
+
+def check_console(page, blocks, path):
+    """How many commands of a page write something else than it shows."""
+    commands = [it for block in blocks for it in commands_of(block)]
+    wrong = 0
+    results = list(run_console(commands, path))
+    for (command, wanted), lines in zip(commands, results):
+        if not is_match(wanted, lines):
+            wrong += 1
+            report(page, command, wanted, lines)
+    if len(results) != len(commands):
+        wrong += 1
+        print(f"docs: {page}: the session ended after {len(results)} of {len(commands)} commands")
+    return wrong
+
+
+def check_conversation(page, text, shell):
+    """1 where a conversation of a page has other answers than it shows, else 0."""
+    lines = [it for it in text.splitlines() if it]
+    commands = [it for it in lines if not it.startswith("#")]
+    wanted = [it[2:] for it in lines if it.startswith("#")]
+    done = subprocess.run([shell], input="".join(f"{it}\n" for it in commands), text=True, errors="replace",
+                          stdout=subprocess.PIPE, stderr=subprocess.STDOUT, timeout=300)
+    left = list(wanted)
+    for line in done.stdout.splitlines():
+        if left and left[0] == line:
+            left.pop(0)
+        elif not re.fullmatch(r"ok \d+", line):
+            report(page, f"answer {len(wanted) - len(left) + 1}", left[:3], [line])
+            return 1
+    if left:
+        report(page, "end of the conversation", left[:3], [])
+    return 1 if left else 0
+
+
+def report(page, what, wanted, lines):
+    print(f"docs: {page}: {what}")
+    for sign, side in (("-", wanted), ("+", lines)):
+        for line in side[:12]:
+            print(f"    {sign} {line}")
+
+
+def check_page(page, shell, camp, path):
+    """How many sessions and commands of a page there are, how many differ, and whether some were skipped."""
+    with open(f"{TOP}/{page}", encoding="utf-8") as it:
+        found = BLOCK.findall(it.read())
+    consoles = [text for kind, _, text in found if kind == "console"]
+    conversations = []
+    for _, new, text in (it for it in found if it[0] == "camp"):
+        if new or not conversations:
+            conversations.append("")
+        conversations[-1] += text
+    needs_shell = conversations or any("camp_shell" in it for it in consoles)
+    needs_camp = any(re.search(r"\bcamp( |$)(?!store)", it, re.M) and "$ camp " in it for it in consoles)
+    if (needs_shell and not shell) or (needs_camp and not camp):
+        return len(found), 0, 1
+    wrong = check_console(page, consoles, path) if consoles else 0
+    wrong += sum(check_conversation(page, it, shell) for it in conversations)
+    return len(found), wrong, 0
+
+
+def main(pages):
+    shell = program("SHELL_CAMP", "crates/camp_shell/out/camp_shell", "out/play/camp_shell")
+    camp = program("CAMP", "crates/camp/out/camp", "out/play/camp")
+    os.chdir(TOP)
+    pages = pages or sorted(["README.md", *glob.glob("docs/*.md"), "examples/README.md",
+                             *glob.glob("clients/**/README.md", recursive=True), *glob.glob("crates/*/README.md")])
+    blocks = wrong = 0
+    skipped = []
+    with tempfile.TemporaryDirectory(prefix="docs-bin-") as folder:
+        for name, target in (("camp_shell", shell), ("camp", camp)):
+            if target:
+                os.symlink(target, f"{folder}/{name}")
+        for page in pages:
+            count, bad, left = check_page(page, shell, camp, f"{folder}:{os.environ['PATH']}")
+            blocks, wrong = blocks + count, wrong + bad
+            skipped += [page] * left
+    for page in skipped:
+        print(f"docs: {page}: skipped, since a program of its session is not built")
+    print(f"docs: {blocks} blocks, {wrong} that differ, {len(skipped)} pages skipped")
+    return 1 if wrong or not blocks else 0
+
+
+if __name__ == "__main__":
+    sys.exit(main(sys.argv[1:]))
