@@ -1,5 +1,6 @@
 #!/usr/bin/env python3
-"""Runs the sessions of the documents and compares what comes with what the page shows.
+"""Runs the sessions of the documents and compares what comes with what the page shows. Also checks that each link of a page
+leads to a file, and to a heading of it, and that the pictures are what their scripts draw (docs/pictures/*.py --check).
 
 A session is a fenced block of one of two kinds, in README.md, docs/, examples/, clients/ and crates/*/README.md:
 
@@ -26,6 +27,7 @@ import tempfile
 
 TOP = os.path.abspath(os.path.join(os.path.dirname(__file__), "../.."))
 BLOCK = re.compile(r"^```(console|camp)( new)?\n(.*?)^```$", re.M | re.S)
+ANY_BLOCK = re.compile(r"^```.*?^```$", re.M | re.S)
 MARK = "== end of command "
 
 
@@ -127,6 +129,41 @@ def report(page, what, wanted, lines):
             print(f"    {sign} {line}")
 
 
+def prose(page):
+    """The text of a page without its blocks."""
+    with open(page, encoding="utf-8") as it:
+        return ANY_BLOCK.sub("", it.read())
+
+
+def anchors(page):
+    """The anchors of a page's headings."""
+    found = set()
+    for heading in re.findall(r"^#+ (.*)$", prose(page), re.M):
+        text = re.sub(r"\[([^]]*)\]\([^)]*\)", r"\1", heading).lower().strip()
+        found.add(re.sub(r"[^\w\- ]", "", text).replace(" ", "-"))
+    return found
+
+
+def check_links(page):
+    """How many links of a page lead nowhere."""
+    wrong = 0
+    for link in re.findall(r"\]\(([^)\s]+)\)", prose(page)):
+        path, _, anchor = link.partition("#")
+        target = os.path.normpath(os.path.join(os.path.dirname(page), path)) if path else page
+        if re.match(r"https?:", link):
+            continue
+        if not os.path.exists(target) or (anchor and target.endswith(".md") and anchor not in anchors(target)):
+            wrong += 1
+            print(f"docs: {page}: the link {link} leads nowhere")
+    return wrong
+
+
+def check_pictures():
+    """How many pictures are not what their scripts draw."""
+    scripts = sorted(glob.glob("docs/pictures/*.py"))
+    return sum(subprocess.run([sys.executable, it, "--check"]).returncode != 0 for it in scripts)
+
+
 def check_page(page, shell, camp, path):
     """How many sessions and commands of a page there are, how many differ, and whether some were skipped."""
     with open(f"{TOP}/{page}", encoding="utf-8") as it:
@@ -150,9 +187,11 @@ def main(pages):
     shell = program("SHELL_CAMP", "crates/camp_shell/out/camp_shell", "out/play/camp_shell")
     camp = program("CAMP", "crates/camp/out/camp", "out/play/camp")
     os.chdir(TOP)
-    pages = pages or sorted(["README.md", *glob.glob("docs/*.md"), "examples/README.md",
+    all_pages = not pages
+    pages = pages or sorted([*glob.glob("*.md"), *glob.glob("docs/*.md"), "examples/README.md",
                              *glob.glob("clients/**/README.md", recursive=True), *glob.glob("crates/*/README.md")])
-    blocks = wrong = 0
+    blocks = 0
+    wrong = sum(check_links(it) for it in pages) + (check_pictures() if all_pages else 0)
     skipped = []
     with tempfile.TemporaryDirectory(prefix="docs-bin-") as folder:
         for name, target in (("camp_shell", shell), ("camp", camp)):
