@@ -1,8 +1,9 @@
 -- The front of a branch that stays as it is: what stands behind it is arranged alone.
-use Rattle.camp_branch.proofs.Words.{◌≡◌, ◌+◌, ◌++◌, ◌&&◌, ℕ, suc, arith, not, Ok, Err, List, [], ◌∷◌, take, drop, refl, sym, ◌∙◌, subst, contains_key, keys, Key, Arrange, ArrangeSticks, Catch, IsLawfulBranch, has_patch, is_among, name_of, front_of, DependsIn, ObliterateGives, Blocked, cond_both, take-append-drop}
+use Rattle.camp_branch.proofs.Words.{◌≡◌, ◌+◌, ◌++◌, ◌&&◌, ℕ, suc, ap, arith, true, not, cond, Ok, Err, List, map, AllByRecursion, [], ◌∷◌, take, drop, refl, sym, ◌∙◌, subst, contains_key, keys, Key, Arrange, ArrangeSticks, Catch, IsLawfulBranch, has_patch, is_among, name_of, front_before, front_of, DependsIn, ObliterateGives, Blocked, cond_both, take-append-drop}
 use Rattle.camp_branch.proofs.BranchFields.{Names}
 use Rattle.camp_branch.proofs.KeepLawful.{obliterates_keep_lawful}
-use Rattle.camp_branch.proofs.Names.{is_among_is}
+use Rattle.camp_branch.proofs.Names.{each_named, is_among_is}
+use Rattle.camp_branch.proofs.NameSets.{has_listed}
 use Rattle.camp_branch.proofs.NamesKept.{left_has, obliterate_depends, obliterated}
 use Rattle.camp_branch.proofs.AgreedFronts.{AllOf, arranged_front, sticks_front}
 
@@ -26,6 +27,18 @@ module _ (names : List (List ℕ)) where
   sticks_behind list patch on w =
       let n = front_of names list in
       subst (λ l. ArrangeSticks names l patch on) (take-append-drop n list) (sticks_front names (take n list) (drop n list) patch on (front_all list) w)
+
+-- each patch of a branch stays or goes, so the front ends before the first catch of one that goes
+module _ (own : List Catch) (gone : List (List ℕ)) (staying : Names) (stays : (n : List ℕ) → contains_key staying n ≡ (has_patch own n && not (is_among gone n))) where
+  stays_or_goes : (k : Catch) → has_patch own (name_of k) ≡ true → not (is_among gone (name_of k)) ≡ is_among (keys staying) (name_of k)
+  stays_or_goes k has = sym (sym (has_listed staying (name_of k)) ∙ stays (name_of k) ∙ ap (λ b. b && not (is_among gone (name_of k))) has)
+
+  front_in : (list : List Catch) → AllByRecursion (λ k. has_patch own (name_of k) ≡ true) list → front_before gone list ≡ front_of (keys staying) list
+  front_in [] all = refl
+  front_in (k ∷ list) all = λ i. cond (stays_or_goes k all.0 i) (1 + front_in list all.1 i) 0
+
+  pub front_is_before : front_before gone own ≡ front_of (keys staying) own
+  front_is_before = front_in own (each_named name_of (λ k. has_patch own (name_of k) ≡ true) own (λ k has. (is_among_is (map name_of own) (name_of k)).0 has))
 
 -- what stands behind a beginning that stays, and which names stay
 pub record StaysInFront (own : List Catch) (gone : List (List ℕ)) (staying : Names) (start : ℕ) (behind : List Catch) : Type 0 where

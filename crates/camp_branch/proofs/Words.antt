@@ -27,7 +27,7 @@ pub use Rattle.camp_prim.specs.declared.primitives.Primitive.{Primitive}
 pub use Rattle.camp_catch.proofs.MoveSteps.{names_decide, stands_at}
 pub use Rattle.camp_catch.specs.Arranging.{Align, AlignSticks, Arrange, ArrangeSticks, ArrangesBehind, ComesFirst, IsOf, SticksBehind}
 pub use Rattle.std.proofs.lemmas.List.Folds.{list_any-append}
-pub use Rattle.camp_branch.specs.Inside.Fronts.{front_of}
+pub use Rattle.camp_branch.specs.Inside.Fronts.{front_before, front_of}
 pub use Rattle.camp_branch.specs.Inside.Stages.{DependsIn, DivergesFrom, DivergesIn, DoesNotMerge}
 pub use Rattle.std.proofs.lemmas.Map.Text.{is_eq-slice_cmp}
 pub use Rattle.camp_catch.specs.Catches.{FitsAll, catch_key, effect_of}

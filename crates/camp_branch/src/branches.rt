@@ -202,7 +202,7 @@ impl Branch {
         ensures exact { ComesTo (ObliterateGives self.now (names_in names.now)) result }
     {
         let staying = name_sets::without(&self.names, names)?;
-        let start = name_sets::front(&self.catches, &staying);
+        let start = name_sets::front_before(&self.catches, names);
         let rest = behind(&self.catches, start)?;
         let arranged = wanted_next(self.catches.allocator(), &rest, &staying)?;
         Ok(self.with_end(start, &arranged.first, &arranged.rest, staying)?)

@@ -2,7 +2,7 @@
 ghost use Rattle.std.specs.Prelude.{◌≡◌, ◌&&◌, ◌||◌, ℕ, List, not, map, IfOk};
 ghost use Rattle.camp_branch.specs.Branches.{is_among, name_of};
 ghost use Rattle.camp_branch.specs.Fields.{has_name, names_in};
-ghost use Rattle.camp_branch.specs.Inside.Fronts.{front_of};
+ghost use Rattle.camp_branch.specs.Inside.Fronts.{front_before};
 
 use camp_base::Name;
 use camp_catch::Catch;
@@ -72,14 +72,14 @@ pub(crate) fn with_taken(names: &NameSet, taken: &[Shared<Catch>]) -> Result<Nam
     Ok(all)
 }
 
-/// Returns the length of the longest prefix of catches whose patches are all among the names.
-pub(crate) fn front(catches: &SharedList<Shared<Catch>>, names: &NameSet) -> usize
-    ensures { result ≡ front_of (names_in names.now) catches.now }
+/// Returns the length of the longest prefix of catches whose patches are none of the names.
+pub(crate) fn front_before(catches: &SharedList<Shared<Catch>>, names: &NameSet) -> usize
+    ensures { result ≡ front_before (names_in names.now) catches.now }
 {
     // Tells the prover that a length is a number of the machine.
     prove!(catches.len() <= usize::MAX);
     catches
         .iter()
-        .take_while(|catch| names.contains_key(catch.name()))
+        .take_while(|catch| !names.contains_key(catch.name()))
         .count()
 }

@@ -1,8 +1,8 @@
 use Rattle.std.proofs.lemmas.Result.{err_from_is_err_and}
 use Rattle.std.proofs.lemmas.List.Sums.{prefix_len-le-length}
 use Rattle.camp_catch.proofs.Making.{blocks_too}
-use Rattle.camp_branch.proofs.Words.{length, ap, drop, subst, ◌∙◌, arith, slice_cmp, nat_cmp, map_of, IsLawfulBranch, names_in, front_of, is_among, name_of}
-use Rattle.camp_branch.proofs.Fronts.{StaysInFront, front_depends, front_lawful, front_named, front_stays}
+use Rattle.camp_branch.proofs.Words.{◌≡◌, ◌&&◌, ℕ, List, not, length, ap, drop, subst, ◌∙◌, arith, slice_cmp, nat_cmp, contains_key, map_of, IsLawfulBranch, names_in, front_before, has_patch, is_among, name_of}
+use Rattle.camp_branch.proofs.Fronts.{StaysInFront, front_depends, front_is_before, front_lawful, front_named, front_stays}
 use Rattle.camp_branch.proofs.NamesKept.{stays_by}
 use Rattle.camp_branch.proofs.NewEnds.{end_arranged}
 use Rattle.camp_branch.proofs.branches.Branch.without.Goals as goal
@@ -10,21 +10,25 @@ use Rattle.camp_branch.proofs.branches.Branch.without.Goals.{After-deref}
 
 pub behind-requires : goal.behind-requires
 behind-requires c =
-    let within = prefix_len-le-length (λ k. is_among (names_in c.in_ok-staying.staying) (name_of k)) c.self.inside.catches in
-    omega (c.front-start.ensures, within, arith)
+    let within = prefix_len-le-length (λ k. not (is_among (names_in c.args.names.now) (name_of k))) c.self.inside.catches in
+    omega (c.front_before-start.ensures, within, arith)
 
 pub with_end-requires-clause-within : goal.with_end-requires-clause-within
 with_end-requires-clause-within c =
-    let within = prefix_len-le-length (λ k. is_among (names_in c.in_ok-staying.staying) (name_of k)) c.self.inside.catches in
+    let within = prefix_len-le-length (λ k. not (is_among (names_in c.args.names.now) (name_of k))) c.self.inside.catches in
     let long = ap length c.self.view_is in
-    omega (c.front-start.ensures, long, within, arith)
+    omega (c.front_before-start.ensures, long, within, arith)
+
+-- a patch stays where the branch has it and it is none of those that go
+stays : (c : After-deref) (n : List ℕ) → contains_key (map_of (slice_cmp nat_cmp) c.in_ok-staying.staying) n ≡ (has_patch c.args.self.now n && not (is_among (names_in c.args.names.now) n))
+stays c = stays_by (map_of (slice_cmp nat_cmp) c.self.inside.names) _ c.self.inside.catches c.args.self.now (names_in c.args.names.now) c.self.invariant.named c.self.view_is c.in_ok-staying.ensures
 
 -- what stands behind the front
-front : (c : After-deref) → StaysInFront c.args.self.now (names_in c.args.names.now) (map_of (slice_cmp nat_cmp) c.in_ok-staying.staying) c.front-start.result c.deref.result.now
+front : (c : After-deref) → StaysInFront c.args.self.now (names_in c.args.names.now) (map_of (slice_cmp nat_cmp) c.in_ok-staying.staying) c.front_before-start.result c.deref.result.now
 front c = record {
-  stays = stays_by (map_of (slice_cmp nat_cmp) c.self.inside.names) _ c.self.inside.catches c.args.self.now (names_in c.args.names.now) c.self.invariant.named c.self.view_is c.in_ok-staying.ensures;
-  at = c.front-start.ensures ∙ ap (front_of (names_in c.in_ok-staying.staying)) c.self.view_is;
-  is = c.deref.ensures.value ∙ c.in_ok-rest.ensures ∙ ap (drop c.front-start.result) c.self.view_is;
+  stays = stays c;
+  at = c.front_before-start.ensures ∙ ap (front_before (names_in c.args.names.now)) c.self.view_is ∙ front_is_before c.args.self.now (names_in c.args.names.now) (map_of (slice_cmp nat_cmp) c.in_ok-staying.staying) (stays c);
+  is = c.deref.ensures.value ∙ c.in_ok-rest.ensures ∙ ap (drop c.front_before-start.result) c.self.view_is;
 }
 
 pub with_end-requires-clause-lawful : goal.with_end-requires-clause-lawful
@@ -57,4 +61,4 @@ pub with_end-requires-clause-reordered : goal.with_end-requires-clause-reordered
 with_end-requires-clause-reordered c tree leads =
     let stays = front (goal.at.with_end-requires-clause-reordered c).After-deref in
     let arranged = c.in_ok-arranged.ensures.exact in
-    rw (c.deref-2.ensures.value, c.deref-3.ensures.value) (end_arranged (names_in c.in_ok-staying.staying) c.args.self.now c.deref.result.now c.in_ok-arranged.arranged.first.items c.in_ok-arranged.arranged.rest.items c.front-start.result tree stays.is arranged leads)
+    rw (c.deref-2.ensures.value, c.deref-3.ensures.value) (end_arranged (names_in c.in_ok-staying.staying) c.args.self.now c.deref.result.now c.in_ok-arranged.arranged.first.items c.in_ok-arranged.arranged.rest.items c.front_before-start.result tree stays.is arranged leads)
