@@ -137,7 +137,7 @@ def tables(name):
 
 def scripts(name):
     """The scripts of the file `faults` or `answers` of .ci/cases, as bytes."""
-    with open(f"{TOP}/.ci/cases/{name}", encoding="utf-8") as it:
+    with open(f"{TOP}/tests/data/{name}", encoding="utf-8") as it:
         text = it.read()
     if name == "faults":
         found = [line.split("\t", 2)[2] for line in text.splitlines() if line[:1].isdigit()]

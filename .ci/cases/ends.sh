@@ -28,7 +28,7 @@ ends 'a full device for the help text' 'cannot write output'
 "$camp" --tries 0 <&- >"$folder/out" 2>"$folder/err"
 echo $? >"$folder/status"
 want 2 ''
-printf '%b' "$(sed -n 's/^--tries 0\t//p' $cases/refused_options)" >"$folder/wanted.err"
+printf '%b' "$(sed -n 's/^--tries 0\t//p' tests/data/refused_options)" >"$folder/wanted.err"
 expect 'ends: no tries, and a closed input'
 "$camp" <examples/fault.camp >/dev/full 2>"$folder/err"
 echo $? >"$folder/status"

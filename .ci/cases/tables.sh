@@ -9,7 +9,7 @@ while IFS=$'\t' read -r line words script; do
         run "$folder/script" "$flags"
         expect "fault: $script $flags"
     done
-done <$cases/faults
+done <tests/data/faults
 
 # Each front of the first example.
 while IFS=$'\t' read -r first last told; do
@@ -28,7 +28,7 @@ while IFS=$'\t' read -r first last told; do
             expect "front: $bytes bytes $flags"
         done
     done
-done <$cases/fronts
+done <tests/data/prefixes
 
 # The scripts that are answered.
 tell() {
@@ -57,7 +57,7 @@ while IFS= read -r line; do
         --) part=$folder/wanted.out ;;
         *) if [ -n "$name" ]; then printf '%b\n' "$line" >>"$part"; fi ;;
     esac
-done <$cases/answers
+done <tests/data/answers
 tell
 
 # Command lines that are refused: nothing is read or written, whatever the script.
@@ -71,7 +71,7 @@ refused() {
 while IFS=$'\t' read -r flags told; do
     case $flags in '' | '#'*) continue ;; esac
     refused
-done <$cases/refused_options
+done <tests/data/refused_options
 
 # Command lines that are taken.
 while IFS= read -r flags; do
@@ -83,21 +83,21 @@ while IFS= read -r flags; do
     esac
     run examples/first.camp "$flags"
     expect "options: $flags"
-done <$cases/options
+done <tests/data/accepted_options
 
 # The help text is all that is written, and the script is not read.
 for flags in --help -h '--serial --help' '--help extra'; do
     run examples/fault.camp "$flags"
     want 0 ''
-    cp $cases/help "$folder/wanted.out"
+    cp tests/data/help "$folder/wanted.out"
     expect "options: $flags"
 done
 
 # The example of the help text is run as it stands there.
 for flags in '' --serial; do
-    awk '/^is answered by$/ { exit } is_example { print } /^The script$/ { is_example = 1 }' $cases/help >"$folder/script"
+    awk '/^is answered by$/ { exit } is_example { print } /^The script$/ { is_example = 1 }' tests/data/help >"$folder/script"
     want 0 ''
-    awk '/^Commands, / { exit } is_answer && NF { print } /^is answered by$/ { is_answer = 1 }' $cases/help >"$folder/wanted.out"
+    awk '/^Commands, / { exit } is_answer && NF { print } /^is answered by$/ { is_answer = 1 }' tests/data/help >"$folder/wanted.out"
     run "$folder/script" "$flags"
     expect "options: the example of the help text $flags"
 done

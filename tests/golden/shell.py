@@ -1,0 +1,272 @@
+"""camp_shell's conversations are answered byte by byte: examples, short ones, loaded files, and lines at their limits.
+
+Words: examples, conversations, loads, lines name parts; none: all, and also a peer that waits for each answer, and many questions.
+"""
+
+import os
+import re
+import tempfile
+
+from tests.harness import golden, programs
+from tests.harness.conversation import ask
+from tests.harness.paths import DATA, EXAMPLES, TOP, read, read_text
+
+SECONDS, GATE = 10, "after"
+LONGEST = 1_048_576
+
+
+class Shell:
+    """The program, and the report of this test."""
+
+    def __init__(self, report):
+        self.report, self.program = report, programs.path("camp_shell")
+
+    def answer(self, commands):
+        """What a conversation is answered whose commands are sent at once; it has to end well."""
+        done = programs.run([self.program], commands)
+        self.report.expect(f"status and standard error of {commands[:60]!r}", (done.returncode, done.stderr), (0, b""))
+        return done.stdout
+
+    def expect(self, what, commands, wanted):
+        self.report.expect(what, self.answer(commands), wanted)
+
+
+def run(report, words):
+    shell = Shell(report)
+    parts = {"examples": examples, "conversations": conversations, "loads": loads, "lines": lines, "peers": peers}
+    for name in words or parts:
+        parts[name](shell)
+
+
+def examples(shell):
+    """The conversations of examples/, whole, byte by byte, and the last one up to each of its bytes."""
+    for name in ("questions", "conflicts"):
+        page(shell, name, *example(shell, f"{name}.talk"))
+    prefixes(shell, example(shell, "shell.talk")[0][:700])
+
+
+def example(shell, name):
+    commands, answers = read(f"{EXAMPLES}/{name}"), read(f"{EXAMPLES}/{name}.stdout")
+    shell.expect(name, commands, answers)
+    peer = programs.start([shell.program])
+    for at in range(len(commands)):
+        programs.send(peer, commands[at : at + 1])
+    shell.report.expect(f"{name}, byte by byte", peer.communicate(timeout=programs.TIMEOUT)[0], answers)
+    shell.report.count("examples")
+    return commands, answers
+
+
+def page(shell, name, commands, answers):
+    """A page of docs/ has the commands of its example after four blanks, and after eight the answers, but for the first ones,
+    which are only `ok`."""
+    lines = read(f"{TOP}/docs/{name}.md").splitlines(keepends=True)
+    shell.report.expect(f"the commands of docs/{name}.md", b"".join(it[4:] for it in lines if re.match(rb"    \S", it)), commands)
+    shown = b"".join(it[8:] for it in lines if it.startswith(b"        "))
+    if not (answers.endswith(shown) and re.fullmatch(rb"(ok \d+\n)*", answers[: len(answers) - len(shown)])):
+        shell.report.fail(f"the answers of docs/{name}.md are not those of its example")
+
+
+def prefixes(shell, commands):
+    """Each prefix of a conversation: what whole commands are answered, and then what is left of one."""
+    last = b""
+    for at in range(len(commands) + 1):
+        found = shell.answer(commands[:at])
+        if at and commands[at - 1 : at] == b"\n":
+            if not (found.startswith(last) or b"not ended" in last):
+                shell.report.fail(f"the prefix of {at} bytes: {found!r} does not continue {last!r}")
+            last = found
+        shell.report.count("prefixes")
+
+
+def conversations(shell):
+    """The short conversations of tests/data/conversations, and sides at the limit of a patch."""
+    for title, _, commands, answers in golden.cases("conversations"):
+        shell.expect(title, commands, answers)
+        shell.report.count("conversations")
+    for count in (64, 65):
+        pasted_side(shell, count)
+
+
+def pasted_side(shell, count):
+    """A side of as many changes as a patch may have is recorded as it is printed, and one of one more is not."""
+    line = lambda at: b"two" if at == 0 else b"two %d" % at
+    changes = [b"edit f 1\n-%s\n+%s\nend\n" % (line(at), line(at + 1)) for at in range(count)]
+    history = b"record main a add f\nrecord main b edit f 1\n+two\nend\nbranch x main\nrecord main q edit f 1\n-two\nend\n"
+    history += b"".join(b"record x p%d %s" % (at + 1, change) for at, change in enumerate(changes)) + b"pull x main\n"
+    found = shell.answer(history + b"side main p%d\n" % count)
+    shell.report.expect(f"a side of {count} changes", found[found.index(b"side") :], b"side %d\n%s" % (4 * count, b"".join(changes)))
+    found = shell.answer(history + b"record main fix group\n" + b"".join(changes) + b"done\nopen main\n")
+    last = found[found.index(b"ok %d\n" % (count + 5)) :].split(b"\n")
+    if count == 64:
+        shell.report.expect("64 changes", last, [b"ok 69", b"ok 70", b"open 0", b""])
+    else:
+        shell.report.expect("65 changes", (last[1].split(b" ", 2)[::2], last[-2]), ([b"fault", b"bad group"], b"p9 q"))
+    shell.report.count("pasted sides")
+
+
+def loads(shell):
+    """The cases of tests/data/loads: files, a command line, and what it writes. The file's head tells their form."""
+    for block in re.split(r"\n\n+", read_text(f"{DATA}/loads").strip("\n")):
+        lines = [line for line in block.split("\n") if not line.startswith("#")]
+        if any(line.startswith("run") for line in lines):
+            with tempfile.TemporaryDirectory(prefix="loads-") as folder:
+                load(shell, lines, folder)
+            shell.report.count("loads")
+
+
+def load(shell, lines, folder):
+    """Makes the files of a case, runs it and compares."""
+    after = lambda sign: "".join(it[1:] + "\n" for it in lines if it.startswith(sign)).replace("\\c\n", "").encode()
+    words, status, file, is_open = [], 0, None, False
+    for line in lines:
+        first, *rest = line.split() or [""]
+        if line.startswith("|"):
+            with open(file, "a", encoding="utf-8") as made:
+                made.write(("\n" if is_open and made.tell() else "") + line[1:] + ("" if is_open else "\n"))
+        elif first == "file":
+            file, is_open = f"{folder}/{rest[0]}", line.endswith(" open")
+            open(file, "w", encoding="utf-8").close()
+        elif first == "folder":
+            os.mkdir(f"{folder}/{rest[0]}")
+        elif first == "run":
+            words = rest
+        elif first == "status":
+            status = int(rest[0])
+    done = programs.run([shell.program, *words], after("<"), cwd=folder)
+    shell.report.expect_run(" ".join(words) or "no word", done, after(">"), after("!"), status)
+
+
+def lines(shell):
+    long_lines(shell)
+    endless_line(shell)
+    limits(shell)
+    long_causes(shell)
+
+
+def long_lines(shell):
+    """Lines of the most bytes that one may have, and of more: what follows them is answered as ever."""
+    names = b"pull main x" + b" a" * ((LONGEST - 11) // 2) + b" "
+    edit, group = b"record main b edit f 1\n", b"record main b group\nadd f\n"
+    unknown = b"fault 1 unknown command\n"
+    cases = [
+        (names[:LONGEST], b"refused 4 x\n"),
+        (names[:LONGEST] + b"a", unknown),
+        (b" " * LONGEST, b""),
+        (b" " * (LONGEST + 1), unknown),
+        (b"#" * (3 * LONGEST), b""),
+        (b"names main" + b" " * (LONGEST - 10), b"names 0\n"),
+        (b"help" + b" " * LONGEST, unknown),
+        (b"x" * (20 * LONGEST), unknown),
+        (edit + b"+" + b"x" * (2 * LONGEST) + b"\n+one\nend", b"fault 2 bad line\n"),
+        (edit + b"*" + b"x" * (2 * LONGEST) + b"\n+one\nend", b"fault 2 bad edit\n"),
+        (edit + b"+one\nend" + b" " * (2 * LONGEST) + b"\nend", b"fault 3 bad edit\n"),
+        (group + b"# " + b"x" * (2 * LONGEST) + b"\ndone", b"ok 1\n"),
+        (group + b"add g" + b" " * (2 * LONGEST) + b"\ndone", b"fault 3 bad group\n"),
+        (group + b"done" + b" " * (2 * LONGEST) + b"\nadd g\ndone", b"fault 3 bad group\n"),
+    ]
+    for commands, wanted in cases:
+        what = f"{commands[:30]!r}, {len(commands)} bytes"
+        shell.expect(what, commands + b"\nnames x\n", wanted + b"refused 4 x\n")
+        if b"\n" not in commands:
+            shell.expect(f"{what}, without LF", commands, wanted)
+        shell.report.count("long lines")
+
+
+def endless_line(shell):
+    """A line that does not end, in an address space without room for it."""
+    words = programs.limited(["sh", "-c", 'head -c 400000000 /dev/zero | "$0"', shell.program], v=65536)
+    shell.report.expect_run("a line of 400 MB", programs.run(words), b"fault 1 unknown command\n")
+    shell.report.count("long lines")
+
+
+def limits(shell):
+    """What `why` says of each limit of a repository."""
+    group = lambda at, count: b"record main p%d group\n" % at + b"".join(b"add f%d-%d\n" % (at, it) for it in range(count)) + b"done\n"
+    edit = lambda count: b"+\n" * count + b"end\n"
+    full = b"".join(group(at, 64) for at in range(64))
+    start = b"record main start add notes\n"
+    long_file = start + b"".join(b"record main e%d edit notes 1\n" % at + edit(62_500) for at in range(16))
+    anna = b"branch anna main\nrecord anna one add one\nrecord anna two group\nadd two\nadd three\ndone\n" + full
+    hint = b"Record in a branch with fewer changes, or take patches out of this one by obliterate.\n"
+    pull_hint = b"Pull fewer patches, or take patches out of TO by obliterate.\n"
+    cases = [
+        (b"".join(b"branch b%d main\n" % at for at in range(255)) + b"branch more main\n", b"branch more main",
+         b"FROM is main.\nThere are 256 branches, and 256 is the most.\nRecord in one of the branches that there are.\n"),
+        (full + b"record main more add notes\n", b"record main more add notes",
+         b"BRANCH is main.\nThe branch has 4096 changes, and the patch 1 more: 4096 is the most.\n" + hint),
+        (group(99, 60) + full, b"record main p63 group",
+         b"BRANCH is main.\nThe branch has 4092 changes, and the patch 64 more: 4096 is the most.\n" + hint),
+        (anna + b"pull anna main\n", b"pull anna main",
+         b"FROM is anna, and TO is main.\nTO has 4096 changes, and the pull brings 3 more: 4096 is the most.\n" + pull_hint),
+        (anna + b"pull anna main two two\n", b"pull anna main two two",
+         b"FROM is anna, and TO is main.\nTO has 4096 changes, and the pull brings 2 more: 4096 is the most.\n" + pull_hint),
+        (start + b"record main long group\nadd other\nedit notes 1\n" + edit(65_536) + b"done\n", b"record main long group",
+         b"BRANCH is main.\nChange 2, file notes: the edit has 0 old lines and 65536 new ones, and 65535 is the most of each.\nCut the edit in parts.\n"),
+        (long_file + b"record main more edit notes 1\n" + edit(1), b"record main more edit notes 1",
+         b"BRANCH is main.\nChange 1, file notes: it would have 1000001 lines, and 1000000 is the most.\nPut some of the lines into another file.\n"),
+    ]
+    for commands, line, cause in cases:
+        wanted = b"refused 9\n>%s\nrefused 9: a limit would be passed\n%s" % (line, cause)
+        wanted = b"refused 9\nwhy %d\n" % wanted.count(b"\n") + wanted
+        shell.report.expect(f"why, of {cause!r}", shell.answer(commands + b"why\n")[-len(wanted) :], wanted)
+        shell.report.count("causes of long commands")
+
+
+def long_causes(shell):
+    """What `why` shows of a line that is longer than one may be, and of one that is as long as it is shown."""
+    rule = (b"A line begins with a command; a record says BRANCH, NAME, and then add, remove, edit or group:\n"
+            b"help tells all. A name has no blank. A line of a body stands only behind an edit whose first\n"
+            b"line has no fault. A line of more than 1048576 bytes is no command.\n")
+    body_rule = b"A line of a body has 4096 bytes at most behind its sign. Cut it in two.\n"
+    edit_rule = b"A body has old lines, each behind -, then new ones, each behind +, one at least in\nall, and then a line that is just end.\n"
+    more = b"Its first 200 bytes are shown, and it has more.\n"
+    cut = b"It has 4098 bytes, the second is ?: a line of more than 1048576 bytes is read like that.\n"
+    head = b"record main a edit f 1\n"
+    cases = [
+        (b"names " + b"x" * 1_048_571, b"1 unknown command", b"n?mes " + b"x" * 194, cut + rule),
+        (b"n?mes " + b"x" * 4092, b"1 unknown command", b"n?mes " + b"x" * 194, cut + rule),
+        (b"n?mes " + b"x" * 4091, b"1 unknown command", b"n?mes " + b"x" * 194, rule),
+        (head + b"+" + b"x" * 1_048_576 + b"\nend", b"2 bad line", b"+?" + b"x" * 198, cut + body_rule),
+        (head + b"+" + b"x" * 1_048_575 + b"\nend", b"2 bad line", b"+x" + b"x" * 198, body_rule),
+        (head + b"x" * 1_048_577 + b"\nend", b"2 bad edit", b"x?" + b"x" * 198, cut + edit_rule),
+    ]
+    for commands, fault, line, cause in cases:
+        told = b"fault %s\n>%s\n%s%s" % (fault, line, more, cause)
+        shell.expect(f"why, of {commands[-60:]!r}", commands + b"\nwhy\n", b"fault %s\nwhy %d\n%s" % (fault, told.count(b"\n"), told))
+        shell.report.count("causes of long commands")
+
+
+def peers(shell):
+    waiting_peer(shell, 10_000)
+    many_questions(shell, 70_000)
+
+
+def waiting_peer(shell, count):
+    """A peer that reads each answer before it sends the next command."""
+    peer = programs.start([shell.program])
+    expect = shell.report.expect
+    expect("the first", ask(peer, b"record main start add f\n"), b"ok 1\n")
+    text = b""
+    for at in range(1, count + 1):
+        if at % 3 == 1 and at < 3000:
+            old = b"-" + text + b"\n" if text else b""
+            text = b"line %d" % at
+            expect("a record", ask(peer, b"record main p%d edit f 1\n%s+%s\nend\n" % (at, old, text)), b"ok %d\n" % (at // 3 + 2))
+        elif at % 3 == 2:
+            expect("a tree", ask(peer, b"tree main\n"), b"tree 1\nfile f 1\n=" + text + b"\n")
+        else:
+            expect("a refusal", ask(peer, b"names other\n"), b"refused 4 other\n")
+    expect("the end", (*peer.communicate(timeout=programs.TIMEOUT), peer.returncode), (b"", b"", 0))
+    shell.report.count("commands, each awaited", count)
+
+
+def many_questions(shell, count):
+    """More questions than a script may have calls, in a conversation and in a file that is loaded."""
+    questions = b"names main\n" * count
+    shell.expect("many questions", questions, b"names 0\n" * count)
+    with tempfile.NamedTemporaryFile() as file:
+        file.write(questions)
+        file.flush()
+        done = programs.run([shell.program, "--load", file.name], b"names main\n")
+    shell.report.expect_run("a load of many questions", done, b"names 0\n")
+    shell.report.count("questions", 2 * count)

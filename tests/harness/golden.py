@@ -1,0 +1,45 @@
+"""Compares what programs write with golden text, and reads the files of cases that hold it."""
+
+import re
+
+from tests.harness.paths import DATA, read, read_text
+
+ESCAPE = re.compile(rb"\\(x[0-9a-fA-F]{1,2}|[0-7]{1,4}|.)", re.S)
+LETTERS = {b"n": b"\n", b"r": b"\r", b"t": b"\t", b"v": b"\v", b"f": b"\f", b"a": b"\a", b"b": b"\b", b"\\": b"\\", b'"': b'"'}
+
+
+def unescape(text):
+    """The bytes of a text with the escapes of printf; `\\c` at the end of a line leaves out its LF."""
+    plain = text.encode().replace(b"\\c\n", b"")
+    return ESCAPE.sub(lambda it: escaped(it[1]), plain)
+
+
+def escaped(code):
+    if code[:1] == b"x" and len(code) > 1:
+        return bytes([int(code[1:], 16)])
+    if code[:1].isdigit():
+        return bytes([int(code, 8)])
+    return LETTERS.get(code, b"\\" + code)
+
+
+def cases(name):
+    """The cases of a file of tests/data: a line `== NAME` begins one, lines `$ FLAGS` name command lines, and a line `--`
+    stands between the input and the output. Each case: its name, its lists of flags, input and output."""
+    parts = re.split(r"^== (.*)\n", read_text(f"{DATA}/{name}"), flags=re.M)[1:]
+    for title, text in zip(parts[::2], parts[1::2]):
+        flags = [it[1:].split() for it in re.findall(r"^\$.*", text, re.M)]
+        given, wanted = re.split(r"^--\n", re.sub(r"^\$.*\n", "", text, flags=re.M), maxsplit=1, flags=re.M)
+        yield title, flags, unescape(given), unescape(wanted)
+
+
+def rows(name):
+    """The rows of a table of tests/data: the words between tabs of each line that is no comment."""
+    return [line.split("\t") for line in read_text(f"{DATA}/{name}").splitlines() if line and not line.startswith("#")]
+
+
+def beside(path, ending, otherwise=b""):
+    """The file beside another one, with an ending more; other bytes where there is none."""
+    try:
+        return read(path + ending)
+    except FileNotFoundError:
+        return otherwise

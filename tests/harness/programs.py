@@ -1,0 +1,59 @@
+"""Starts programs: which file is run, with what limits, and how a peer talks to it."""
+
+import os
+import signal
+import subprocess
+
+from tests.harness import unproved
+from tests.harness.paths import TOP
+
+# Seconds after which a program counts as hanging. A machine with other work is slow, so this is no measurement.
+TIMEOUT = 600
+# How many programs run at once.
+JOBS = int(os.environ.get("JOBS", 0)) or len(os.sched_getaffinity(0))
+
+
+def path(crate):
+    """The program of a crate: the file that the environment variable of its name gives (CAMP, CAMP_SHELL, WORKED); else the
+    proved one in the tree that CAMP_TREE names, or in this one, unless a source is newer; else one that is built without proofs, once."""
+    named = os.environ.get(crate.upper())
+    if named:
+        return os.path.abspath(named)
+    tree = os.environ.get("CAMP_TREE")
+    proved = f"{tree or TOP}/crates/{crate}/out/{crate}"
+    if tree or unproved.is_newer(proved):
+        return proved
+    return unproved.program(crate)
+
+
+def run(words, given=b"", **how):
+    """Runs a program over bytes, and returns its output, standard error and status."""
+    how = {"stdout": subprocess.PIPE, "stderr": subprocess.PIPE, "timeout": TIMEOUT, **how}
+    return subprocess.run(words, **({} if "stdin" in how else {"input": given}), **how)
+
+
+def start(words, **how):
+    """Starts a program, with pipes unless they are given."""
+    return subprocess.Popen(words, **{"stdin": subprocess.PIPE, "stdout": subprocess.PIPE, "stderr": subprocess.PIPE, **how})
+
+
+def send(peer, text):
+    peer.stdin.write(text)
+    peer.stdin.flush()
+
+
+def limited(words, **limits):
+    """The words of a command under limits of the shell: memory in KiB (`v`), seconds of a processor (`t`)."""
+    sets = "".join(f"ulimit -{limit} {value}; " for limit, value in limits.items() if value is not None)
+    return ["bash", "-c", f'{sets}exec "$@"', "bash", *words]
+
+
+def end(process):
+    """Ends a process that was started here in a session of its own, with all that it started."""
+    if process.poll() is None:
+        try:
+            os.killpg(process.pid, signal.SIGTERM)
+            process.wait(timeout=10)
+        except (subprocess.TimeoutExpired, ProcessLookupError):
+            process.kill()
+    process.wait()

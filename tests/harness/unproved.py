@@ -1,0 +1,104 @@
+"""Builds programs without proofs, in a minute or two where a proof takes an hour. `./play` and the tests use it.
+
+The kit's `rt try` compiles a program with run-time checks, runs it once, and removes it: it has no flag to keep it. So
+`build` gives it a folder for temporary files, makes a hard link to the program as soon as the linker has put it there,
+and lets `rt try` come to its end. What it is given on standard input keeps the program running for some seconds, which is
+many looks at that folder. The last line of `rt try` then says that the program ran to its end; if no link was made, or
+the line is another one, the build fails with what `rt try` said: a kit that works in another way is noticed at once.
+"""
+
+import contextlib
+import fcntl
+import glob
+import os
+import re
+import signal
+import subprocess
+import sys
+import tempfile
+import time
+
+from tests.harness.paths import TOP, read
+
+FOLDER = f"{TOP}/out/unproved"
+# Seconds between two looks at the folder, and of two looks at the processes of `rt try` one each so many.
+PAUSE, LOOKS = 0.02, 50
+# What keeps each program running for a while: commands that its input repeats.
+BUSY = {"camp_shell": b"tree main\n" * 400_000, "camp": b"tree main\n" * 400_000}
+ENDED = re.compile(rb"^run=ended status=\d+ .*proved=no$", re.M)
+
+
+def program(crate, fail_alloc=None, tell=None):
+    """The unproved program of a crate of this repository, built unless it is newer than all sources; with `fail_alloc` its
+    allocation of that number fails."""
+    path = f"{FOLDER}/{crate}" + (f"-fail-alloc-{fail_alloc}" if fail_alloc else "")
+    os.makedirs(FOLDER, exist_ok=True)
+    with open(f"{path}.lock", "w", encoding="ascii") as lock:
+        fcntl.flock(lock, fcntl.LOCK_EX)
+        if not is_newer(path):
+            build(f"{TOP}/crates/{crate}", path, ["--fail-alloc", str(fail_alloc)] if fail_alloc else [], tell)
+    return path
+
+
+def is_newer(path):
+    """Whether a file is there and newer than each source of the repository."""
+    if not os.path.exists(path):
+        return False
+    sources = glob.iglob(f"{TOP}/crates/*/src/**/*.rt", recursive=True)
+    return all(os.path.getmtime(it) < os.path.getmtime(path) for it in [f"{TOP}/crates.txt", *sources])
+
+
+def build(crate, path, words=(), tell=None):
+    """Builds the program of a crate's folder as a file; `tell` is called with the seconds that it takes, again and again."""
+    name = os.path.basename(crate)
+    busy = BUSY[name] if name in BUSY else read(f"{crate}/stdin")
+    with tempfile.TemporaryDirectory(prefix="unproved-", dir=os.path.dirname(path)) as folder:
+        status, _, said = try_crate(crate, words, busy, folder, path + ".new", tell)
+    if not os.path.exists(path + ".new") or not ENDED.search(said):
+        sys.exit(f"{said[-4000:].decode(errors='replace')}\n{name}: rt try left no program (status {status}): see tests/harness/unproved.py")
+    os.replace(path + ".new", path)
+
+
+def try_crate(crate, words=(), given=b"", folder=None, link=None, tell=None):
+    """Runs the program of a crate once by `rt try`: its status, its output, and what `rt try` says. The program that it makes
+    below the folder for temporary files is kept as `link`."""
+    started, looks = time.time(), 0
+    with tempfile.TemporaryFile() as source, tempfile.TemporaryFile() as out, tempfile.TemporaryFile() as error:
+        source.write(given)
+        source.seek(0)
+        how = {"stdin": source, "stdout": out, "stderr": error, "cwd": crate, "start_new_session": True}
+        tried = subprocess.Popen(["rt", "try", "--seconds", "600", *words], env={**os.environ, "TMPDIR": folder or tempfile.gettempdir()}, **how)
+        try:
+            while tried.poll() is None:
+                time.sleep(PAUSE)
+                if link and not os.path.exists(link):
+                    for it in glob.glob(f"{folder}/*/*/program"):
+                        with contextlib.suppress(FileNotFoundError):
+                            os.link(it, link)
+                if looks % LOOKS == 0:
+                    spare_processors(tried.pid)
+                    if tell:
+                        tell(time.time() - started)
+                looks += 1
+        finally:
+            if tried.poll() is None:
+                os.killpg(tried.pid, signal.SIGTERM)
+                tried.wait()
+        texts = []
+        for it in (out, error):
+            it.seek(0)
+            texts.append(it.read())
+    return tried.returncode, texts[0], texts[1]
+
+
+def spare_processors(process):
+    """Ends the check that `rt try` runs beside its build for hints on names, which takes as long as the build, and gives the
+    build the niceness of this process: it runs in a session of its own, and Linux may group processes by sessions."""
+    with contextlib.suppress(OSError):
+        children = read(f"/proc/{process}/task/{process}/children").split()
+        for child in map(int, children):
+            if read(f"/proc/{child}/cmdline").split(b"\0")[1:2] == [b"check"]:
+                os.kill(child, signal.SIGKILL)
+            else:
+                with open(f"/proc/{child}/autogroup", "w", encoding="ascii") as file:
+                    file.write(str(os.nice(0)))
