@@ -1,4 +1,5 @@
 pub mod Blocks
+pub mod Counting
 pub mod Logs
 pub mod Moments
 pub mod Readings

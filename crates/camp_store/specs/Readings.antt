@@ -47,6 +47,12 @@ IsOfReading usable (Disk error) = Unit {0}
 IsOfReading usable Failed = usable ≡ false
 IsOfReading usable other = IsOfBytes other
 
+-- why the bytes of a disk that may be used are not had: memory has run out, or the disk has failed
+abbrev pub IsOfAccess : StoreFault → Type 0
+IsOfAccess Memory = Unit {0}
+IsOfAccess (Disk error) = Unit {0}
+IsOfAccess other = ⊥
+
 -- a damaged file stands for no texts
 abbrev pub DamageIsNoStore : Type 0
 DamageIsNoStore = (count at : ℕ) (file : List ℕ) → IsDamaged count at file → (texts : List (List ℕ)) → ¬ (Stands texts file)

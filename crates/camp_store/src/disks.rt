@@ -1,8 +1,11 @@
 //! What is asked of a disk.
-ghost use Rattle.std.specs.Prelude.{◌≡◌, ◌<◌, List, ℕ, length, IfOk, OnOk, IsTrue};
-ghost use Rattle.sqlite_disk.specs.Disk.{Only};
+ghost use Rattle.std.specs.Prelude.{◌≡◌, ◌<◌, List, ℕ, length, IfErr, IfOk, OnOk, IsTrue};
+ghost use Rattle.sqlite_disk.specs.Disk.{CountsFault, Only};
+ghost use Rattle.camp_store.specs.Counting.{CountsFaults};
 ghost use Rattle.camp_store.specs.Moments.{Begun, Settled};
+ghost use Rattle.camp_store.specs.Readings.{IsOfAccess};
 
+use crate::StoreFault;
 use sqlite_disk::Disk;
 use std::alloc::Global;
 use std::io;
@@ -15,13 +18,14 @@ pub(crate) fn settle<D: Disk>(disk: &mut D, at: usize, bytes: &[u8]) -> io::Resu
     ensures clean { D.Disk.is_clean disk.new ≡ D.Disk.is_clean disk.old }
     ensures begun { Begun D.Disk.seen D.Disk.may_leave at (length bytes.now) disk.old disk.new }
     ensures settled { OnOk result (Settled D.Disk.seen D.Disk.may_leave at bytes.now disk.old disk.new) }
+    ensures faults { CountsFault result (D.Disk.faults disk.old) (D.Disk.faults disk.new) }
 {
     disk.write_at(at, bytes)?;
     disk.sync()
 }
 
 /// All bytes of a file, which are on the disk.
-pub(crate) fn read_all<D: Disk>(alloc: Global, disk: &mut D) -> io::Result<Vec<u8>>
+pub(crate) fn read_all<D: Disk>(alloc: Global, disk: &mut D) -> Result<Vec<u8>, StoreFault>
     requires usable { IsTrue (D.Disk.is_usable disk.old) }
     ensures usable { IfOk result (λ _. IsTrue (D.Disk.is_usable disk.new)) }
     ensures bytes { IfOk result (λ bytes. IsTrue (D.Disk.is_clean disk.new) → bytes.items ≡ D.Disk.seen disk.old) }
@@ -29,6 +33,8 @@ pub(crate) fn read_all<D: Disk>(alloc: Global, disk: &mut D) -> io::Result<Vec<u
     ensures crash { (c : List ℕ) → D.Disk.may_leave disk.new c → D.Disk.may_leave disk.old c }
     ensures settled { IfOk result (λ _. Only (D.Disk.seen disk.new) (D.Disk.may_leave disk.new)) }
     ensures clean { IsTrue (D.Disk.is_clean disk.new) → IsTrue (D.Disk.is_clean disk.old) }
+    ensures fault { IfErr result IsOfAccess }
+    ensures faults { CountsFaults result (D.Disk.faults disk.old) (D.Disk.faults disk.new) }
 {
     disk.sync()?;
     let length = disk.len()?;

@@ -1,6 +1,7 @@
 ghost use Rattle.std.specs.Prelude.{◌≡◌, ◌<◌, ◌+◌, ◌-◌, ◌^◌, ◌++◌, List, ℕ, Err, false, length, IfOk, IfErr, IsTrue, OnOk};
-ghost use Rattle.sqlite_disk.specs.Disk.{Only};
+ghost use Rattle.sqlite_disk.specs.Disk.{CountsFault, Only};
 ghost use Rattle.camp_store.specs.Blocks.{Stands, chain};
+ghost use Rattle.camp_store.specs.Counting.{CountsFaults, ReportsFault};
 ghost use Rattle.camp_store.specs.Logs.{IsBatch, IsBeforeOrAfter, IsOfClosing, Keeps, StaysWithin, texts_of};
 ghost use Rattle.camp_store.specs.declared.faults.StoreFault.TheVariants as fault;
 ghost use Rattle.camp_store.specs.Readings.{IsReading};
@@ -31,6 +32,7 @@ fn close<D: Disk>(disk: &mut D, reading: &Reading) -> Result<(), StoreFault>
         → StaysWithin D.Disk.seen D.Disk.may_leave (reading.now.length + 1) disk.old disk.new }
     ensures usable { OnOk result (IsTrue (D.Disk.is_usable disk.old) → IsTrue (D.Disk.is_usable disk.new)) }
     ensures fault { IfErr result (IsOfClosing (D.Disk.is_usable disk.old)) }
+    ensures faults { CountsFaults result (D.Disk.faults disk.old) (D.Disk.faults disk.new) }
 {
     if reading.is_closed {
         return Ok(());
@@ -61,6 +63,9 @@ impl<D: Disk> Log<D> {
             → StaysWithin D.Disk.seen D.Disk.may_leave (reading.now.length + 1) disk e.1) }
         ensures usable { IfOk result (λ log. IsTrue (D.Disk.is_usable disk) → IsOpen D.Disk.is_usable log) }
         ensures fault { IfErr result (λ e. IsOfClosing (D.Disk.is_usable disk) e.0) }
+        ensures goes_on { IfOk result (λ log. IsTrue (may_go_on log)) }
+        ensures faults { IfOk result (λ log. D.Disk.faults (disk_of log) ≡ D.Disk.faults disk) }
+        ensures faults_err { IfErr result (λ e. ReportsFault e.0 (D.Disk.faults disk) (D.Disk.faults e.1)) }
     {
         match close(&mut disk, reading) {
             Ok(()) => Ok(Log {
@@ -77,6 +82,13 @@ impl<D: Disk> Log<D> {
         ensures { result.now ≡ disk_of self.now }
     {
         &self.disk
+    }
+
+    /// Whether no batch has failed at the disk. Where one has, `put` answers `Failed` from then on.
+    pub fn may_go_on(&self) -> bool
+        ensures { result ≡ may_go_on self.now }
+    {
+        !self.has_failed
     }
 
     pub fn into_disk(self) -> D
@@ -101,6 +113,8 @@ impl<D: Disk> Log<D> {
         ensures fault { IfErr result (λ why. LeavesAfter why self.old self.new) }
         ensures refused { IfErr result (IsOfPutting D.Disk.is_usable self.old (texts_of texts.now)) }
         ensures stopped { may_go_on self.old ≡ false → (result ≡ Err fault.Failed) × (self.new ≡ self.old) }
+        ensures goes_on { OnOk result (IsTrue (may_go_on self.new)) }
+        ensures faults { CountsFaults result (D.Disk.faults (disk_of self.old)) (D.Disk.faults (disk_of self.new)) }
     {
         if self.has_failed || !self.disk.may_be_used() {
             return Err(StoreFault::Failed);
@@ -141,6 +155,7 @@ fn write_batch<D: Disk>(disk: &mut D, at: usize, bytes: &[u8]) -> io::Result<()>
     ensures long { Only (D.Disk.seen disk.old) (D.Disk.may_leave disk.old)
         → StaysWithin D.Disk.seen D.Disk.may_leave (at + length bytes.now) disk.old disk.new }
     ensures clean { D.Disk.is_clean disk.new ≡ D.Disk.is_clean disk.old }
+    ensures faults { CountsFault result (D.Disk.faults disk.old) (D.Disk.faults disk.new) }
 {
     settle(disk, at + 1, &bytes[1..])?;
     settle(disk, at, &[OPEN])?;

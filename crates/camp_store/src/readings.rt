@@ -1,5 +1,6 @@
 ghost use Rattle.std.specs.Prelude.{◌≡◌, List, ℕ, IfErr, IfOk, IsTrue};
 ghost use Rattle.sqlite_disk.specs.Disk.{Only};
+ghost use Rattle.camp_store.specs.Counting.{CountsFaults};
 ghost use Rattle.camp_store.specs.Readings.{IsDamage, IsOfBytes, IsOfReading, IsReading};
 
 use crate::blocks::{Digest, first_block, is_closed, is_end};
@@ -64,6 +65,7 @@ pub fn read<D: Disk>(alloc: Global, disk: &mut D) -> Result<Reading, StoreFault>
     ensures crash { (c : List ℕ) → D.Disk.may_leave disk.new c → D.Disk.may_leave disk.old c }
     ensures settled { IfOk result (λ _. Only (D.Disk.seen disk.new) (D.Disk.may_leave disk.new)) }
     ensures clean { IsTrue (D.Disk.is_clean disk.new) → IsTrue (D.Disk.is_clean disk.old) }
+    ensures faults { CountsFaults result (D.Disk.faults disk.old) (D.Disk.faults disk.new) }
 {
     if !disk.may_be_used() {
         return Err(StoreFault::Failed);
