@@ -1,0 +1,69 @@
+"""Finds and loads libcamp.so, and declares its exports as camp.h does."""
+
+from __future__ import annotations
+
+import ctypes
+import os
+from typing import Any, List
+
+NAME = "libcamp.so"
+DONE, NOT_OPEN, MEMORY = 0, 1, 2
+
+
+class Handle(ctypes.Structure):
+    """`camp` and `camp_view` of camp.h, which have the same members. Zeros are a closed handle."""
+    _fields_ = [("is_open", ctypes.c_bool), ("at", ctypes.c_void_p)]
+
+
+def _candidates() -> List[str]:
+    """The paths that are tried, in order; the bare name is looked up by the system's loader."""
+    folder = os.environ.get("CAMP_LIB_DIR")
+    if folder:
+        return [os.path.join(folder, NAME)]
+    here = os.path.dirname(os.path.abspath(__file__))
+    built = os.path.normpath(os.path.join(here, "..", "..", "..", "out", "clients"))
+    return [os.path.join(here, NAME), os.path.join(built, NAME), NAME]
+
+
+def _open() -> ctypes.CDLL:
+    candidates = _candidates()
+    for path in candidates:
+        if os.path.exists(path):
+            try:
+                return ctypes.CDLL(path)
+            except OSError as error:
+                raise ImportError("{} can't be loaded: {}".format(path, error)) from error
+    if candidates[-1] == NAME:
+        try:
+            return ctypes.CDLL(NAME)
+        except OSError:
+            pass
+    folders = " or ".join(os.path.dirname(path) for path in candidates if path != NAME)
+    raise ImportError("{} is not in {}: run clients/build at the top of camp's repository, or set CAMP_LIB_DIR to the folder "
+                      "that has it".format(NAME, folders))
+
+
+def _declare(library: Any, name: str, arguments: List[Any], result: Any) -> None:
+    try:
+        call = getattr(library, name)
+    except AttributeError:
+        raise ImportError("{} has no {}: it is of another version of camp; run clients/build, or set CAMP_LIB_DIR"
+                          .format(library._name, name)) from None
+    call.argtypes, call.restype = arguments, result
+
+
+def _load() -> ctypes.CDLL:
+    library = _open()
+    handle = ctypes.POINTER(Handle)
+    for kind in ("camp", "camp_view"):
+        _declare(library, kind + "_ask", [handle, ctypes.c_char_p, ctypes.c_size_t], ctypes.c_int32)
+        _declare(library, kind + "_answer_length", [handle], ctypes.c_size_t)
+        _declare(library, kind + "_answer", [handle, ctypes.c_char_p, ctypes.c_size_t], ctypes.c_size_t)
+        _declare(library, kind + "_close", [handle], None)
+    for name in ("camp_look", "camp_view_again"):
+        _declare(library, name, [handle, handle], ctypes.c_int32)
+    _declare(library, "camp_open", [handle], ctypes.c_int32)
+    return library
+
+
+LIBRARY = _load()
