@@ -5,9 +5,9 @@ ghost use Rattle.camp_prim.specs.Effect.{Applies, InRange, inverted};
 ghost use Rattle.camp_prim.specs.Commuting.{path_of};
 ghost use Rattle.camp_prim.specs.Hunks.{IsInRange, hunk_of};
 
-use crate::{Body, Hunk};
-use camp_base::{Apply, Path, Tree};
-use std::alloc::AllocError;
+use crate::Hunk;
+use camp_base::{Apply, Line, Path, Tree};
+use std::alloc::{AllocError, Global};
 
 /// The smallest change to a tree.
 #[derive(Debug, Drop)]
@@ -21,17 +21,30 @@ pub enum Primitive {
 }
 
 impl Primitive {
-    /// Makes the hunk of a body at a line. `None` if the line is 0, if both sides are empty, or if the line
-    /// and the counts of old and of new lines add up to more than 2^30.
-    pub fn hunk(body: Body, line: u32) -> Option<Primitive>
-        ensures exact { MatchOption result (¬ (IsInRange (hunk_of body line)))
-            (λ made. IsInRange (hunk_of body line) × (made ≡ Primitive.Hunk (hunk_of body line))) }
+    /// Makes the hunk that replaces old lines by new ones at a line of a file, counted from 1. `None` if the
+    /// line is 0, if both sides are empty, or if the line and the counts of old and of new lines add up to
+    /// more than 2^30. Does not allocate: the hunk keeps the vectors as they are.
+    pub fn hunk(path: Path, line: u32, old: Vec<Line>, new: Vec<Line>) -> Option<Primitive>
+        ensures exact { MatchOption result (¬ (IsInRange (hunk_of path line old.items new.items)))
+            (λ made. IsInRange (hunk_of path line old.items new.items) × (made ≡ Primitive.Hunk (hunk_of path line old.items new.items))) }
     {
-        let hunk = Hunk::of_body(body, line)?;
+        let hunk = Hunk::of_vectors(path, line, old, new)?;
         Some(Primitive::Hunk(hunk))
     }
 
-    /// Returns the path of the file that the primitive changes.
+    /// Puts the change behind a reference count, so that no copy of it allocates. A copy of a hunk that `hunk`
+    /// made copies the handles of its lines; this takes the vectors instead. If memory runs out, the change is
+    /// dropped.
+    pub fn into_shared(self, alloc: Global) -> Result<Primitive, AllocError>
+        ensures exact { IfOk result (λ shared. shared ≡ self) }
+    {
+        match self {
+            Primitive::Hunk(hunk) => Ok(Primitive::Hunk(hunk.into_shared(alloc)?)),
+            other => Ok(other),
+        }
+    }
+
+    /// The path of the file that it changes.
     pub fn path(&self) -> &Path
         ensures value { result.now ≡ path_of self.now }
         ensures in_range { InRange self.now }
@@ -54,7 +67,7 @@ impl Primitive {
         }
     }
 
-    /// Copies the primitive: increments one reference count; does not allocate.
+    /// Copies the change. Allocates only if it is a hunk as `hunk` made it, which is not shared yet.
     pub fn try_clone(&self) -> Result<Primitive, AllocError>
         ensures exact { IfOk result (λ copy. copy ≡ self.now) }
     {
