@@ -44,7 +44,7 @@ impl Primitive {
         }
     }
 
-    /// The path of the file that it changes.
+    /// Returns the path of the file that the primitive changes.
     pub fn path(&self) -> &Path
         ensures value { result.now ≡ path_of self.now }
         ensures in_range { InRange self.now }

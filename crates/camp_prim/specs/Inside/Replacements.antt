@@ -1,8 +1,8 @@
--- What a hunk does wherever it stands.
+-- The body of a hunk: what it does at whatever line it applies.
 use Rattle.std.specs.Prelude.{ℕ, List}
 use Rattle.camp_base.specs.Trees.{Lines}
 
--- in the file of a path, new lines in place of old ones
+-- the old lines of the file at a path are replaced by new ones
 pub record Replacement : Type 0 where
   pub path : List ℕ
   pub old : Lines
