@@ -15,24 +15,27 @@ use Rattle.camp_object.specs.Histories.{replay}
 use Rattle.camp_object.specs.Objects as object
 use Rattle.camp_object.specs.declared.objects.Decided.TheVariants.{Next, Answer}
 use Rattle.camp_repo.specs.Lawful.{IsLawfulState, names_of_branches}
+use Rattle.camp_repo.specs.Limits.{Bounds, default_bounds}
 use Rattle.camp_repo.specs.Objects.{repository}
 use Rattle.camp_repo.specs.Outcomes.{conflicts_of, obliterated, pulled}
-use Rattle.camp_repo.specs.States.{Contents, catches_of, initial, tree_of}
+use Rattle.camp_repo.specs.States.{Contents, catches_of, new_within, tree_of}
 use Rattle.camp_repo.specs.Steps.{listed, step, wanted}
 
 -- a branch has these catches
 abbrev pub Has : Contents → List ℕ → List Catch → Type 0
 Has state branch catches = catches_of state.branches branch ≡ Some catches
 
--- one more call is counted, and no branch but this one changes, comes or goes
+-- one more call is counted, the limits stay, and no branch but this one changes, comes or goes
 pub record ChangesOne (branch : List ℕ) (old new : Contents) : Type 0 where
   pub counted : new.count ≡ old.count + 1
+  pub limits : new.limits ≡ old.limits
   pub names : names_of_branches new.branches ≡ names_of_branches old.branches
   pub others : (other : List ℕ) → other ≢ branch → catches_of new.branches other ≡ catches_of old.branches other
 
--- a new branch comes last, with the catches of another; one more call is counted
+-- a new branch comes last, with the catches of another; one more call is counted, and the limits stay
 pub record Copies (new_branch from : List ℕ) (old new : Contents) : Type 0 where
   pub counted : new.count ≡ old.count + 1
+  pub limits : new.limits ≡ old.limits
   pub catches : List Catch
   pub was : Has old from catches
   pub becomes : new.branches ≡ old.branches ++ (new_branch, catches) ∷ []
@@ -88,9 +91,9 @@ AcceptedCallsHaveEffect =
     (state : Contents) (call : Call) (next : Contents) → IsLawfulState state → step state call ≡ Next next →
     Effect call state next
 
--- a new repository is lawful
+-- a new repository is lawful, whatever its limits
 abbrev pub InitialIsLawful : Type 0
-InitialIsLawful = IsLawfulState initial
+InitialIsLawful = (limits : Bounds) → IsLawfulState (new_within limits)
 
 -- from a lawful state each accepted call leads to a lawful one
 abbrev pub StepsKeepLawful : Type 0
@@ -125,6 +128,15 @@ abbrev pub HistoriesAreCounted : Type 0
 HistoriesAreCounted =
     (history : List (ℕ × Call)) (state : Contents) → replay repository history ≡ Some state →
     state.count ≡ length history
+
+-- an accepted call keeps the limits
+abbrev pub StepsKeepLimits : Type 0
+StepsKeepLimits = (state : Contents) (call : Call) (next : Contents) → step state call ≡ Next next → next.limits ≡ state.limits
+
+-- after a legal history the limits are those of a new repository
+abbrev pub HistoriesKeepLimits : Type 0
+HistoriesKeepLimits =
+    (history : List (ℕ × Call)) (state : Contents) → replay repository history ≡ Some state → state.limits ≡ default_bounds
 
 -- a pull, an obliteration and the conflicts of a branch come to what their definitions say
 pub record OutcomesAreDefined : Type 0 where
