@@ -17,7 +17,8 @@ use Rattle.camp_call.specs.declared.replies.Refusal.TheVariants.{BranchExists, D
 use Rattle.camp_call.specs.declared.replies.Refusal.TheVariants.{NothingToDo, PatchExists, SameBranch, TooLarge}
 use Rattle.camp_object.specs.Objects.{IsLawfulObject}
 use Rattle.camp_object.specs.declared.objects.Decided.TheVariants.{Next, Answer}
-use Rattle.camp_repo.specs.Objects.{next_of, number_told, repository}
+use Rattle.camp_repo.specs.Limits.{Bounds, default_bounds}
+use Rattle.camp_repo.specs.Objects.{next_of, number_told, repository, repository_within}
 use Rattle.camp_repo.specs.Outcomes.{obliterated, pulled}
 use Rattle.camp_repo.specs.States.{Contents, after, catches_of, stands, tree_of, with_catches}
 use Rattle.camp_repo.specs.Steps.{Decision, becomes, changed, is_empty, is_full_with, is_too_large}
@@ -133,8 +134,8 @@ tells_exactly (reply.Tree tree) at is = cc
 tells_exactly (reply.Conflicts pairs) at is = cc
 tells_exactly (reply.Names names) at is = cc
 
-pub repository_is_lawful : IsLawfulObject repository
-repository_is_lawful = record {
+pub repositories_are_lawful : (limits : Bounds) → IsLawfulObject (repository_within limits)
+repositories_are_lawful limits = record {
   starts = refl;
   counts = λ state call next is. (on_next (CountsOne state call) TellsNone (step state call) next
       (step_comes state call) is).0;
@@ -144,3 +145,6 @@ repository_is_lawful = record {
   tells_exactly = tells_exactly;
   tells_none = λ state call answer is. subst (Comes (CountsOne state call) TellsNone) is (step_comes state call);
 }
+
+pub repository_is_lawful : IsLawfulObject repository
+repository_is_lawful = repositories_are_lawful default_bounds

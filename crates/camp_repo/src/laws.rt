@@ -20,7 +20,7 @@ pub fn accepted_calls_have_effect()
     ensures law { AcceptedCallsHaveEffect }
 {}
 
-/// Every legal history leads to a lawful state.
+/// Every legal history leads to a lawful state, whatever the limits.
 pub fn histories_are_lawful()
     ensures law { HistoriesAreLawful }
 {}
@@ -69,9 +69,9 @@ pub fn outcomes_are_defined()
     ensures law { OutcomesAreDefined }
 {}
 
-/// The repository is an object: it counts its accepted calls, and only calls that write are
+/// A repository is an object, whatever its limits: it counts its accepted calls, and only calls that write are
 /// accepted.
-#[tactic(auto, using(crate::specs::ObjectLaws::repository_is_lawful))]
+#[tactic(auto, using(crate::specs::ObjectLaws::repositories_are_lawful))]
 pub fn repository_is_lawful()
     ensures law { RepositoryIsLawful }
 {}
