@@ -1,4 +1,4 @@
-ghost use Rattle.std.specs.Prelude.{◌≡◌, ◌<◌, ◌≤◌, ⊤, refl};
+ghost use Rattle.std.specs.Prelude.{◌≡◌, ◌<◌, ◌≤◌, ⊤};
 ghost use Rattle.camp_repo.specs.Limits.{bounded, default_bounds};
 
 use crate::LimitFault;
@@ -24,7 +24,7 @@ impl Model for Limits {
 
     ghost inverse = { λ bounds. record { catches = bounds.catches; branches = bounds.branches } };
 
-    ghost inverse_ok = { λ limits are. refl };
+    ghost inverse_ok = { λ limits are i. limits };
 }
 
 impl Clone for Limits {
