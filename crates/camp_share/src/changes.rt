@@ -1,3 +1,4 @@
+//! Edits of a list in chunks: each makes a new list that shares the chunks it does not change.
 ghost use Rattle.std.specs.Prelude.{◌≡◌, ◌+◌, ◌*◌, ◌<◌, ◌≤◌, ◌^◌, List, ◌∷◌, [], ◌++◌, length, take, drop, slice_set, IfOk, IfSome, IsTrue, OnOk};
 ghost use Rattle.std.specs.List.{All, insert, remove};
 ghost use Rattle.camp_share.specs.Inside.Parts.{joined, longest_part, IsPart, offset, IsPlace};
@@ -7,8 +8,7 @@ use crate::growing::{Growing, MAX_PART_LENGTH, Part, append_copies, first_of, pu
 use std::alloc::{AllocError, Global};
 use std::marker::Model;
 
-// A list that is made from another one: parts that are done, and the elements behind them, which
-// are not yet in parts that may be shared.
+// A list under construction: finished chunks, and a tail of elements that are not yet in a chunk.
 #[derive(Drop)]
 pub(crate) struct Change<T> {
     parts: Growing<Part<T>>,
@@ -28,7 +28,7 @@ impl<T> Model for Change<T> {
 }
 
 impl<T: Share + Drop> Change<T> {
-    // No element.
+    // Starts an empty list.
     pub(crate) fn new(alloc: Global) -> Change<T>
         ensures { result ≡ [] }
     {
@@ -38,7 +38,7 @@ impl<T: Share + Drop> Change<T> {
         }
     }
 
-    // The elements of parts before a place.
+    // Starts a list with the elements before `place` of part `index`; shares whole chunks.
     pub(crate) fn before(
         parts: &Growing<Part<T>>,
         index: usize,
@@ -54,7 +54,7 @@ impl<T: Share + Drop> Change<T> {
         Ok(Change { parts, middle })
     }
 
-    // The same, with the last parts closed where others are.
+    // Seals the chunks at the end where other chunks are sealed; the elements stay the same.
     fn settled(self) -> Result<Change<T>, AllocError>
         ensures { IfOk result (λ change. change ≡ self) }
     {
@@ -66,21 +66,21 @@ impl<T: Share + Drop> Change<T> {
         })
     }
 
-    // Adds an element.
+    // Appends an element.
     pub(crate) fn push(&mut self, item: T) -> Result<(), AllocError>
         ensures { OnOk result (self.new ≡ self.old ++ item ∷ []) }
     {
         self.middle.push(item)
     }
 
-    // Adds copies of elements.
+    // Appends copies of elements.
     pub(crate) fn push_items(&mut self, items: &[T]) -> Result<(), AllocError>
         ensures { OnOk result (self.new ≡ self.old ++ items.now) }
     {
         self.middle.push_items(items)
     }
 
-    // All elements, and behind them those of parts from a place on.
+    // Appends all elements from `place` of part `index` on and returns the finished chunks.
     pub(crate) fn with_rest(
         mut self,
         parts: &Growing<Part<T>>,
@@ -99,8 +99,8 @@ impl<T: Share + Drop> Change<T> {
         Ok(new)
     }
 
-    // Adds the elements of a part from a place on, if there is such a place, and then those of the next part if
-    // they fit. Tells where the parts begin that are left.
+    // Appends the rest of part `index` from `place` on, and the next chunk if it fits in the tail. Returns
+    // the index of the first chunk that was not copied.
     fn push_cut(
         &mut self,
         parts: &Growing<Part<T>>,
@@ -121,7 +121,8 @@ impl<T: Share + Drop> Change<T> {
         self.push_small(parts, index + 1)
     }
 
-    // Adds the elements of a part if they fit behind the last ones, and tells where the parts behind begin.
+    // Appends the elements of part `index` if they fit in the tail. Returns the index of the first chunk that
+    // was not copied.
     fn push_small(&mut self, parts: &Growing<Part<T>>, index: usize) -> Result<usize, AllocError>
         requires parts { All IsPart parts.now }
         requires within { index ≤ length parts.now }
@@ -140,7 +141,7 @@ impl<T: Share + Drop> Change<T> {
         Ok(index + 1)
     }
 
-    // The parts of all elements.
+    // Returns the chunks of all elements; the tail becomes the last chunk.
     pub(crate) fn into_parts(self) -> Result<Growing<Part<T>>, AllocError>
         ensures items { IfOk result (λ parts. joined parts ≡ self) }
         ensures parts { IfOk result (λ parts. All IsPart parts) }
@@ -151,7 +152,8 @@ impl<T: Share + Drop> Change<T> {
     }
 }
 
-// The same place, behind the last element of the part before it where that part has room.
+// Returns the same offset of the list, as the end of the chunk before if that chunk has room for another
+// element.
 fn behind_with_room<T>(parts: &Growing<Part<T>>, index: usize, place: usize) -> (usize, usize)
     requires parts { All IsPart parts.now }
     requires place { IsPlace parts.now index place }
@@ -168,7 +170,7 @@ fn behind_with_room<T>(parts: &Growing<Part<T>>, index: usize, place: usize) -> 
     (index - 1, part.len())
 }
 
-// Copies of the elements of a part before a place.
+// Copies the elements of part `index` before `place`.
 fn front_of<T: Share + Drop>(
     parts: &Growing<Part<T>>,
     index: usize,
@@ -184,7 +186,7 @@ fn front_of<T: Share + Drop>(
     Growing::of_part(parts.at(index), place)
 }
 
-// Where an element stands in parts, or the end of them.
+// Finds the chunk and the position in it of element `index`; one past the last chunk for the end of the list.
 pub(crate) fn place_of<T>(parts: &Growing<Part<T>>, index: usize, len: usize) -> (usize, usize)
     requires parts { All IsPart parts.now }
     requires len { len ≡ length (joined parts.now) }
@@ -207,7 +209,7 @@ pub(crate) fn place_of<T>(parts: &Growing<Part<T>>, index: usize, len: usize) ->
     (count, left)
 }
 
-// The parts with an element more at a place.
+// Inserts an element at a position of a chunk; a chunk that grows too long is halved.
 pub(crate) fn inserted_at<T: Share + Drop>(
     parts: &Growing<Part<T>>,
     index: usize,
@@ -232,7 +234,7 @@ pub(crate) fn inserted_at<T: Share + Drop>(
     with_end_of(parts, index, place, items)
 }
 
-// The parts with another element at a place.
+// Replaces the element at a position of a chunk.
 pub(crate) fn replaced_at<T: Share + Drop>(
     parts: &Growing<Part<T>>,
     index: usize,
@@ -250,8 +252,8 @@ pub(crate) fn replaced_at<T: Share + Drop>(
     with_end_of(parts, index, place + 1, items)
 }
 
-// The parts with copies of new elements in place of so many from a place on, where all of these are
-// in one part and the new ones are few, but some.
+// Replaces `gone` elements at a position of a chunk by copies of `new`. `None` unless all of them lie in that
+// chunk, `new` has 1 to 24 elements and the result fits in one chunk or its halves.
 pub(crate) fn spliced_in_part<T: Share + Drop>(
     parts: &Growing<Part<T>>,
     index: usize,
@@ -279,9 +281,8 @@ pub(crate) fn spliced_in_part<T: Share + Drop>(
     Ok(Some(changed))
 }
 
-// Whether a part has so many elements from a place on, and so many new ones can take their place in
-// it. Where they are too many for the part, it is divided at a place inside it alone: what comes
-// before it or behind it leaves it whole.
+// True if chunk `part` has `gone` elements at `place` and can take `new` ones instead. More than fit in one
+// chunk are taken only in the middle of it, where it is halved; at either end the chunk stays whole.
 fn is_within<T>(part: &[T], place: usize, gone: usize, new: usize) -> bool
     requires { place ≤ length part.now }
     ensures within { IsTrue result → place + gone ≤ length part.now }
@@ -296,7 +297,7 @@ fn is_within<T>(part: &[T], place: usize, gone: usize, new: usize) -> bool
     new <= MAX_PART_LENGTH.saturating_sub(kept) || (place > 0 && left > 0)
 }
 
-// The parts in which one part has new elements and, behind them, those that it has from a place on.
+// Replaces part `index` by a chunk of `items` followed by its own elements from `place` on.
 fn with_end_of<T: Share + Drop>(
     parts: &Growing<Part<T>>,
     index: usize,
@@ -321,7 +322,7 @@ fn with_end_of<T: Share + Drop>(
     Ok(new)
 }
 
-// Adds elements as a part, or as two where they are too many for one.
+// Appends elements as one chunk, or as two halves if they are more than 24.
 fn push_as_parts<T: Share + Drop>(
     parts: &mut Growing<Part<T>>,
     items: Vec<T>,
@@ -341,7 +342,7 @@ fn push_as_parts<T: Share + Drop>(
     push_as_part(parts, items)
 }
 
-// The parts without the element at a place.
+// Removes the element at a position of a chunk.
 pub(crate) fn removed_at<T: Share + Drop>(
     parts: &Growing<Part<T>>,
     index: usize,

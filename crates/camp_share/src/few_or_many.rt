@@ -1,3 +1,4 @@
+//! The entries of a map: one chunk while they are few, a chunk tree after.
 ghost use Rattle.std.specs.Prelude.{◌≡◌, length, slice_get, IfOk};
 ghost use Rattle.std.specs.Option.{option_copied};
 ghost use Rattle.std.specs.Map.Iter.{ShowsInOrder, deref};
@@ -9,7 +10,7 @@ use crate::pieces::OnePart;
 use crate::{Iter, Share};
 use std::alloc::{AllocError, Global};
 
-// The entries of a map: one part, or a list in parts once there were too many for one.
+// The entries of a map: one chunk, or a chunk tree once there were more than 24.
 #[derive(Drop)]
 pub(crate) enum Entries<T> {
     OnePart(OnePart<T>),
@@ -17,7 +18,7 @@ pub(crate) enum Entries<T> {
 }
 
 impl<T> Entries<T> {
-    // How many there are.
+    // Returns the number of entries.
     pub(crate) fn len(&self) -> usize
         ensures { result ≡ length (entries_of self.now) }
     {
@@ -27,7 +28,7 @@ impl<T> Entries<T> {
         }
     }
 
-    // The one at a place.
+    // Returns the entry at `index`, or `None` past the end.
     pub(crate) fn get(&self, index: usize) -> Option<&T>
         ensures { option_copied result ≡ slice_get (entries_of self.now) index }
     {
@@ -37,7 +38,7 @@ impl<T> Entries<T> {
         }
     }
 
-    // From the first to the last.
+    // Iterates over the entries in order.
     pub(crate) fn iter(&self) -> Iter<'_, T>
         ensures rest { result ≡ entries_of self.now }
         ensures runs { ShowsInOrder (deref {X = T}) }
@@ -50,7 +51,7 @@ impl<T> Entries<T> {
 }
 
 impl<T: Share + Drop> Entries<T> {
-    // Those of a part, which is cut into a list in parts where it is too long.
+    // Makes the entries of one chunk, which becomes a chunk tree if it is longer than 24.
     pub(crate) fn of_part(alloc: Global, part: OnePart<T>) -> Result<Entries<T>, AllocError>
         ensures items { IfOk result (λ entries. entries_of entries ≡ part) }
         ensures form { IfOk result IsForm }
@@ -62,7 +63,7 @@ impl<T: Share + Drop> Entries<T> {
         Ok(Entries::Parts(list))
     }
 
-    // Copies of all, in one vector.
+    // Copies all entries into one vector.
     pub(crate) fn to_vec(&self, alloc: Global) -> Result<Vec<T>, AllocError>
         ensures { IfOk result (λ items. items.items ≡ entries_of self.now) }
     {

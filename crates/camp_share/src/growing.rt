@@ -1,3 +1,4 @@
+//! A list of chunks that grows at its end: the unit in which lists and maps share memory.
 ghost use Rattle.std.specs.Prelude.{◌≡◌, ◌+◌, ◌-◌, ◌<◌, ◌≤◌, ◌^◌, List, [], ◌∷◌, ◌++◌, length, take, drop, slice_index_or, IfOk, OnErr, OnOk};
 ghost use Rattle.std.specs.List.{All};
 ghost use Rattle.std.specs.Map.Iter.{ShowsInOrder, deref};
@@ -11,10 +12,11 @@ use std::mem;
 
 pub(crate) type Part<T> = Shared<Vec<T>>;
 
-/// The most elements of a part.
+/// Elements of the longest chunk.
 pub(crate) const MAX_PART_LENGTH: usize = 24;
 
-// A list that grows at its end: parts that are closed, and a last one that still takes elements.
+// A list that grows at its end: sealed chunks of 1 to 24 elements, which are reference counted, and an
+// unsealed tail of up to 24.
 #[derive(Drop)]
 pub(crate) struct Growing<T> {
     closed: Vec<Part<T>>,
@@ -34,7 +36,7 @@ impl<T> Model for Growing<T> {
 }
 
 impl<T> Growing<T> {
-    // No element.
+    // Makes an empty list.
     pub(crate) fn new(alloc: Global) -> Growing<T>
         ensures { result ≡ [] }
     {
@@ -48,7 +50,7 @@ impl<T> Growing<T> {
         *self.last.allocator()
     }
 
-    // How many elements the list has.
+    // Returns the number of elements.
     pub(crate) fn len(&self) -> usize
         requires { length self.now < 2 ^ 64 }
         ensures { result ≡ length self.now }
@@ -56,7 +58,7 @@ impl<T> Growing<T> {
         length_of(&self.closed) + self.last.len()
     }
 
-    // The element at a place.
+    // Returns the element at `index`.
     pub(crate) fn at(&self, index: usize) -> &T
         requires { index < length self.now }
         ensures { result.now ≡ slice_index_or self.now index result.now }
@@ -71,7 +73,7 @@ impl<T> Growing<T> {
         &self.last[left]
     }
 
-    // The elements of the part that still takes some: those at the end.
+    // Returns the tail: the elements after the last sealed chunk.
     pub(crate) fn last(&self) -> &[T]
         ensures within { length result.now ≤ length self.now }
         ensures end { result.now ≡ drop (length self.now - length result.now) self.now }
@@ -79,7 +81,7 @@ impl<T> Growing<T> {
         &self.last
     }
 
-    // The closed parts, and the elements behind them.
+    // Returns the sealed chunks and the tail.
     pub(crate) fn divided(&self) -> (&[Part<T>], &[T])
         ensures whole { joined result.0.now ++ result.1.now ≡ self.now }
         ensures parts { All IsPart result.0.now }
@@ -87,7 +89,7 @@ impl<T> Growing<T> {
         (&self.closed, &self.last)
     }
 
-    // The elements from the first to the last.
+    // Iterates over the elements in order.
     pub(crate) fn iter(&self) -> Steps<'_, T>
         ensures rest { result ≡ self.now }
         ensures runs { ShowsInOrder (deref {X = T}) }
@@ -97,7 +99,8 @@ impl<T> Growing<T> {
 }
 
 impl<T: Share + Drop> Growing<T> {
-    // The first elements, with room for the others of the part that is cut and one more.
+    // Copies the first `count` elements; shares whole chunks. The tail has capacity for the rest of the chunk
+    // that was cut and one more.
     pub(crate) fn front(&self, count: usize) -> Result<Growing<T>, AllocError>
         requires { count ≤ length self.now }
         ensures { IfOk result (λ front. front ≡ take count self.now) }
@@ -116,7 +119,7 @@ impl<T: Share + Drop> Growing<T> {
         Ok(Growing { closed, last })
     }
 
-    // The first elements of a part, with room for the others and one more.
+    // Copies the first `count` elements of a chunk into the tail, with capacity for the others and one more.
     pub(crate) fn of_part(part: &Part<T>, count: usize) -> Result<Growing<T>, AllocError>
         requires part { IsPart part.now }
         requires within { count ≤ length part.now.items }
@@ -129,7 +132,7 @@ impl<T: Share + Drop> Growing<T> {
         })
     }
 
-    // Adds an element behind all others.
+    // Appends an element; seals the tail first if it is full.
     pub(crate) fn push(&mut self, item: T) -> Result<(), AllocError>
         ensures { OnOk result (self.new ≡ self.old ++ item ∷ []) }
     {
@@ -141,7 +144,7 @@ impl<T: Share + Drop> Growing<T> {
         Ok(())
     }
 
-    // Adds copies of elements.
+    // Appends copies of elements.
     pub(crate) fn push_items(&mut self, items: &[T]) -> Result<(), AllocError>
         ensures { OnOk result (self.new ≡ self.old ++ items.now) }
     {
@@ -154,7 +157,7 @@ impl<T: Share + Drop> Growing<T> {
         Ok(())
     }
 
-    // Adds the elements of another list from one on.
+    // Appends the elements of another list from index `from` on; shares whole chunks.
     pub(crate) fn push_rest(&mut self, list: &Growing<T>, from: usize) -> Result<(), AllocError>
         requires { from ≤ length list.now }
         ensures { OnOk result (self.new ≡ self.old ++ drop from list.now) }
@@ -175,9 +178,9 @@ impl<T: Share + Drop> Growing<T> {
         Ok(())
     }
 
-    // Closes the last elements where parts are closed already. The list is the same: what is closed is
-    // shared by one count, where the last elements take a count each. Where none is closed, the list is
-    // short, and the vector of those that are would take more than it saves. No clause asks for it.
+    // Seals the tail if other chunks are sealed; the elements stay the same. A copy of the list then
+    // increments one count for the tail and not one for each element. A list without sealed chunks is short:
+    // a vector of chunks would cost more than it saves. Only the tests see whether it is called.
     pub(crate) fn settle(&mut self) -> Result<(), AllocError>
         ensures { OnOk result (self.new ≡ self.old) }
     {
@@ -189,7 +192,7 @@ impl<T: Share + Drop> Growing<T> {
         Ok(())
     }
 
-    // Adds the elements of a part from one on.
+    // Appends the elements of a chunk from `from` on.
     fn push_behind(&mut self, part: &Part<T>, from: usize) -> Result<(), AllocError>
         requires part { IsPart part.now }
         requires within { from ≤ length part.now.items }
@@ -201,7 +204,7 @@ impl<T: Share + Drop> Growing<T> {
         self.push_items(&part[from..])
     }
 
-    // Adds the elements of a part: shares it, or copies them where they fit behind the last ones.
+    // Appends a chunk: shares it, or copies its elements if they fit in a tail that is not empty.
     fn push_part(&mut self, part: &Part<T>) -> Result<(), AllocError>
         requires { IsPart part.now }
         ensures { OnOk result (self.new ≡ self.old ++ part.now.items) }
@@ -216,12 +219,12 @@ impl<T: Share + Drop> Growing<T> {
         push_copy(&mut self.closed, part)
     }
 
-    // Whether elements are in the last part, and so many more fit there.
+    // True if the tail is not empty and has room for `count` more elements.
     pub(crate) fn takes(&self, count: usize) -> bool {
         !self.last.is_empty() && count <= MAX_PART_LENGTH - self.last.len()
     }
 
-    // Adds the elements to a list of parts, as parts of their own.
+    // Appends the list to a list of chunks: its sealed chunks, and its tail as one more chunk.
     pub(crate) fn close_into(self, parts: &mut Growing<Part<T>>) -> Result<(), AllocError>
         requires { All IsPart parts.old }
         ensures items { OnOk result (joined parts.new ≡ joined parts.old ++ self) }
@@ -244,7 +247,7 @@ impl<T: Share + Drop> Share for Growing<T> {
     }
 }
 
-// How many elements parts have.
+// Returns the number of elements of all chunks together.
 pub(crate) fn length_of<T>(parts: &[Part<T>]) -> usize
     requires { length (joined parts.now) < 2 ^ 64 }
     ensures { result ≡ length (joined parts.now) }
@@ -256,7 +259,7 @@ pub(crate) fn length_of<T>(parts: &[Part<T>]) -> usize
     sum
 }
 
-// Copies of the first elements, with room for the others and one more.
+// Copies the first `count` items, with capacity for the others and one more.
 pub(crate) fn first_of<T: Share + Drop>(items: &Vec<T>, count: usize) -> Result<Vec<T>, AllocError>
     requires { count ≤ length items.now.items }
     ensures { IfOk result (λ first. first.items ≡ take count items.now.items) }
@@ -265,7 +268,7 @@ pub(crate) fn first_of<T: Share + Drop>(items: &Vec<T>, count: usize) -> Result<
     copies(*items.allocator(), &items[..count], room)
 }
 
-// Copies of elements, in a vector with so much room.
+// Copies items into a vector of capacity `room`.
 pub(crate) fn copies<T: Share + Drop>(
     alloc: Global,
     items: &[T],
@@ -278,7 +281,7 @@ pub(crate) fn copies<T: Share + Drop>(
     Ok(copies)
 }
 
-// Puts a copy of an element behind others.
+// Appends a copy of an item.
 pub(crate) fn push_copy<T: Share + Drop>(items: &mut Vec<T>, item: &T) -> Result<(), AllocError>
     ensures pushed { OnOk result (items.new.items ≡ items.old.items ++ item.now ∷ []) }
     ensures same { OnErr result (items.new.items ≡ items.old.items) }
@@ -287,7 +290,7 @@ pub(crate) fn push_copy<T: Share + Drop>(items: &mut Vec<T>, item: &T) -> Result
     Ok(())
 }
 
-// Adds elements to a list of parts, as a part of their own.
+// Appends items to a list of chunks as one chunk.
 pub(crate) fn push_as_part<T: Drop>(
     parts: &mut Growing<Part<T>>,
     items: Vec<T>,
@@ -298,7 +301,7 @@ pub(crate) fn push_as_part<T: Drop>(
     parts.push(Shared::new(alloc, items)?)
 }
 
-// Puts copies of elements behind others.
+// Appends copies of items.
 pub(crate) fn append_copies<T: Share + Drop>(
     items: &mut Vec<T>,
     more: &[T],
@@ -313,7 +316,8 @@ pub(crate) fn append_copies<T: Share + Drop>(
     Ok(())
 }
 
-// Makes room for the rest of a part where a vector would grow past that.
+// Reserves exactly the capacity of a whole chunk once the vector is more than half of one, in place of
+// doubling past it.
 fn make_room<T>(items: &mut Vec<T>) -> Result<(), AllocError>
     requires { length items.old.items < longest_part }
     ensures { items.new.items ≡ items.old.items }
@@ -325,7 +329,7 @@ fn make_room<T>(items: &mut Vec<T>) -> Result<(), AllocError>
     Ok(())
 }
 
-// Puts the elements of the last closed part before those behind it, where one part has room for all.
+// Moves the last sealed chunk back to the front of the tail if both fit in one chunk.
 fn take_back<T: Share + Drop>(
     closed: &mut Vec<Part<T>>,
     last: &mut Vec<T>,
@@ -349,7 +353,7 @@ fn take_back<T: Share + Drop>(
     Ok(())
 }
 
-// Makes a part of the last elements.
+// Seals the tail: it becomes the last sealed chunk, and the tail is empty.
 fn close<T: Drop>(closed: &mut Vec<Part<T>>, last: &mut Vec<T>) -> Result<(), AllocError>
     requires part { IsPart last.old }
     requires parts { All IsPart closed.old.items }

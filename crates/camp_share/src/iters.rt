@@ -1,3 +1,4 @@
+//! Iterators over lists in chunks.
 ghost use Rattle.std.specs.Prelude.{◌≡◌, ◌++◌, length};
 ghost use Rattle.std.specs.List.{All};
 ghost use Rattle.std.specs.Iterator.{at_most};
@@ -9,8 +10,8 @@ use crate::growing::Part;
 use std::iter::FusedIterator;
 use std::marker::Model;
 
-// The elements of a list that grows at its end that are still to come: those of one part, of closed
-// parts and of the last one.
+// Iterates over a list that grows at its end: the rest of the current chunk, the sealed chunks after it, and
+// the tail.
 #[derive(Drop)]
 pub(crate) struct Steps<'a, T> {
     part: &'a [T],
@@ -74,7 +75,7 @@ impl<'a, T> Iterator for Steps<'a, T> {
     }
 }
 
-/// The elements of a list that are still to come, from the first to the last.
+/// Iterates over the elements of a list in order.
 #[derive(Drop)]
 pub struct Iter<'a, T> {
     part: &'a [T],
@@ -95,7 +96,7 @@ impl<'a, T> Model for Iter<'a, T> {
 }
 
 impl<'a, T> Iter<'a, T> {
-    // Those of a part, of the parts behind it and of the last part.
+    // Iterates over the rest of a chunk, the chunks after it and a last chunk.
     pub(crate) fn new(part: &'a [T], parts: Steps<'a, Part<T>>, last: &'a [T]) -> Iter<'a, T>
         requires { All IsPart parts }
         ensures rest { result ≡ (part.now ++ joined parts.entry) ++ last.now }
@@ -104,7 +105,7 @@ impl<'a, T> Iter<'a, T> {
         Iter { part, parts, last }
     }
 
-    // Those of one part.
+    // Iterates over one chunk.
     pub(crate) fn of_part(part: &'a [T]) -> Iter<'a, T>
         ensures rest { result ≡ part.now }
         ensures runs { ShowsInOrder (deref {X = T}) }
@@ -142,7 +143,7 @@ impl<'a, T> Iterator for Iter<'a, T> {
 
 impl<'a, T> FusedIterator for Iter<'a, T> {}
 
-// Whether the elements of a list are equal to those of another one, which has as many.
+// True if two lists of the same length have equal elements.
 pub(crate) fn are_equal<T: PartialEq>(mine: Iter<'_, T>, others: Iter<'_, T>) -> bool
     requires { length mine ≡ length others }
     ensures { result ≡ pointwise T.eq mine.entry others.entry }

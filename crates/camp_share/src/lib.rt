@@ -1,4 +1,4 @@
-//! Values that are copied by a count: one value, lists in parts, and sorted maps over them.
+//! Reference-counted values that share what did not change: single values, lists in chunks, and sorted maps over them.
 #![tactic(auto)]
 
 mod changes;

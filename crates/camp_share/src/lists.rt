@@ -1,3 +1,4 @@
+//! The shared list: chunks in a tree, and a last chunk outside it.
 ghost use Rattle.std.specs.Prelude.{◌≡◌, ◌+◌, ◌<◌, ◌≤◌, ◌^◌, ◌==◌, List, [], ◌∷◌, ◌++◌, length, take, drop, slice_get, slice_range, slice_set, IfOk};
 ghost use Rattle.std.specs.List.{splice, insert, remove};
 ghost use Rattle.std.specs.Cow.{cow_slice_items};
@@ -13,8 +14,8 @@ use std::alloc::{AllocError, Global};
 use std::borrow::CowSlice;
 use std::marker::Model;
 
-/// A list in parts of up to 24 elements, which it shares with the lists that it was made from. The
-/// last part stands apart; all parts before it are shared by one count.
+/// A list in chunks of up to 24 elements, which it shares with the lists that it was made from. The last
+/// chunk is held apart from the others; all chunks before it share one reference count.
 #[derive(Drop)]
 pub struct SharedList<T> {
     front: Front<T>,
@@ -34,7 +35,7 @@ impl<T> Model for SharedList<T> {
 }
 
 impl<T> SharedList<T> {
-    /// The list without an element.
+    /// Makes an empty list.
     pub fn new(alloc: Global) -> SharedList<T>
         ensures exact { result ≡ [] }
     {
@@ -46,28 +47,28 @@ impl<T> SharedList<T> {
         }
     }
 
-    /// How many elements the list has.
+    /// Returns the number of elements.
     pub fn len(&self) -> usize
         ensures exact { result ≡ length self.now }
     {
         self.len
     }
 
-    /// Whether the list has no element.
+    /// True if the list has no elements.
     pub fn is_empty(&self) -> bool
         ensures exact { result ≡ (length self.now == 0) }
     {
         self.len == 0
     }
 
-    /// The element at a place.
+    /// Returns the element at `index`, or `None` past the end.
     pub fn get(&self, index: usize) -> Option<&T>
         ensures exact { option_copied result ≡ slice_get self.now index }
     {
         self.iter_from(index).next()
     }
 
-    /// The elements from the first to the last.
+    /// Iterates over the elements in order.
     pub fn iter(&self) -> Iter<'_, T>
         ensures rest { result ≡ self.now }
         ensures runs { ShowsInOrder (deref {X = T}) }
@@ -75,7 +76,7 @@ impl<T> SharedList<T> {
         self.front.iter_from(0, self.last.items())
     }
 
-    /// The elements from a place to the last.
+    /// Iterates over the elements from index `from` on; none past the end.
     pub fn iter_from(&self, from: usize) -> Iter<'_, T>
         ensures rest { result ≡ drop from self.now }
         ensures runs { ShowsInOrder (deref {X = T}) }
@@ -92,29 +93,28 @@ impl<T> SharedList<T> {
         Iter::of_part(&last[place..])
     }
 
-    /// The allocator of the list.
+    /// Returns the allocator of the list.
     pub fn allocator(&self) -> Global {
         self.alloc
     }
 }
 
 impl<T: Share + Drop> SharedList<T> {
-    /// The list of copies of these elements.
+    /// Makes a list of copies of `items`.
     pub fn from_items(alloc: Global, items: &[T]) -> Result<SharedList<T>, AllocError>
         ensures exact { IfOk result (λ list. list ≡ items.now) }
     {
         SharedList::new(alloc).spliced(0, 0, items)
     }
 
-    /// Copies of all elements, in one vector.
+    /// Copies all elements into one vector.
     pub fn to_vec(&self) -> Result<Vec<T>, AllocError>
         ensures exact { IfOk result (λ items. items.items ≡ self.now) }
     {
         self.range_to_vec(0, self.len)
     }
 
-    /// The elements from one place up to another. They are lent where all of them stand in the last part,
-    /// and copied where they don't.
+    /// Returns the elements `from..to`: borrowed if all of them are in the last chunk, else copied.
     pub fn range(&self, from: usize, to: usize) -> Result<CowSlice<'_, T>, AllocError>
         requires range { from ≤ to }
         requires within { to ≤ length self.now }
@@ -128,7 +128,7 @@ impl<T: Share + Drop> SharedList<T> {
         Ok(CowSlice::Borrowed(items))
     }
 
-    /// Copies of the elements from one place up to another, in one vector.
+    /// Copies the elements `from..to` into one vector.
     pub fn range_to_vec(&self, from: usize, to: usize) -> Result<Vec<T>, AllocError>
         requires range { from ≤ to }
         requires within { to ≤ length self.now }
@@ -141,14 +141,14 @@ impl<T: Share + Drop> SharedList<T> {
         Ok(items)
     }
 
-    /// The list with one element more at its end.
+    /// Returns the list with one element appended.
     pub fn pushed(&self, item: T) -> Result<SharedList<T>, AllocError>
         ensures exact { IfOk result (λ list. list ≡ self.now ++ item ∷ []) }
     {
         self.inserted(self.len, item)
     }
 
-    /// The list with one element more before the one at a place.
+    /// Returns the list with an element inserted before index `index`.
     pub fn inserted(&self, index: usize, item: T) -> Result<SharedList<T>, AllocError>
         requires { index ≤ length self.now }
         ensures exact { IfOk result (λ list. list ≡ insert self.now index item) }
@@ -156,7 +156,7 @@ impl<T: Share + Drop> SharedList<T> {
         self.with_one(index, index, item)
     }
 
-    // The list with one element in place of those from one place up to another.
+    // Returns the list with one element in place of `from..to`.
     fn with_one(&self, from: usize, to: usize, item: T) -> Result<SharedList<T>, AllocError>
         requires range { from ≤ to }
         requires within { to ≤ length self.now }
@@ -183,7 +183,7 @@ impl<T: Share + Drop> SharedList<T> {
         })
     }
 
-    /// The list with copies of these elements in place of those from one place up to another.
+    /// Returns the list with copies of `items` in place of the elements `from..to`.
     pub fn spliced(&self, from: usize, to: usize, items: &[T]) -> Result<SharedList<T>, AllocError>
         requires range { from ≤ to }
         requires within { to ≤ length self.now }
@@ -201,7 +201,7 @@ impl<T: Share + Drop> SharedList<T> {
         })
     }
 
-    /// The list with another element at a place.
+    /// Returns the list with another element at `index`.
     pub fn replaced(&self, index: usize, item: T) -> Result<SharedList<T>, AllocError>
         requires { index < length self.now }
         ensures exact { IfOk result (λ list. list ≡ slice_set self.now index item) }
@@ -210,7 +210,7 @@ impl<T: Share + Drop> SharedList<T> {
         self.with_one(index, index + 1, item)
     }
 
-    /// The list without the element at a place.
+    /// Returns the list without the element at `index`.
     pub fn without(&self, index: usize) -> Result<SharedList<T>, AllocError>
         requires { index < length self.now }
         ensures exact { IfOk result (λ list. list ≡ remove self.now index) }
@@ -219,7 +219,7 @@ impl<T: Share + Drop> SharedList<T> {
         self.spliced(index, index + 1, &[])
     }
 
-    /// A list of the elements from one place up to another.
+    /// Returns the list of the elements `from..to`; shares their whole chunks.
     pub fn copied(&self, from: usize, to: usize) -> Result<SharedList<T>, AllocError>
         requires range { from ≤ to }
         requires within { to ≤ length self.now }
@@ -263,7 +263,7 @@ impl<T: PartialEq> PartialEq for SharedList<T> {
 }
 
 impl<T: PartialEq> SharedList<T> {
-    /// Whether these elements stand in the list from a place on.
+    /// True if `items` are the elements of the list from index `from` on.
     pub fn has_at(&self, from: usize, items: &[T]) -> bool
         ensures exact { result ≡ pointwise T.eq (take (length items.now) (drop from self.now)) items.now }
     {

@@ -1,3 +1,4 @@
+//! The sorted map over shared entries, and the builder that fills one.
 ghost use Rattle.std.specs.Prelude.{◌≡◌, ◌==◌, if◌then◌else◌, T as Holds, IfOk, OnErr, OnOk, slice_get};
 ghost use Rattle.std.specs.Option.{option_copied};
 ghost use Rattle.std.specs.FinMap as map;
@@ -19,13 +20,13 @@ use crate::{Iter, Share};
 use std::alloc::{AllocError, Global};
 use std::marker::Model;
 
-/// A key of a map: only equal keys tie in their order.
+/// A key of a map: a total order in which only equal keys compare as equal.
 pub trait Key: Ord + Share + Drop {
     ghost same: { IsAntisymmetric Self.cmp };
 }
 
-/// A map in the order of its keys. What never had more than 24 entries is one part. Other maps are in
-/// parts of up to 24, and share those that a change leaves whole.
+/// A map sorted by its keys. A map that never had more than 24 entries is one chunk; any other is a chunk
+/// tree, and shares the chunks that a change leaves whole.
 #[derive(Drop)]
 pub struct SharedMap<K: Key, V> {
     entries: Entries<(K, V)>,
@@ -45,7 +46,7 @@ impl<K: Key, V> Model for SharedMap<K, V> {
 }
 
 impl<K: Key, V> SharedMap<K, V> {
-    /// The map without an entry.
+    /// Makes an empty map.
     pub fn new(alloc: Global) -> SharedMap<K, V>
         ensures exact { map_of K.cmp result ≡ map.empty }
     {
@@ -55,7 +56,7 @@ impl<K: Key, V> SharedMap<K, V> {
         }
     }
 
-    /// How many entries the map has.
+    /// Returns the number of entries.
     pub fn len(&self) -> usize
         ensures value { result ≡ map.len (map_of K.cmp self.now) }
         ensures ordered { Holds (is_sorted K.cmp self.now) }
@@ -63,21 +64,21 @@ impl<K: Key, V> SharedMap<K, V> {
         self.entries.len()
     }
 
-    /// Whether the map has no entry.
+    /// True if the map has no entries.
     pub fn is_empty(&self) -> bool
         ensures exact { result ≡ (map.len (map_of K.cmp self.now) == 0) }
     {
         self.len() == 0
     }
 
-    /// The entry at a place in the order of the keys.
+    /// Returns the entry at `index` in the order of the keys, or `None` past the end.
     pub fn at(&self, index: usize) -> Option<&(K, V)>
         ensures exact { option_copied result ≡ slice_get (map.entries (map_of K.cmp self.now)) index }
     {
         self.entries.get(index)
     }
 
-    /// The entries in the order of the keys.
+    /// Iterates over the entries in the order of the keys.
     pub fn iter(&self) -> Iter<'_, (K, V)>
         ensures rest { result ≡ map.entries (map_of K.cmp self.now) }
         ensures runs { ShowsInOrder (deref {X = K × V}) }
@@ -85,7 +86,7 @@ impl<K: Key, V> SharedMap<K, V> {
         self.entries.iter()
     }
 
-    /// The value of a key.
+    /// Returns the value of a key, or `None` if the map does not contain it.
     pub fn get(&self, key: &K) -> Option<&V>
         ensures exact { option_copied result ≡ map.get (map_of K.cmp self.now) key.now }
     {
@@ -95,19 +96,19 @@ impl<K: Key, V> SharedMap<K, V> {
         }
     }
 
-    /// Whether the map has the key.
+    /// True if the map contains the key.
     pub fn contains_key(&self, key: &K) -> bool
         ensures exact { result ≡ map.contains_key (map_of K.cmp self.now) key.now }
     {
         self.get(key).is_some()
     }
 
-    /// The allocator of the map.
+    /// Returns the allocator of the map.
     pub fn allocator(&self) -> Global {
         self.alloc
     }
 
-    // The map of these entries.
+    // Makes the map of sorted entries.
     fn of(alloc: Global, entries: Entries<(K, V)>) -> SharedMap<K, V>
         requires { Holds (is_sorted K.cmp (entries_of entries)) × IsForm entries }
         ensures { result ≡ entries_of entries }
@@ -116,7 +117,7 @@ impl<K: Key, V> SharedMap<K, V> {
     }
 }
 
-// The value of a key in a part.
+// Finds the value of a key in one chunk.
 fn value_in_part<'a, K: Key, V>(entries: &'a [(K, V)], key: &K) -> Option<&'a V>
     requires { Holds (is_sorted K.cmp entries.now) }
     ensures { option_copied result ≡ find K.cmp key.now entries.now }
@@ -127,7 +128,7 @@ fn value_in_part<'a, K: Key, V>(entries: &'a [(K, V)], key: &K) -> Option<&'a V>
     }
 }
 
-// The value of a key in a list in parts.
+// Finds the value of a key in a chunk tree.
 fn value_in_parts<'a, K: Key, V>(list: &'a PartList<(K, V)>, key: &K) -> Option<&'a V>
     requires { Holds (is_sorted K.cmp list.now) }
     ensures { option_copied result ≡ find K.cmp key.now list.now }
@@ -137,7 +138,7 @@ fn value_in_parts<'a, K: Key, V>(list: &'a PartList<(K, V)>, key: &K) -> Option<
 }
 
 impl<K: Key, V: Share + Drop> SharedMap<K, V> {
-    /// The map in which the key has the value, whether or not it had one.
+    /// Returns the map in which the key has this value; replaces the value that it had.
     pub fn inserted(&self, key: K, value: V) -> Result<SharedMap<K, V>, AllocError>
         ensures exact { IfOk result (λ new. map_of K.cmp new ≡ map.insert (map_of K.cmp self.now) key value) }
     {
@@ -148,7 +149,7 @@ impl<K: Key, V: Share + Drop> SharedMap<K, V> {
         Ok(SharedMap::of(self.alloc, entries))
     }
 
-    /// The map in which the key has the value that it had, or else this one.
+    /// Returns the map in which the key has this value, or the same map if it contains the key.
     pub fn inserted_if_absent(&self, key: K, value: V) -> Result<SharedMap<K, V>, AllocError>
         ensures exact { IfOk result (λ new. map_of K.cmp new ≡ (if map.contains_key (map_of K.cmp self.now) key then map_of K.cmp self.now else map.insert (map_of K.cmp self.now) key value)) }
     {
@@ -159,7 +160,7 @@ impl<K: Key, V: Share + Drop> SharedMap<K, V> {
         }
     }
 
-    /// The map without the key, whether or not it had it.
+    /// Returns the map without the key; the same map if it does not contain it.
     pub fn without(&self, key: &K) -> Result<SharedMap<K, V>, AllocError>
         ensures exact { IfOk result (λ new. map_of K.cmp new ≡ map.remove (map_of K.cmp self.now) key.now) }
     {
@@ -171,7 +172,7 @@ impl<K: Key, V: Share + Drop> SharedMap<K, V> {
     }
 }
 
-// The entries of a part, in which the key has the value.
+// Inserts an entry into one chunk of entries, or replaces the one with its key.
 fn inserted_in_part<K: Key, V: Share + Drop>(
     alloc: Global,
     part: &OnePart<(K, V)>,
@@ -190,7 +191,7 @@ fn inserted_in_part<K: Key, V: Share + Drop>(
     Entries::of_part(alloc, new)
 }
 
-// The list in parts, in which the key has the value.
+// Inserts an entry into a chunk tree, or replaces the one with its key.
 fn inserted_in_parts<K: Key, V: Share + Drop>(
     list: &PartList<(K, V)>,
     key: K,
@@ -217,7 +218,7 @@ fn inserted_in_parts<K: Key, V: Share + Drop>(
     }
 }
 
-// The entries of a part without the key.
+// Removes the entry of a key from one chunk of entries.
 fn removed_in_part<K: Key, V: Share + Drop>(
     alloc: Global,
     part: &OnePart<(K, V)>,
@@ -235,7 +236,7 @@ fn removed_in_part<K: Key, V: Share + Drop>(
     Entries::of_part(alloc, new)
 }
 
-// The list in parts without the key.
+// Removes the entry of a key from a chunk tree.
 fn removed_in_parts<K: Key, V: Share + Drop>(
     list: &PartList<(K, V)>,
     key: &K,
@@ -275,8 +276,8 @@ impl<K: Key, V: PartialEq> PartialEq for SharedMap<K, V> {
     }
 }
 
-/// Entries that are put into a map one after the other, each where it stands. They are in one vector,
-/// and become parts once all are there: where they are few, the vector is the one part.
+/// Builds a map entry by entry. The entries stand sorted in one vector and are divided into chunks at the
+/// end; up to 24 of them become one chunk without a copy.
 #[derive(Drop)]
 pub struct MapBuilder<K: Key, V> {
     entries: Vec<(K, V)>,
@@ -294,7 +295,7 @@ impl<K: Key, V> Model for MapBuilder<K, V> {
 }
 
 impl<K: Key, V: Share + Drop> MapBuilder<K, V> {
-    /// Gives the key this value, where it has none. Where memory is refused, the entries are as they were.
+    /// Inserts an entry unless the builder contains its key. Out of memory leaves the entries unchanged.
     pub fn insert_if_absent(&mut self, key: K, value: V) -> Result<(), AllocError>
         ensures exact { OnOk result (map_of K.cmp self.new ≡ (if map.contains_key (map_of K.cmp self.old) key then map_of K.cmp self.old else map.insert (map_of K.cmp self.old) key value)) }
         ensures err { OnErr result (self.new ≡ self.old) }
@@ -308,7 +309,7 @@ impl<K: Key, V: Share + Drop> MapBuilder<K, V> {
         }
     }
 
-    /// The entries of a map, to which others may come.
+    /// Starts with the entries of a map.
     pub fn from_map(map: &SharedMap<K, V>) -> Result<MapBuilder<K, V>, AllocError>
         ensures exact { IfOk result (λ builder. map_of K.cmp builder ≡ map_of K.cmp map.now) }
     {
@@ -316,7 +317,7 @@ impl<K: Key, V: Share + Drop> MapBuilder<K, V> {
         Ok(MapBuilder { entries })
     }
 
-    /// The map of the entries.
+    /// Builds the map of the entries.
     pub fn into_map(self) -> Result<SharedMap<K, V>, AllocError>
         ensures exact { IfOk result (λ map. map_of K.cmp map ≡ map_of K.cmp self) }
     {

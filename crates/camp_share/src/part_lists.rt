@@ -1,3 +1,4 @@
+//! The chunk tree: a list whose chunks are grouped in chunks.
 ghost use Rattle.std.specs.Prelude.{◌≡◌, ◌+◌, ◌<◌, ◌≤◌, ◌^◌, ◌++◌, List, length, drop, slice_get, slice_range, IfOk, IfSome};
 ghost use Rattle.std.specs.List.{All, splice};
 ghost use Rattle.camp_share.specs.Inside.Parts.{joined, IsPart};
@@ -11,8 +12,9 @@ use crate::{Iter, Share};
 use std::alloc::{AllocError, Global};
 use std::marker::Model;
 
-// A list in parts of up to 24 elements, which it shares with the lists that it was made from. It is
-// copied by a count for each part of parts, and for each of the up to 24 parts behind them.
+// A list in chunks of up to 24 elements, which it shares with the lists that it was made from. The chunks are
+// grouped in sealed chunks of up to 24; a copy increments one count for each of these groups, and one for
+// each of the up to 24 chunks after them.
 #[derive(Drop)]
 pub(crate) struct PartList<T> {
     parts: Growing<Part<T>>,
@@ -32,21 +34,21 @@ impl<T> Model for PartList<T> {
 }
 
 impl<T> PartList<T> {
-    // How many elements the list has.
+    // Returns the number of elements.
     pub(crate) fn len(&self) -> usize
         ensures exact { result ≡ length self.now }
     {
         self.len
     }
 
-    // The element at a place.
+    // Returns the element at `index`, or `None` past the end.
     pub(crate) fn get(&self, index: usize) -> Option<&T>
         ensures exact { option_copied result ≡ slice_get self.now index }
     {
         self.iter_from(index, &[]).next()
     }
 
-    // The elements from the first to the last.
+    // Iterates over the elements in order.
     pub(crate) fn iter(&self) -> Iter<'_, T>
         ensures rest { result ≡ self.now }
         ensures runs { ShowsInOrder (deref {X = T}) }
@@ -54,7 +56,7 @@ impl<T> PartList<T> {
         Iter::new(&[], self.parts.iter(), &[])
     }
 
-    // The elements from a place to the last, and others behind them.
+    // Iterates over the elements from index `from` on, and then over `last`.
     pub(crate) fn iter_from<'a>(&'a self, from: usize, last: &'a [T]) -> Iter<'a, T>
         ensures rest { result ≡ drop from self.now ++ last.now }
         ensures runs { ShowsInOrder (deref {X = T}) }
@@ -73,7 +75,8 @@ impl<T> PartList<T> {
         Iter::new(&[], parts, last)
     }
 
-    // The same where the place is in one of the last parts: these are passed from the end.
+    // The same if `from` lies in one of the chunks after the groups, which are searched from the end; else
+    // `None`.
     fn near_end<'a>(&'a self, from: usize, last: &'a [T]) -> Option<Iter<'a, T>>
         ensures { IfSome result (λ it. (it ≡ drop from self.now ++ last.now) × ShowsInOrder (deref {X = T})) }
     {
@@ -93,12 +96,12 @@ impl<T> PartList<T> {
         None
     }
 
-    // The allocator of the list.
+    // Returns the allocator of the list.
     pub(crate) fn allocator(&self) -> Global {
         self.parts.allocator()
     }
 
-    // The parts, one after the other.
+    // Returns the chunks.
     pub(crate) fn parts(&self) -> &Growing<Part<T>>
         ensures items { joined result.now ≡ self.now }
         ensures parts { All IsPart result.now }
@@ -108,7 +111,7 @@ impl<T> PartList<T> {
         &self.parts
     }
 
-    // The list of parts that have so many elements.
+    // Makes the list of chunks that have `len` elements together.
     pub(crate) fn of_parts(parts: Growing<Part<T>>, len: usize) -> PartList<T>
         requires parts { All IsPart parts }
         requires len { len ≡ length (joined parts) }
@@ -119,7 +122,7 @@ impl<T> PartList<T> {
 }
 
 impl<T: Share + Drop> PartList<T> {
-    // The list of copies of these elements.
+    // Makes a list of copies of `items`.
     pub(crate) fn from_items(alloc: Global, items: &[T]) -> Result<PartList<T>, AllocError>
         ensures exact { IfOk result (λ list. list ≡ items.now) }
     {
@@ -132,7 +135,7 @@ impl<T: Share + Drop> PartList<T> {
         })
     }
 
-    // Copies of all elements, in one vector.
+    // Copies all elements into one vector.
     pub(crate) fn to_vec(&self) -> Result<Vec<T>, AllocError>
         ensures exact { IfOk result (λ items. items.items ≡ self.now) }
     {
@@ -143,7 +146,7 @@ impl<T: Share + Drop> PartList<T> {
         Ok(items)
     }
 
-    // The list with copies of these elements in place of those from one place up to another.
+    // Returns the list with copies of `items` in place of the elements `from..to`.
     pub(crate) fn spliced(
         &self,
         from: usize,
@@ -169,7 +172,7 @@ impl<T: Share + Drop> PartList<T> {
         Ok(PartList { parts, len })
     }
 
-    // A list of the elements from one place up to another.
+    // Returns the list of the elements `from..to`; shares their whole chunks.
     pub(crate) fn copied(&self, from: usize, to: usize) -> Result<PartList<T>, AllocError>
         requires range { from ≤ to }
         requires within { to ≤ length self.now }

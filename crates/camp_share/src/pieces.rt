@@ -1,3 +1,4 @@
+//! The two pieces of a shared list: the chunk tree in front, and the last chunk.
 ghost use Rattle.std.specs.Prelude.{◌≡◌, ◌<◌, ◌≤◌, [], ◌∷◌, ◌++◌, length, drop, Ok, IfOk};
 ghost use Rattle.std.specs.List.{remove, splice};
 ghost use Rattle.std.specs.Map.Iter.{ShowsInOrder, deref};
@@ -8,10 +9,10 @@ use crate::{Iter, Share, Shared};
 use std::alloc::{AllocError, Global};
 use std::marker::Model;
 
-// So many elements may stand apart behind others.
+// Elements that the last chunk may hold if other chunks are before it.
 const FEW: usize = 12;
 
-// The elements of a list before its last part, which lists share by one count.
+// The elements before the last chunk of a list; lists share them by one reference count.
 #[derive(Drop)]
 pub(crate) struct Front<T> {
     list: Option<Shared<PartList<T>>>,
@@ -27,14 +28,14 @@ impl<T> Model for Front<T> {
 }
 
 impl<T> Front<T> {
-    // No element.
+    // Makes an empty front.
     pub(crate) fn empty() -> Front<T>
         ensures { result ≡ [] }
     {
         Front { list: None }
     }
 
-    // How many elements there are.
+    // Returns the number of elements.
     pub(crate) fn len(&self) -> usize
         ensures { result ≡ length self.now }
     {
@@ -44,7 +45,7 @@ impl<T> Front<T> {
         }
     }
 
-    // The elements from a place to the last, and others behind them.
+    // Iterates over the elements from index `from` on, and then over `last`.
     pub(crate) fn iter_from<'a>(&'a self, from: usize, last: &'a [T]) -> Iter<'a, T>
         ensures rest { result ≡ drop from self.now ++ last.now }
         ensures runs { ShowsInOrder (deref {X = T}) }
@@ -57,7 +58,7 @@ impl<T> Front<T> {
 }
 
 impl<T: Drop> Front<T> {
-    // The elements of a list in parts.
+    // Makes the front of a chunk tree.
     pub(crate) fn of(alloc: Global, list: PartList<T>) -> Result<Front<T>, AllocError>
         ensures { IfOk result (λ front. front ≡ list) }
     {
@@ -67,7 +68,7 @@ impl<T: Drop> Front<T> {
 }
 
 impl<T: Share + Drop> Front<T> {
-    // The elements with copies of others in place of those from one place up to another.
+    // Returns the elements with copies of `items` in place of `from..to`.
     pub(crate) fn spliced(
         &self,
         alloc: Global,
@@ -97,7 +98,7 @@ impl<T> Share for Front<T> {
     }
 }
 
-// One part that stands alone, or no element: the last part of a list, or all of a short map.
+// At most one chunk: the last chunk of a list, or all entries of a short map.
 #[derive(Drop)]
 pub(crate) struct OnePart<T> {
     part: Option<Part<T>>,
@@ -113,14 +114,14 @@ impl<T> Model for OnePart<T> {
 }
 
 impl<T> OnePart<T> {
-    // No element.
+    // Makes an empty one; does not allocate.
     pub(crate) fn empty() -> OnePart<T>
         ensures { result ≡ [] }
     {
         OnePart { part: None }
     }
 
-    // The elements.
+    // Returns the elements.
     pub(crate) fn items(&self) -> &[T]
         ensures { result.now ≡ self.now }
     {
@@ -132,7 +133,7 @@ impl<T> OnePart<T> {
 }
 
 impl<T: Drop> OnePart<T> {
-    // These elements. Where there are none, it takes no memory.
+    // Makes a chunk of the items; does not allocate if there are none.
     pub(crate) fn of(items: Vec<T>) -> Result<OnePart<T>, AllocError>
         ensures { IfOk result (λ last. last ≡ items.items) }
     {
@@ -146,7 +147,7 @@ impl<T: Drop> OnePart<T> {
 }
 
 impl<T: Share + Drop> OnePart<T> {
-    // The elements with one in place of those from one place up to another.
+    // Returns the elements with one in place of `from..to`.
     pub(crate) fn with_one(
         &self,
         alloc: Global,
@@ -166,7 +167,7 @@ impl<T: Share + Drop> OnePart<T> {
         OnePart::of(items)
     }
 
-    // The elements with copies of others in place of those from one place up to another.
+    // Returns the elements with copies of `new` in place of `from..to`.
     pub(crate) fn spliced(
         &self,
         alloc: Global,
@@ -186,7 +187,7 @@ impl<T: Share + Drop> OnePart<T> {
         OnePart::of(items)
     }
 
-    // The elements without the one at a place.
+    // Returns the elements without the one at an index.
     pub(crate) fn without(&self, alloc: Global, place: usize) -> Result<OnePart<T>, AllocError>
         requires { place < length self.now }
         ensures { IfOk result (λ last. last ≡ remove self.now place) }
@@ -208,7 +209,8 @@ impl<T> Share for OnePart<T> {
     }
 }
 
-// A front and a last part with copies of other elements in place of those from one place up to another.
+// Replaces the elements `from..to` of a front and a last chunk by copies of `items`. A change within one of
+// the two shares the other; a change of both joins them.
 pub(crate) fn spliced<T: Share + Drop>(
     front: &Front<T>,
     last: &OnePart<T>,
@@ -234,8 +236,8 @@ pub(crate) fn spliced<T: Share + Drop>(
     spliced_whole(list, alloc, from, to, items)
 }
 
-// The elements of a list with copies of others in place of those from one place up to another. Few that
-// are put at its end stand apart.
+// Replaces the elements `from..to` of a chunk tree by copies of `items`. Up to 12 items that are appended
+// become a last chunk.
 fn spliced_whole<T: Share + Drop>(
     list: PartList<T>,
     alloc: Global,
@@ -255,7 +257,7 @@ fn spliced_whole<T: Share + Drop>(
     both(Front::of(alloc, list), Ok(OnePart::empty()))
 }
 
-// Two values, where both could be made.
+// Pairs two values, or returns the first error.
 fn both<A: Drop, B: Drop>(
     first: Result<A, AllocError>,
     second: Result<B, AllocError>,
@@ -268,8 +270,8 @@ fn both<A: Drop, B: Drop>(
     Ok((first, second))
 }
 
-// Whether a last part may have so many elements in place of as many that go. It may have those of a
-// whole part where nothing stands before it.
+// True if the last chunk can take `new` elements in place of `gone` of its own: up to 24 in all if nothing is
+// before it, else up to 12.
 pub(crate) fn has_room<T>(border: usize, last: &OnePart<T>, gone: usize, new: usize) -> bool {
     let most = if border == 0 { MAX_PART_LENGTH } else { FEW };
     let kept = last.items().len().saturating_sub(gone);

@@ -1,3 +1,4 @@
+//! Binary search for a key: over groups of chunks, over the chunks of one group, and in a chunk.
 ghost use Rattle.std.specs.Prelude.{◌≡◌, ◌+◌, ◌<◌, ◌≤◌, ◌^◌, true, false, T as Holds, IfOk, IfErr, length};
 ghost use Rattle.std.specs.Fn.{FnReturnsAt};
 ghost use Rattle.std.specs.List.{All};
@@ -10,8 +11,8 @@ ghost use Rattle.camp_share.specs.Inside.Places.{ends_below, IsBorder, IsAt, Wou
 use crate::Key;
 use crate::growing::{Growing, Part, length_of};
 
-// The first part that has a key which is not below the given one, if there is one. Before it stand the
-// parts of some parts of parts, and so many more.
+// Finds the first chunk with a key that is not below `key`. Returns the groups of chunks before it, the
+// number of further chunks before it, and the chunk; `None` if all keys are below.
 pub(crate) fn part_for<'a, K: Key, V>(
     parts: &'a Growing<Part<(K, V)>>,
     key: &K,
@@ -30,7 +31,7 @@ pub(crate) fn part_for<'a, K: Key, V>(
     (&closed[..at], found, among.get(found))
 }
 
-// How many items stand before the first that is not passed, where those that are passed stand first.
+// Finds the partition point of items of which those that pass stand first: the number of items that pass.
 fn by_halves<T, F: Fn(&T) -> bool>(items: &[T], passed: F) -> usize
     requires { F.IsAlwaysCallable passed }
     ensures within { result ≤ length items.now }
@@ -49,14 +50,14 @@ fn by_halves<T, F: Fn(&T) -> bool>(items: &[T], passed: F) -> usize
     low
 }
 
-// Whether the last key of a part is below a key.
+// True if the last key of a chunk is below `key`.
 fn ends_below<K: Key, V>(part: &[(K, V)], key: &K) -> bool
     ensures { result ≡ ends_below K.cmp part.now key.now }
 {
     part.last().is_some_and(|entry| entry.0.cmp(key).is_lt())
 }
 
-// Where a key is among entries, or where it would be.
+// Searches sorted entries for a key: its index, or as an error the index at which it would be inserted.
 pub(crate) fn place_in<K: Key, V>(entries: &[(K, V)], key: &K) -> Result<usize, usize>
     requires { Holds (is_sorted K.cmp entries.now) }
     ensures range { IsSearchInRange result (length entries.now) }
@@ -66,7 +67,8 @@ pub(crate) fn place_in<K: Key, V>(entries: &[(K, V)], key: &K) -> Result<usize, 
     entries.binary_search_by(|entry| entry.0.cmp(key))
 }
 
-// The part that has the entry of a key and the entry's place there, or those where it would be.
+// Searches chunks for a key: the chunk and the position in it, or as an error those at which it would be
+// inserted.
 pub(crate) fn search<K: Key, V>(
     parts: &Growing<Part<(K, V)>>,
     key: &K,

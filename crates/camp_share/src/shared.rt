@@ -1,3 +1,4 @@
+//! The reference-counted value, and the trait of what is copied without copying its contents.
 ghost use Rattle.std.specs.Prelude.{◌≡◌, IfOk};
 
 use std::alloc::{AllocError, Global};
@@ -5,14 +6,14 @@ use std::marker::Model;
 use std::ops::Deref;
 use std::sync::Arc;
 
-/// What is copied without copying what it is made of: the copy and the first are one value.
+/// Values that are copied by counting references: a copy shares the contents of the first.
 pub trait Share: Sized {
-    /// A copy, which is equal.
+    /// Copies the value; the copy is equal.
     fn share(&self) -> Result<Self, AllocError>
         ensures { IfOk result (λ copy. copy ≡ self.now) };
 }
 
-/// A value with several owners, in any threads. It is given back with its last owner.
+/// A reference-counted value that threads can share. It is dropped with its last owner.
 #[derive(Debug, Drop)]
 pub struct Shared<T> {
     arc: Arc<T>,
@@ -27,7 +28,7 @@ impl<T> Model for Shared<T> {
 }
 
 impl<T: Drop> Shared<T> {
-    /// The value with its first owner. Where memory runs out, the value is dropped.
+    /// Allocates the value with its first owner. Out of memory drops the value.
     pub fn new(alloc: Global, value: T) -> Result<Shared<T>, AllocError>
         ensures exact { IfOk result (λ shared. shared ≡ value) }
     {
@@ -37,7 +38,7 @@ impl<T: Drop> Shared<T> {
 }
 
 impl<T> Share for Shared<T> {
-    /// One more owner. It takes no memory: an error is a count of owners that is full.
+    /// Increments the reference count; does not allocate. An error means that the count would overflow.
     fn share(&self) -> Result<Shared<T>, AllocError> {
         let arc = Arc::try_clone(&self.arc)?;
         Ok(Shared { arc })

@@ -1,30 +1,31 @@
--- How a list lies in parts.
+-- How a list is divided into chunks.
 use Rattle.std.specs.Prelude.{ℕ, ◌+◌, ◌<◌, ◌≤◌, List, [], Option, None, Some, length, take}
 use Rattle.std.specs.List.{flat_map}
 use Rattle.std.specs.declared.vec.Vec.{Vec}
 
--- elements of the longest part
+-- elements of the longest chunk
 abbrev pub longest_part : ℕ
 longest_part = 24
 
 module _ {X Z : Type 0} where
-  -- the elements of parts, one part after the other
+  -- the elements of all chunks in order
   abbrev pub joined : List (Vec X Z) → List X
   joined parts = flat_map (λ part. part.items) parts
 
-  -- a part has an element, and no more than the longest part
+  -- a chunk has 1 to 24 elements
   abbrev pub IsPart : Vec X Z → Type 0
   IsPart part = (0 < length part.items) × (length part.items ≤ longest_part)
 
-  -- how many elements stand before a place of a part
+  -- the index in the whole list of a position of a chunk
   abbrev pub offset : List (Vec X Z) → ℕ → ℕ → ℕ
   offset parts index place = length (joined (take index parts)) + place
 
-  -- a place of a part is not behind its end; there is one place behind the last part
+  -- a position of a chunk is at most its length; the position 0 of the chunk after the last one is the end of
+  -- the list
   abbrev pub IsPlace : List (Vec X Z) → ℕ → ℕ → Type 0
   IsPlace parts index place = (index ≤ length parts) × (offset parts index place ≤ length (joined (take (index + 1) parts)))
 
-  -- the elements of a part, or none
+  -- the elements of a chunk, or none
   abbrev pub held_part : Option (Vec X Z) → List X
   held_part None = []
   held_part (Some part) = part.items
