@@ -1,32 +1,33 @@
--- What a change that may not apply, or may want memory, answers and leaves; and what a search answers.
+-- The results of changes that may fail, and of searches.
 use Rattle.std.specs.Prelude.{◌≡◌, Bool, true, false, Option, None, Some, Result, Ok, Err}
 use Rattle.camp_base.specs.declared.faults.Apply.{Apply}
 use Rattle.camp_base.specs.declared.faults.Apply.TheVariants.{DoesNotApply, Memory}
 
--- Ok: the change led from the old value to the new one; DoesNotApply: it leads nowhere; Memory: it leads
--- somewhere, and memory ran out; after either error nothing has changed
+-- Ok: the change leads from the old value to the new one; DoesNotApply: it leads from the old value to none;
+-- Memory: it applies, but memory ran out; an error leaves the value unchanged
 abbrev pub Answers : {S : Type 0} → (S → S → Type 0) → S → Result (Unit {0}) Apply → S → Type 0
 Answers Change old (Ok done) new = Change old new
 Answers Change old (Err DoesNotApply) new = ((any : _) → ¬ (Change old any)) × (new ≡ old)
 Answers Change old (Err Memory) new = ((any : _) × Change old any) × (new ≡ old)
 
--- the same where only a trial with memory tells whether a change applies: Memory may come in place of any answer
+-- the same where only a trial that allocates can say whether the change applies: out of memory may be the
+-- result in any case
 abbrev pub AnswersByTrial : {S : Type 0} → (S → S → Type 0) → S → Result (Unit {0}) Apply → S → Type 0
 AnswersByTrial Change old (Ok done) new = Change old new
 AnswersByTrial Change old (Err DoesNotApply) new = ((any : _) → ¬ (Change old any)) × (new ≡ old)
 AnswersByTrial Change old (Err Memory) new = new ≡ old
 
--- true where the change leads from the old value to the new one; false where it leads nowhere, and then nothing has
--- changed
+-- true: the change leads from the old value to the new one; false: it leads to none, and the value is
+-- unchanged
 abbrev pub Changes : {S : Type 0} → (S → S → Type 0) → S → Bool → S → Type 0
 Changes Change old true new = Change old new
 Changes Change old false new = ((any : _) → ¬ (Change old any)) × (new ≡ old)
 
--- Some exactly where the relation has a result, and that one
+-- Some with a value in the relation, or None if no value is
 abbrev pub Finds : {X : Type 0} → (X → Type 0) → Option X → Type 0
 Finds Result None = (any : _) → ¬ (Result any)
 Finds Result (Some found) = Result found
 
--- the same where the result is a pair
+-- the same for pairs
 abbrev pub FindsPair : {X Y : Type 0} → (X → Y → Type 0) → Option (X × Y) → Type 0
 FindsPair Results found = Finds (λ pair. Results pair.0 pair.1) found

@@ -1,4 +1,4 @@
--- Words that serve only private functions and the model of names.
+-- Definitions that only private functions and the models of names and paths use.
 pub mod NameFields
 pub mod PathFields
 pub mod Steps

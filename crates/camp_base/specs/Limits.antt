@@ -1,22 +1,22 @@
--- Limits that several crates speak of.
+-- Limits that several crates use.
 use Rattle.std.specs.Prelude.{ℕ, ◌^◌}
 
--- changes in a patch; it has one at least
+-- changes of the longest patch; the shortest has one
 abbrev pub most_changes : ℕ
 most_changes = 64
 
--- bytes of a name
+-- bytes of the longest name
 abbrev pub longest_name : ℕ
 longest_name = 40
 
--- bytes of a path
+-- bytes of the longest path
 abbrev pub longest_path : ℕ
 longest_path = 200
 
--- bytes of a line
+-- bytes of the longest line
 abbrev pub longest_line : ℕ
 longest_line = 4_096
 
--- the line of a hunk and its old and new lines, counted together
+-- the greatest sum of the line of a hunk and the counts of its old and new lines
 abbrev pub greatest_reach : ℕ
 greatest_reach = 2 ^ 30

@@ -1,4 +1,4 @@
--- Bytes by the names of their signs in ASCII.
+-- Characters of ASCII by name.
 use Rattle.std.specs.Prelude.{ℕ, Bool, ◌&&◌, nat_le}
 
 -- a tab
@@ -29,7 +29,7 @@ dot = 46
 abbrev pub slash : ℕ
 slash = 47
 
--- `0`, and behind it the other digits
+-- `0`, followed by the other digits
 abbrev pub digit_zero : ℕ
 digit_zero = 48
 
@@ -45,30 +45,30 @@ backslash = 92
 abbrev pub underscore : ℕ
 underscore = 95
 
--- `a`, and behind it the other small letters
+-- `a`, followed by the other small letters
 abbrev pub small_a : ℕ
 small_a = 97
 
--- whether a byte lies from low to high
+-- a byte is in the range from low to high
 abbrev pub is_between : ℕ → ℕ → ℕ → Bool
 is_between low high byte = nat_le low byte && nat_le byte high
 
--- whether a byte is a decimal digit
+-- a byte is a decimal digit
 abbrev pub is_digit : ℕ → Bool
 is_digit byte = is_between digit_zero digit_nine byte
 
--- whether a byte is one of `A` to `Z`
+-- a byte is one of `A` to `Z`
 abbrev pub is_capital_letter : ℕ → Bool
 is_capital_letter byte = is_between 65 90 byte
 
--- whether a byte is one of `a` to `z`
+-- a byte is one of `a` to `z`
 abbrev pub is_small_letter : ℕ → Bool
 is_small_letter byte = is_between small_a 122 byte
 
--- whether a byte is a printing character of ASCII, and no space: `!` to `~`
+-- a byte is a printable character of ASCII but no space: `!` to `~`
 abbrev pub is_graphic : ℕ → Bool
 is_graphic byte = is_between 33 126 byte
 
--- whether a byte is such a character, or a space
+-- a byte is a printable character of ASCII: a space to `~`
 abbrev pub is_printing : ℕ → Bool
 is_printing byte = is_between space 126 byte

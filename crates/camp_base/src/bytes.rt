@@ -1,10 +1,11 @@
+//! The order of byte strings.
 ghost use Rattle.std.specs.Prelude.{◌≡◌};
 ghost use Rattle.std.specs.Ordering.{nat_cmp};
 ghost use Rattle.std.specs.Cmp.Lexicographic.{slice_cmp};
 
 use std::cmp::Ordering;
 
-/// The order of bytes: the first two that differ decide it, or else the lengths.
+/// Compares byte strings lexicographically: by the first two bytes that differ, else by length.
 pub(crate) fn order(bytes: &[u8], others: &[u8]) -> Ordering
     ensures { result ≡ slice_cmp nat_cmp bytes.now others.now }
 {

@@ -1,3 +1,4 @@
+//! The errors of names, paths, lines and trees.
 ghost use Rattle.std.specs.Prelude.{◌≡◌};
 ghost use Rattle.camp_base.specs.declared.faults.Apply.TheVariants as apply;
 ghost use Rattle.camp_base.specs.declared.faults.BaseFault.TheVariants as base;
@@ -5,7 +6,7 @@ ghost use Rattle.camp_base.specs.declared.faults.BaseFault.TheVariants as base;
 use std::alloc::{AllocError, AllocFailed};
 use thiserror::Error;
 
-/// Why bytes are no name, path or line.
+/// Why bytes are not a name, a path or a line.
 #[derive(Clone, Copy, PartialEq, Eq, Debug, Error)]
 pub enum BaseFault {
     #[error("bad name")]
@@ -18,7 +19,7 @@ pub enum BaseFault {
     Memory,
 }
 
-/// Why a change to a tree was not made. The tree is then as it was.
+/// Why a change was not applied to a tree. The tree is unchanged.
 #[derive(Clone, Copy, PartialEq, Eq, Debug, Error)]
 pub enum Apply {
     #[error("the change does not apply")]

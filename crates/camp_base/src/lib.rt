@@ -14,11 +14,11 @@ pub use names::Name;
 pub use paths::Path;
 pub use trees::Tree;
 
-/// The most bytes that a name has.
+/// Bytes of the longest name.
 pub const MAX_NAME_LENGTH: usize = 40;
 
-/// The most bytes that a path has.
+/// Bytes of the longest path.
 pub const MAX_PATH_LENGTH: usize = 200;
 
-/// The most bytes that a line has.
+/// Bytes of the longest line.
 pub const MAX_LINE_LENGTH: usize = 4_096;

@@ -1,3 +1,4 @@
+//! The line of a file.
 ghost use Rattle.std.specs.Prelude.{◌≡◌, ◌==◌, IfOk, IsTrue, not};
 ghost use Rattle.std.specs.List.{list_all};
 ghost use Rattle.std.specs.Cmp.Rules.{comparing};
@@ -13,7 +14,7 @@ use camp_share::{Share, Shared};
 use std::alloc::{AllocError, Global};
 use std::marker::Model;
 
-/// A line of a file, without its end: 0 to 4,096 bytes, none of them LF.
+/// A line of a file without its line feed: 0 to 4,096 bytes, none of them LF.
 #[derive(Debug, Drop)]
 pub struct Line {
     bytes: Shared<Vec<u8>>,
@@ -31,7 +32,7 @@ impl Model for Line {
 }
 
 impl Line {
-    /// The line of these bytes. Bytes that are no line are refused before memory is asked for.
+    /// Makes a line of these bytes. Bytes that are not a line are an error before anything is allocated.
     pub fn new(alloc: Global, bytes: &[u8]) -> Result<Line, BaseFault>
         ensures exact { Makes (is_line bytes.now) fault.BadLine bytes.now result }
     {
@@ -42,7 +43,7 @@ impl Line {
         Ok(Line { bytes })
     }
 
-    /// The bytes of the line.
+    /// Returns the bytes of the line.
     pub fn bytes(&self) -> &[u8]
         ensures value { result.now ≡ self.now }
         ensures form { IsTrue (is_line self.now) }
@@ -50,7 +51,7 @@ impl Line {
         &self.bytes
     }
 
-    /// The same line. It shares its bytes with this one and takes no memory.
+    /// Copies the line: increments one reference count; does not allocate.
     pub fn try_clone(&self) -> Result<Line, AllocError>
         ensures exact { IfOk result (λ copy. copy ≡ self.now) }
     {

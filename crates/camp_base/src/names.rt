@@ -1,3 +1,4 @@
+//! The name of a branch or a patch.
 ghost use Rattle.std.specs.Prelude.{◌≡◌, ◌==◌, if◌then◌else◌, IsTrue, Some, ⊤};
 ghost use Rattle.std.specs.List.{list_all};
 ghost use Rattle.std.specs.Ordering.{nat_cmp, as_partial_cmp};
@@ -19,8 +20,8 @@ use std::hash::{Hash, Hasher};
 use std::marker::Model;
 use std::{fmt, str};
 
-/// The name of a branch or a patch: 1 to 40 bytes of `a` to `z`, `0` to `9` and `-`, the first not
-/// `-`. Names are ordered by their bytes. A name stands in place and takes no memory.
+/// The name of a branch or a patch: 1 to 40 bytes of `a` to `z`, `0` to `9` and `-`, the first not `-`. Names
+/// are ordered by their bytes. A name is stored inline and does not allocate.
 #[derive(Debug)]
 pub struct Name {
     buffer: [u8; MAX_NAME_LENGTH],
@@ -66,7 +67,7 @@ impl Key for Name {
 }
 
 impl Name {
-    /// The name that the bytes spell. It takes no memory.
+    /// Makes the name that the bytes spell; does not allocate.
     pub fn new(bytes: &[u8]) -> Result<Name, BaseFault>
         ensures exact { result ≡ (if is_name bytes.now then Ok bytes.now else Err BaseFault.BadName) }
     {
@@ -81,7 +82,7 @@ impl Name {
         })
     }
 
-    /// The bytes of the name.
+    /// Returns the bytes of the name.
     pub fn bytes(&self) -> &[u8]
         ensures value { result.now ≡ self.now }
         ensures form { IsTrue (is_name self.now) }
@@ -89,8 +90,8 @@ impl Name {
         &self.buffer[..self.len as usize]
     }
 
-    // The number that the first eight bytes spell, zeros behind a shorter name. No byte of a name is zero, so where two names
-    // have different numbers, these order them.
+    // Returns the first eight bytes as a big-endian number, padded with zeros. No byte of a name is zero, so
+    // two names with different numbers are ordered by them.
     fn head(&self) -> u64
         ensures value { result ≡ spelt 8 0 self.now }
         ensures form { IsTrue (is_name self.now) }

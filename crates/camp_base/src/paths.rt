@@ -1,3 +1,4 @@
+//! The path of a file.
 ghost use Rattle.std.specs.Prelude.{◌≡◌, ◌==◌, IfOk, IsTrue, Some};
 ghost use Rattle.std.specs.List.{list_all};
 ghost use Rattle.std.specs.Ordering.{nat_cmp, as_partial_cmp};
@@ -21,13 +22,13 @@ use std::cmp::Ordering;
 use std::marker::Model;
 use std::{fmt, str};
 
-/// The path of a file: 1 to 200 bytes from 0x21 to 0x7e. The parts between `/` are not empty, not
-/// `.` and not `..`. Paths are plain keys, ordered by their bytes: `d` and `d/e` may both be files.
+/// The path of a file: 1 to 200 bytes from 0x21 to 0x7e. The components between `/` are not empty, not `.`
+/// and not `..`. Paths are plain keys, ordered by their bytes: `d` and `d/e` may both be files.
 #[derive(Debug, Drop)]
 pub struct Path {
     bytes: Shared<Vec<u8>>,
-    // The number that its last eight bytes spell. No byte of a path is zero, so where two paths have different numbers
-    // they differ, and where they are no longer than that they are told by it.
+    // The last eight bytes as a big-endian number, padded with zeros. No byte of a path is zero, so paths
+    // with different numbers differ, and paths of up to eight bytes are equal if their numbers are.
     tail: u64,
 }
 
@@ -43,7 +44,8 @@ impl Model for Path {
 }
 
 impl Path {
-    /// The path that the bytes spell. Bytes that are no path are refused before memory is asked for.
+    /// Makes the path that the bytes spell. Bytes that are not a path are an error before anything is
+    /// allocated.
     pub fn new(alloc: Global, bytes: &[u8]) -> Result<Path, BaseFault>
         ensures exact { Makes (is_path bytes.now) fault.BadPath bytes.now result }
     {
@@ -55,7 +57,7 @@ impl Path {
         Ok(Path { bytes, tail })
     }
 
-    /// The bytes of the path.
+    /// Returns the bytes of the path.
     pub fn bytes(&self) -> &[u8]
         ensures value { result.now ≡ self.now }
         ensures form { IsTrue (is_path self.now) }
@@ -63,7 +65,7 @@ impl Path {
         &self.bytes
     }
 
-    /// The same path. It shares its bytes with this one and takes no memory.
+    /// Copies the path: increments one reference count; does not allocate.
     pub fn try_clone(&self) -> Result<Path, AllocError>
         ensures exact { IfOk result (λ copy. copy ≡ self.now) }
     {
@@ -85,7 +87,7 @@ impl Key for Path {
     ghost same = { slice_cmp-IsAntisymmetric nat_cmp-IsAntisymmetric };
 }
 
-// The number that the last eight bytes spell, or all where there are fewer, with zeros behind them.
+// Computes the last eight bytes as a big-endian number; fewer bytes are padded with zeros at the end.
 fn tail_of(bytes: &[u8]) -> u64
     ensures { result ≡ spelt 8 0 (last_eight bytes.now) }
 {

@@ -1,3 +1,4 @@
+//! The tree: the files of a branch.
 ghost use Rattle.std.specs.Prelude.{◌≡◌, ◌==◌, ◌↔◌, IfOk, IsTrue, MatchOption, None, Some, slice_get};
 ghost use Rattle.std.specs.FinMap as map;
 ghost use Rattle.std.specs.Map.Iter.{ShowsInOrder, deref};
@@ -10,8 +11,8 @@ use camp_share::{Iter, Share, Shared, SharedList, SharedMap};
 use std::alloc::{AllocError, Global};
 use std::marker::Model;
 
-/// The files of a repository: each path with its lines, in the order of the bytes of the paths. A
-/// tree shares its files with the trees that it was made from.
+/// The files of a branch: each path with its lines, sorted by the bytes of the path. A tree shares its files
+/// with the trees that it was made from.
 #[derive(Drop)]
 pub struct Tree {
     files: SharedMap<Path, Shared<SharedList<Line>>>,
@@ -33,7 +34,7 @@ impl Model for Tree {
 }
 
 impl Tree {
-    /// The tree without a file.
+    /// Makes a tree without files.
     pub fn empty(alloc: Global) -> Tree
         ensures exact { result ≡ map.empty }
     {
@@ -42,21 +43,21 @@ impl Tree {
         }
     }
 
-    /// How many files the tree has.
+    /// Returns the number of files.
     pub fn len(&self) -> usize
         ensures exact { result ≡ map.len self.now }
     {
         self.files.len()
     }
 
-    /// Whether the tree has no file.
+    /// True if the tree has no files.
     pub fn is_empty(&self) -> bool
         ensures exact { result ≡ (map.len self.now == 0) }
     {
         self.len() == 0
     }
 
-    /// The lines of the file of a path.
+    /// Returns the lines of the file at a path, or `None` if there is no file.
     pub fn file(&self, path: &Path) -> Option<&SharedList<Line>>
         ensures exact { MatchOption result
             (map.get self.now path.now ≡ None)
@@ -66,8 +67,8 @@ impl Tree {
         Some(lines)
     }
 
-    /// The file at a place in the order of the paths: its path and its lines. It goes over the parts before it
-    /// each time; `iter` goes over all files in one pass.
+    /// Returns the file at `index` in the order of the paths, with its path; `None` past the end. Searches
+    /// the tree from its start each time; `iter` visits all files in one pass.
     pub fn at(&self, index: usize) -> Option<(&Path, &SharedList<Line>)>
         ensures exact { MatchOption result
             (slice_get (map.entries self.now) index ≡ None)
@@ -78,7 +79,7 @@ impl Tree {
         Some((&file.0, lines))
     }
 
-    /// The files in the order of their paths, each with its lines.
+    /// Iterates over the files in the order of their paths, each with its lines.
     pub fn iter(&self) -> Iter<'_, (Path, Shared<SharedList<Line>>)>
         ensures rest { result ≡ map.entries self.now }
         ensures runs { ShowsInOrder (deref {X = Path × Shared (SharedList Line)}) }
@@ -86,7 +87,7 @@ impl Tree {
         self.files.iter()
     }
 
-    /// Adds a file without lines.
+    /// Adds an empty file. The path must not have a file.
     pub fn add_file(&mut self, path: &Path) -> Result<(), Apply>
         ensures exact { Answers (Adds path.now) self.old result self.new }
     {
@@ -97,7 +98,7 @@ impl Tree {
         self.write(path, lines)
     }
 
-    /// Removes a file without lines.
+    /// Removes an empty file.
     pub fn remove_file(&mut self, path: &Path) -> Result<(), Apply>
         ensures exact { Answers (Removes path.now) self.old result self.new }
     {
@@ -107,8 +108,8 @@ impl Tree {
         }
     }
 
-    /// Puts new lines in place of old ones in the file of a path, where the old ones stand from a
-    /// line on. Lines are counted from 1.
+    /// Replaces the lines `old` of the file at a path by `new`, from line `line` on (counted from 1). The
+    /// file must have `old` there.
     pub fn splice(
         &mut self,
         path: &Path,
@@ -131,7 +132,7 @@ impl Tree {
         }
     }
 
-    /// Whether the other tree has the same files with the same lines. It takes no memory.
+    /// True if the two trees have the same files with the same lines; does not allocate.
     pub fn is_same(&self, other: &Tree) -> bool
         ensures exact { IsTrue result ↔ (self.now ≡ other.now) }
     {
@@ -141,7 +142,7 @@ impl Tree {
         self.files == other.files
     }
 
-    /// The same tree, which shares all its files with this one.
+    /// Copies the tree, which shares all its files with the copy.
     pub fn try_clone(&self) -> Result<Tree, AllocError>
         ensures exact { IfOk result (λ copy. copy ≡ self.now) }
     {
@@ -149,7 +150,7 @@ impl Tree {
         Ok(Tree { files })
     }
 
-    // Gives the file of a path its lines, whether or not the path had a file.
+    // Writes the lines of the file at a path, whether or not there was one.
     fn write(&mut self, path: &Path, lines: SharedList<Line>) -> Result<(), Apply>
         ensures { Steps (map.insert self.old path.now lines) self.old result self.new }
     {
@@ -158,7 +159,7 @@ impl Tree {
         Ok(())
     }
 
-    // Takes the file of a path away.
+    // Removes the file at a path.
     fn erase(&mut self, path: &Path) -> Result<(), Apply>
         ensures { Steps (map.remove self.old path.now) self.old result self.new }
     {
@@ -173,7 +174,7 @@ impl Share for Tree {
     }
 }
 
-// Whether lines stand in others from a line on, which counts from 1.
+// True if `old` are the lines from line `line` on (counted from 1).
 fn stands_at(lines: &SharedList<Line>, line: u32, old: &[Line]) -> bool
     ensures { IsTrue result ↔ StandsAt line old.now lines.now }
 {

@@ -1,4 +1,4 @@
--- When two primitives, one after the other, may commute, and what they become.
+-- When two primitives commute, and to which two.
 use Rattle.std.specs.Prelude.{◌≡◌, ◌≢◌, ℕ, ◌+◌, ◌<◌, ◌⊎◌, List, length}
 use Rattle.camp_prim.specs.Hunks.{Edit}
 use Rattle.camp_prim.specs.Effect.{InRange}
@@ -17,7 +17,7 @@ path_of (Hunk hunk) = hunk.path
 abbrev pub at_line : ℕ → Edit → Edit
 at_line line hunk = record { path = hunk.path; line = line; old = hunk.old; new = hunk.new }
 
--- two hunks may pass each other with this many lines between them: with none only where no side is empty
+-- two hunks with `gap` lines between them commute past each other; with none only if no side is empty
 abbrev pub MayPass : ℕ → Edit → Edit → Type 0
 MayPass gap h k = (0 < gap) ⊎ ((0 < length h.old) × (0 < length h.new) × (0 < length k.old) × (0 < length k.new))
 
@@ -27,8 +27,8 @@ pub record CommutesOnTwoPaths (p q q' p' : Primitive) : Type 0 where
   pub second : q' ≡ q
   pub first : p' ≡ p
 
--- h k <-> k' h, where k is the lower hunk: it stands a gap below the lines that h leaves, and k' as far below those
--- that h takes away
+-- h k <-> k' h, where k is the lower hunk: k is `gap` lines below what h leaves, and k' is `gap` lines below
+-- what h takes away
 pub record CommutesBelow (p q q' p' : Primitive) : Type 0 where
   pub h : Edit
   pub k : Edit
@@ -41,8 +41,8 @@ pub record CommutesBelow (p q q' p' : Primitive) : Type 0 where
   pub second : q' ≡ Hunk (at_line (h.line + length h.old + gap) k)
   pub first : p' ≡ p
 
--- h k <-> k h', where h is the lower hunk: it stands a gap below the lines that k takes away, and h' as far below
--- those that k leaves
+-- h k <-> k h', where h is the lower hunk: h is `gap` lines below what k takes away, and h' is `gap` lines
+-- below what k leaves
 pub record CommutesAbove (p q q' p' : Primitive) : Type 0 where
   pub h : Edit
   pub k : Edit
@@ -55,7 +55,7 @@ pub record CommutesAbove (p q q' p' : Primitive) : Type 0 where
   pub second : q' ≡ q
   pub first : p' ≡ Hunk (at_line (k.line + length k.new + gap) h)
 
--- p and then q commute and become q' and then p', whatever their labels are: one of the three cases
+-- p and then q commute to q' and then p', whatever their labels: one of the three cases
 abbrev pub PrimitivesCommute : Primitive → Primitive → Primitive → Primitive → Type 0
 PrimitivesCommute p q q' p' = CommutesOnTwoPaths p q q' p' ⊎ (CommutesBelow p q q' p' ⊎ CommutesAbove p q q' p')
 
@@ -75,6 +75,6 @@ pub record Commute (p q q' p' : Named) : Type 0 where
   pub anywhere : CommuteAnywhere p q q' p'
   pub ranges : AreInRange p.prim q.prim q'.prim p'.prim
 
--- p and the q behind it, each in its own place: p becomes p', and q becomes q'
+-- p and then q commute in place: p becomes p', and q becomes q'
 abbrev pub CommutesInPlace : Named × Named → Named × Named → Type 0
 CommutesInPlace old new = Commute old.0 old.1 new.1 new.0

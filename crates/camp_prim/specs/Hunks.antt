@@ -3,25 +3,25 @@ use Rattle.std.specs.Prelude.{ℕ, ◌+◌, ◌≤◌, List, length}
 use Rattle.camp_base.specs.Limits.{greatest_reach}
 use Rattle.camp_base.specs.Trees.{Lines}
 
--- in the file of a path, new lines in place of old ones
+-- the body of a hunk: the old lines of the file at a path are replaced by new ones
 pub record Replacement : Type 0 where
   pub path : List ℕ
   pub old : Lines
   pub new : Lines
 
--- at a line of the file of a path, counted from 1, new lines in place of old ones
+-- a hunk: the same at a line of the file, counted from 1
 pub record Edit : Type 0 where
   pub path : List ℕ
   pub line : ℕ
   pub old : Lines
   pub new : Lines
 
--- the hunk that has a body at a line
+-- the hunk of a body at a line
 abbrev pub hunk_of : Replacement → ℕ → Edit
 hunk_of body line = record { path = body.path; line = line; old = body.old; new = body.new }
 
--- a hunk that may stand in a patch: its line is counted from 1, one of its sides has lines, and its line and the
--- numbers of its old and new lines add up to 2^30 at most
+-- a hunk in range: its line is counted from 1, one of its sides has lines, and its line and the counts of its
+-- old and new lines add up to at most 2^30
 pub record IsInRange (hunk : Edit) : Type 0 where
   pub counted : 1 ≤ hunk.line
   pub changes : 1 ≤ length hunk.old + length hunk.new

@@ -1,4 +1,4 @@
--- Words that serve only private functions and the models of hunks and of their bodies.
+-- Definitions that only private functions and the models of hunks and bodies use.
 pub mod BodyFields
 pub mod HunkFields
 pub mod Targets

@@ -1,4 +1,4 @@
--- Labels: the name of a patch, a place in it, and a sign.
+-- Labels: the name of a patch, a position in it, and a sign.
 use Rattle.std.specs.Prelude.{◌≡◌, ℕ, Bool, not, List, refl}
 use Rattle.std.specs.declared.cmp.Ordering.{Ordering}
 use Rattle.std.specs.Ordering.{nat_cmp, bool_cmp, ordering_then}
@@ -12,7 +12,7 @@ use Rattle.camp_prim.specs.declared.named.Named.{Named}
 abbrev pub label_of : Named → Label
 label_of p = record { name = p.name; place = p.place; inverse = p.inverse }
 
--- the absolute label: name and place
+-- the absolute label: name and position
 abbrev pub key_of : Label → Key
 key_of l = record { name = l.name; place = l.place }
 
@@ -20,17 +20,17 @@ key_of l = record { name = l.name; place = l.place }
 abbrev pub opposite : Label → Label
 opposite l = record { name = l.name; place = l.place; inverse = not l.inverse }
 
--- keys in order: by the bytes of the name, then by place
+-- the order of keys: by the bytes of the name, then by position
 abbrev pub key_cmp : Key → Key → Ordering
 key_cmp a b = ordering_then (slice_cmp nat_cmp a.name b.name) (nat_cmp a.place b.place)
 
--- labels in order: by the bytes of the name, then by place, then the positive before the negative
+-- the order of labels: by the bytes of the name, then by position, then the positive before the negative
 abbrev pub label_cmp : Label → Label → Ordering
 label_cmp a b =
     ordering_then (slice_cmp nat_cmp a.name b.name)
     (ordering_then (nat_cmp a.place b.place) (bool_cmp a.inverse b.inverse))
 
--- the absolute labels of two primitives are equal
+-- two primitives have the same absolute label
 abbrev pub SameKey : Named → Named → Type 0
 SameKey p q = key_of (label_of p) ≡ key_of (label_of q)
 

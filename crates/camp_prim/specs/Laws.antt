@@ -6,19 +6,19 @@ use Rattle.camp_prim.specs.Effect.{inverse_of, Leads}
 use Rattle.camp_prim.specs.Commuting.{Commute, CommutesInPlace}
 use Rattle.camp_prim.specs.declared.named.Named.{Named}
 
--- what two primitives become when they commute is determined
+-- two primitives commute to at most one pair
 abbrev pub CommuteIsUnique : Type 0
 CommuteIsUnique = (p q q' p' r' o' : Named) → Commute p q q' p' → Commute p q r' o' → (q' ≡ r') × (p' ≡ o')
 
--- own inverse: p q <-> q' p' gives q' p' <-> p q
+-- own inverse: p q <-> q' p' implies q' p' <-> p q
 abbrev pub OwnInverse : Named → Named → Named → Named → Type 0
 OwnInverse p q q' p' = Commute q' p' p q
 
--- inverse: it gives q^ p^ <-> p'^ q'^
+-- inverse: p q <-> q' p' implies q^ p^ <-> p'^ q'^
 abbrev pub Inverse : Named → Named → Named → Named → Type 0
 Inverse p q q' p' = Commute (inverse_of q) (inverse_of p) (inverse_of p') (inverse_of q')
 
--- square: it gives p^ q' <-> q p'^
+-- square: p q <-> q' p' implies p^ q' <-> q p'^
 abbrev pub Square : Named → Named → Named → Named → Type 0
 Square p q q' p' = Commute (inverse_of p) q' q (inverse_of p')
 
@@ -33,16 +33,16 @@ pub record CommuteLaws (p q q' p' : Named) : Type 0 where
   pub square : Square p q q' p'
   pub effect : SameEffect p q q' p'
 
--- `commute` and `commute_in_place` agree: None is answered exactly where false is, and else both give the same two, of
--- which the second one leaves each in its place
+-- `commute` and `commute_in_place` agree: None exactly if false; else both give the same two primitives, the
+-- second function in place
 abbrev pub BothCommuteAlike : Type 0
 BothCommuteAlike =
     (p q p' q' : Named) (found : Option (Named × Named)) (done : Bool)
     → FindsPair (Commute p q) found → Changes CommutesInPlace (p, q) done (p', q')
     → found ≡ (if done then Some (q', p') else None)
 
--- the six orders of p q r, each one turn of neighbours from the next, round about:
---   p q r    q' p' r    q' r2 p2    y q2 p2    y p1 q1    p r1 q1    p q r
+-- the six orders of p q r, each from the last by commuting two neighbours:
+-- p q r    q' p' r    q' r2 p2    y q2 p2    y p1 q1    p r1 q1    p q r
 pub record SixOrders (Turns : Named → Named → Named → Named → Type 0)
     (p q r q' p' r1 q1 r2 p2 y p1 q2 : Named) : Type 0 where
   pub pq : Turns p q q' p'

@@ -1,3 +1,4 @@
+//! The body of a hunk: its path and its two sides, without the line.
 ghost use Rattle.std.specs.Prelude.{◌≡◌, IfOk};
 ghost use Rattle.camp_prim.specs.Inside.BodyFields.{held_lines};
 
@@ -7,8 +8,8 @@ use std::alloc::{AllocError, Global};
 use std::marker::Model;
 use std::slice;
 
-/// What a hunk does wherever it stands: in the file of a path, new lines in place of old ones.
-/// Hunks share it by one count.
+/// What a hunk does at whatever line it applies: replaces old lines by new ones in the file at a path. Hunks
+/// share one by a reference count.
 #[derive(Debug, Drop)]
 pub struct Body {
     parts: Shared<Parts>,
@@ -21,7 +22,7 @@ struct Parts {
     new: Side,
 }
 
-// Most sides have one line or none. These take no memory of their own.
+// One side of a hunk. Most sides have at most one line; these do not allocate.
 #[derive(Debug, Drop)]
 enum Side {
     Empty,
@@ -39,7 +40,7 @@ impl Model for Body {
 }
 
 impl Body {
-    /// The body of these parts.
+    /// Makes the body of a path and two sides.
     pub fn new(
         alloc: Global,
         path: Path,
@@ -53,21 +54,21 @@ impl Body {
         Ok(Body { parts })
     }
 
-    /// The path of the file.
+    /// Returns the path of the file.
     pub fn path(&self) -> &Path
         ensures exact { result.now ≡ self.now.path }
     {
         &self.parts.path
     }
 
-    /// The old lines, from the first to the last.
+    /// Returns the old lines in order.
     pub fn old_lines(&self) -> &[Line]
         ensures exact { result.now ≡ self.now.old }
     {
         self.parts.old.as_slice()
     }
 
-    /// The new lines, from the first to the last.
+    /// Returns the new lines in order.
     pub fn new_lines(&self) -> &[Line]
         ensures exact { result.now ≡ self.now.new }
     {

@@ -1,3 +1,4 @@
+//! Commuting two primitives.
 ghost use Rattle.std.specs.Prelude.{◌≡◌, ◌+◌, ◌≤◌, ◌<◌, ◌↔◌, IfOk, IfErr, IfSome, IsTrue, MatchOption, length, option_map};
 ghost use Rattle.camp_base.specs.Answers.{Finds, FindsPair};
 ghost use Rattle.camp_base.specs.Limits.{greatest_reach};
@@ -9,9 +10,8 @@ ghost use Rattle.camp_prim.specs.Commuting.{Commute};
 use crate::{Hunk, Named, Primitive, commute_in_place, commutes};
 use std::alloc::AllocError;
 
-/// What `p` and then `q` become in the other order: `Some((q', p'))`, where `q'` and then `p'` do
-/// what `p` and then `q` do, and None where they don't commute. None is answered even where there
-/// is no memory.
+/// Commutes `p` and then `q`: `Some((q', p'))`, where `q'` and then `p'` have the same effect, or `None` if
+/// they do not commute. `None` is exact: it never stands for out of memory.
 pub fn commute(p: &Named, q: &Named) -> Result<Option<(Named, Named)>, AllocError>
     ensures exact { IfOk result (FindsPair (Commute p.now q.now)) }
     ensures laws { IfOk result (λ found. IfSome found (λ pair. CommuteLaws p.now q.now pair.0 pair.1)) }
@@ -28,7 +28,7 @@ pub fn commute(p: &Named, q: &Named) -> Result<Option<(Named, Named)>, AllocErro
     Ok(Some((second, first)))
 }
 
-/// Two primitives commute to one pair at most.
+/// Two primitives commute to at most one pair.
 #[tactic(auto, using(crate::proofs::CommuteUnique::swap_unique))]
 pub fn commute_is_unique()
     ensures law { CommuteIsUnique }
@@ -39,13 +39,14 @@ pub fn commute_has_laws()
     ensures law { (p q q' p' : Named) → Commute p q q' p' → CommuteLaws p q q' p' }
 {}
 
-/// `commute` answers None exactly where `commute_in_place` answers false, and else both give the same two.
+/// `commute` returns `None` exactly if `commute_in_place` returns false; else both give the same two
+/// primitives.
 #[tactic(auto, using(crate::proofs::CommuteUnique::both_commute_alike))]
 pub fn both_commute_alike()
     ensures law { BothCommuteAlike }
 {}
 
-/// The lines to which two primitives move as they commute, where they move.
+/// The lines to which two hunks move as they commute; `None` for a primitive that does not move.
 #[derive(Drop)]
 pub(crate) struct Targets {
     pub(crate) second: Option<u32>,
@@ -92,9 +93,8 @@ fn hunk_targets(h: &Hunk, k: &Hunk) -> Option<Targets>
     None
 }
 
-/// The line to which the lower hunk moves. It stands some lines below what the hunk at line `upper`
-/// leaves, and is to stand as many lines below what that one takes away. None where it can't pass,
-/// or would leave its range.
+/// Computes the line to which the lower hunk moves past one at line `upper`: from `gap` lines below what that
+/// one leaves to `gap` lines below what it takes away. `None` if it cannot pass or would leave its range.
 fn line_below(upper: u32, takes: usize, leaves: usize, lower: &Hunk) -> Option<u32>
     requires { upper + takes + leaves ≤ greatest_reach }
     ensures { Finds (ComesTo upper takes leaves lower.now) result }
@@ -107,14 +107,15 @@ fn line_below(upper: u32, takes: usize, leaves: usize, lower: &Hunk) -> Option<u
     lower.can_stand_at(line).then_some(line)
 }
 
-/// The number of lines from where the upper lines end to a line. None where it stands among them.
+/// Returns the number of lines from the end of the upper lines to a line, or `None` if the line is among
+/// them.
 fn gap_between(end: usize, line: usize) -> Option<usize>
     ensures { MatchOption result (line < end) (λ gap. line ≡ end + gap) }
 {
     line.checked_sub(end)
 }
 
-/// Whether no side of two hunks is empty.
+/// True if no side of the two hunks is empty.
 fn are_full(takes: usize, leaves: usize, lower: &Hunk) -> bool
     ensures { IsTrue result
         ↔ ((0 < takes) × (0 < leaves) × (0 < length lower.now.old) × (0 < length lower.now.new)) }

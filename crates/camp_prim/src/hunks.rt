@@ -1,3 +1,4 @@
+//! The hunk: a body at a line.
 ghost use Rattle.std.specs.Prelude.{◌≡◌, ◌+◌, ◌≤◌, ◌↔◌, IfErr, IfOk, IsTrue, MatchOption};
 ghost use Rattle.camp_base.specs.Limits.{greatest_reach};
 ghost use Rattle.camp_prim.specs.Effect.{flipped};
@@ -10,16 +11,16 @@ use camp_share::Share;
 use std::alloc::AllocError;
 use std::marker::Model;
 
-/// The greatest sum of a hunk's line and the numbers of its old and of its new lines.
+/// The greatest sum of a hunk's line and the counts of its old and of its new lines.
 const MAX_REACH: usize = 1 << 30;
 
-/// New lines in place of old ones, at a line of a file. Lines are counted from 1; one side is not
-/// empty; and the line and the numbers of old and of new lines add up to 2^30 at most.
+/// Replaces old lines by new ones at a line of a file. Lines are counted from 1; at least one side is not
+/// empty; the line and the counts of old and of new lines add up to at most 2^30.
 #[derive(Debug, Drop)]
 pub struct Hunk {
     body: Body,
     line: u32,
-    // Whether the sides of the body have changed over.
+    // True if the two sides of the body are exchanged.
     flipped: bool,
 }
 
@@ -49,7 +50,7 @@ impl Hunk {
         })
     }
 
-    /// The path of the file.
+    /// Returns the path of the file.
     pub fn path(&self) -> &Path
         ensures value { result.now ≡ self.now.path }
         ensures in_range { IsInRange self.now }
@@ -57,7 +58,7 @@ impl Hunk {
         self.body.path()
     }
 
-    /// The line at which the old lines begin, and then the new ones.
+    /// Returns the line of the first old line, and then of the first new one.
     pub fn line(&self) -> u32
         ensures value { result ≡ self.now.line }
         ensures in_range { IsInRange self.now }
@@ -65,7 +66,7 @@ impl Hunk {
         self.line
     }
 
-    /// The lines that it takes away.
+    /// Returns the lines that the hunk takes away.
     pub fn old(&self) -> &[Line]
         ensures exact { result.now ≡ self.now.old }
     {
@@ -75,7 +76,7 @@ impl Hunk {
         self.body.old_lines()
     }
 
-    /// The lines that it puts in their place.
+    /// Returns the lines that the hunk inserts.
     pub fn new(&self) -> &[Line]
         ensures exact { result.now ≡ self.now.new }
     {
@@ -85,8 +86,8 @@ impl Hunk {
         self.body.new_lines()
     }
 
-    /// The same hunk at another line, where it is in range there. It shares its path and its lines with this
-    /// one, by one count, and takes no memory.
+    /// Returns the hunk at another line, or `None` if it is out of range there. Increments one reference
+    /// count; does not allocate.
     pub fn moved(&self, line: u32) -> Result<Option<Hunk>, AllocError>
         ensures exact { IfOk result (λ found. MatchOption found (¬ (IsInRange (at_line line self.now))) (λ hunk. IsInRange (at_line line self.now) × (hunk ≡ at_line line self.now))) }
         ensures memory { IfErr result (λ error. IsInRange (at_line line self.now)) }
@@ -99,7 +100,7 @@ impl Hunk {
         Ok(Some(moved))
     }
 
-    /// The hunk with its sides changed over, which takes it back.
+    /// Exchanges the two sides: the inverse of the hunk.
     pub(crate) fn flip(self) -> Hunk
         ensures { result ≡ flipped self }
     {
@@ -115,7 +116,7 @@ impl Hunk {
         }
     }
 
-    /// Whether the hunk is in range at another line.
+    /// True if the hunk is in range at another line.
     pub(crate) fn can_stand_at(&self, line: u32) -> bool
         ensures { IsTrue result ↔ IsInRange (at_line line self.now) }
     {
@@ -130,7 +131,7 @@ impl Hunk {
         self.line = line;
     }
 
-    /// The same hunk. It shares its path and its lines with this one, by one count, and takes no memory.
+    /// Copies the hunk: increments one reference count; does not allocate.
     pub fn try_clone(&self) -> Result<Hunk, AllocError>
         ensures exact { IfOk result (λ copy. copy ≡ self.now) }
     {
@@ -142,7 +143,7 @@ impl Hunk {
         })
     }
 
-    /// Whether all parts of the two are equal.
+    /// True if path, line and both sides are equal.
     pub fn is_same(&self, other: &Hunk) -> bool
         ensures exact { IsTrue result ↔ (self.now ≡ other.now) }
     {

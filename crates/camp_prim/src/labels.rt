@@ -1,3 +1,4 @@
+//! Labels of primitives, and their order.
 ghost use Rattle.std.specs.Prelude.{◌≡◌, ◌↔◌, IsTrue};
 ghost use Rattle.std.specs.Cmp.{IsTotalOrder};
 ghost use Rattle.std.specs.FinMap.{IsAntisymmetric};
@@ -10,26 +11,26 @@ use crate::Named;
 use camp_base::Name;
 use std::cmp::Ordering;
 
-/// The absolute label of a primitive: the name of its patch and its place in it. Keys are ordered by
-/// the bytes of the name, and then by place.
+/// The absolute label of a primitive: the name of its patch and its position in it, from 1. Keys are ordered
+/// by the bytes of the name, and then by position.
 #[derive(Clone, Copy, Debug, PartialEq, Eq, PartialOrd, Ord)]
 pub struct Key {
     pub name: Name,
     pub place: u8,
 }
 
-/// The label of a primitive: the name of its patch, its place in it, and its sign. Labels are ordered
-/// by the bytes of the name, then by place, and then the positive before the negative.
+/// The label of a primitive: the name of its patch, its position in it, and its sign. Labels are ordered by
+/// the bytes of the name, then by position, and then the positive before the negative.
 #[derive(Clone, Copy, Debug, PartialEq, Eq, PartialOrd, Ord)]
 pub struct Label {
     pub name: Name,
     pub place: u8,
-    /// Whether it is the label of an inverse.
+    /// True for the label of an inverse.
     pub inverse: bool,
 }
 
 impl Label {
-    /// The absolute label: name and place.
+    /// Returns the absolute label: name and position.
     pub fn key(self) -> Key
         ensures exact { result ≡ key_of self }
     {
@@ -39,7 +40,7 @@ impl Label {
         }
     }
 
-    /// The label with the other sign.
+    /// Returns the label with the other sign.
     pub fn opposite(self) -> Label
         ensures exact { result ≡ opposite self }
     {
@@ -51,7 +52,7 @@ impl Label {
     }
 }
 
-/// Labels are in a total order, and only equal labels tie.
+/// Labels are totally ordered, and only equal labels compare as equal.
 #[tactic(auto, using(crate::proofs::LabelOrder::label_total, crate::proofs::LabelOrder::label_ties))]
 pub fn labels_are_ordered()
     ensures is { (a b : Label) → ⟦<Label as Ord>⟧.cmp a b ≡ label_cmp a b }
@@ -59,7 +60,7 @@ pub fn labels_are_ordered()
     ensures ties { IsAntisymmetric label_cmp }
 {}
 
-/// Keys are in a total order, and only equal keys tie.
+/// Keys are totally ordered, and only equal keys compare as equal.
 #[tactic(auto, using(crate::proofs::LabelOrder::key_total, crate::proofs::LabelOrder::key_ties))]
 pub fn keys_are_ordered()
     ensures is { (a b : Key) → ⟦<Key as Ord>⟧.cmp a b ≡ key_cmp a b }
@@ -67,7 +68,7 @@ pub fn keys_are_ordered()
     ensures ties { IsAntisymmetric key_cmp }
 {}
 
-/// Whether the two have one name and one place, whatever their signs are.
+/// True if the two have the same name and position; signs may differ.
 pub fn have_same_key(p: &Named, q: &Named) -> bool
     ensures exact { IsTrue result ↔ SameKey p.now q.now }
 {
@@ -77,7 +78,7 @@ pub fn have_same_key(p: &Named, q: &Named) -> bool
     p.name == q.name
 }
 
-/// Whether the label of the first is less than that of the second.
+/// True if the label of `p` is less than that of `q`.
 pub fn has_less_label(p: &Named, q: &Named) -> bool
     ensures exact { result ≡ is_lt (label_cmp (label_of p.now) (label_of q.now)) }
 {

@@ -1,5 +1,5 @@
 //! Primitive patches: adding a file, removing one, and a hunk of lines; applied to trees, inverted,
-//! and labelled with a name, a place and a sign.
+//! commuted, and labelled with a name, a position and a sign.
 #![tactic(auto)]
 
 mod bodies;

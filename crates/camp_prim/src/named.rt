@@ -1,3 +1,4 @@
+//! The labelled primitive.
 ghost use Rattle.std.specs.Prelude.{◌≡◌, ◌↔◌, IfOk, IsTrue};
 ghost use Rattle.camp_base.specs.Answers.{Answers};
 ghost use Rattle.camp_prim.specs.Effect.{Applies, inverse_of};
@@ -8,19 +9,19 @@ use camp_base::{Apply, Name, Tree};
 use camp_share::Share;
 use std::alloc::AllocError;
 
-/// A primitive with its label: the name of its patch, its place in it, and its sign. The absolute
-/// label is the name and the place; places of a recorded patch count from 1 to 64.
+/// A primitive with its label: the name of its patch, its position in it, and its sign. The absolute label is
+/// the name and the position; positions in a recorded patch are 1 to 64.
 #[derive(Debug, Drop)]
 pub struct Named {
     pub name: Name,
     pub place: u8,
-    /// Whether this is the inverse of the primitive that was recorded.
+    /// True for the inverse of the primitive that was recorded.
     pub inverse: bool,
     pub prim: Primitive,
 }
 
 impl Named {
-    /// The label: name, place and sign.
+    /// Returns the label: name, position and sign.
     pub fn label(&self) -> Label
         ensures exact { result ≡ label_of self.now }
     {
@@ -31,7 +32,7 @@ impl Named {
         }
     }
 
-    /// The inverse primitive under the same absolute label, with the other sign.
+    /// Returns the inverse: the inverse primitive under the label with the other sign.
     pub fn invert(self) -> Named
         ensures exact { result ≡ inverse_of self }
     {
@@ -49,7 +50,7 @@ impl Named {
         }
     }
 
-    /// The same primitive under the same label. It takes no memory.
+    /// Copies the primitive and its label; does not allocate.
     pub fn try_clone(&self) -> Result<Named, AllocError>
         ensures exact { IfOk result (λ copy. copy ≡ self.now) }
     {
@@ -62,7 +63,7 @@ impl Named {
         })
     }
 
-    /// Whether both labels and both primitives are equal.
+    /// True if both labels and both primitives are equal.
     pub fn is_same(&self, other: &Named) -> bool
         ensures exact { IsTrue result ↔ (self.now ≡ other.now) }
     {
@@ -78,7 +79,7 @@ impl Named {
         self.prim.is_same(&other.prim)
     }
 
-    /// Makes the primitive's change to a tree. After an error the tree is as it was.
+    /// Applies the primitive to a tree. After an error the tree is unchanged.
     pub fn apply(&self, tree: &mut Tree) -> Result<(), Apply>
         ensures exact { Answers (Applies self.now.prim) tree.old result tree.new }
     {

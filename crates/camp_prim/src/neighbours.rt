@@ -1,3 +1,4 @@
+//! Commuting two primitives in place.
 ghost use Rattle.std.specs.Prelude.{◌≡◌, ℕ, Some};
 ghost use Rattle.camp_base.specs.Answers.{Changes};
 ghost use Rattle.camp_prim.specs.Effect.{InRange};
@@ -8,9 +9,8 @@ use crate::commuting::targets_of;
 use crate::labels::have_same_key;
 use crate::{Named, Primitive};
 
-/// Commutes `p` and the `q` behind it, where each stays in its place in memory: `p` becomes what it is
-/// behind `q`, and `q` what it is before `p`. So it is for the caller to put `q` first. Answers false
-/// where they don't commute, and leaves both as they were. It takes no memory.
+/// Commutes `p` and then `q` in place: `p` becomes what it is after `q`, and `q` what it is before `p`. The
+/// caller exchanges the two. False if they do not commute; both are then unchanged. Does not allocate.
 pub fn commute_in_place(p: &mut Named, q: &mut Named) -> bool
     ensures exact { Changes CommutesInPlace (p.old, q.old) result (p.new, q.new) }
 {
@@ -27,7 +27,7 @@ pub fn commute_in_place(p: &mut Named, q: &mut Named) -> bool
     }
 }
 
-/// Moves a primitive to a line, where one is given.
+/// Moves a hunk to a line, if one is given.
 fn move_to(p: &mut Primitive, line: Option<u32>)
     requires { InRange (moved line p.old) }
     ensures { p.new ≡ moved line p.old }

@@ -1,3 +1,4 @@
+//! The primitive: one change to a tree.
 ghost use Rattle.std.specs.Prelude.{◌≡◌, ◌↔◌, IfOk, IsTrue, MatchOption};
 ghost use Rattle.camp_base.specs.Answers.{Answers};
 ghost use Rattle.camp_prim.specs.Effect.{Applies, InRange, inverted};
@@ -8,20 +9,20 @@ use crate::{Body, Hunk};
 use camp_base::{Apply, Path, Tree};
 use std::alloc::AllocError;
 
-/// The smallest changes to a tree.
+/// The smallest change to a tree.
 #[derive(Debug, Drop)]
 pub enum Primitive {
-    /// Puts an empty file at a path that has none.
+    /// Adds an empty file at a path that has none.
     Add(Path),
-    /// Takes an empty file away.
+    /// Removes an empty file.
     Remove(Path),
     /// Replaces lines of a file.
     Hunk(Hunk),
 }
 
 impl Primitive {
-    /// The hunk that has this body at a line. None where the line is 0, where both sides are empty, or
-    /// where the line and the numbers of old and of new lines add up to more than 2^30.
+    /// Makes the hunk of a body at a line. `None` if the line is 0, if both sides are empty, or if the line
+    /// and the counts of old and of new lines add up to more than 2^30.
     pub fn hunk(body: Body, line: u32) -> Option<Primitive>
         ensures exact { MatchOption result (¬ (IsInRange (hunk_of body line)))
             (λ made. IsInRange (hunk_of body line) × (made ≡ Primitive.Hunk (hunk_of body line))) }
@@ -30,7 +31,7 @@ impl Primitive {
         Some(Primitive::Hunk(hunk))
     }
 
-    /// The path of the file that it changes.
+    /// Returns the path of the file that the primitive changes.
     pub fn path(&self) -> &Path
         ensures value { result.now ≡ path_of self.now }
         ensures in_range { InRange self.now }
@@ -42,8 +43,7 @@ impl Primitive {
         }
     }
 
-    /// What takes it back: adding a file and removing it are inverse, and a hunk's sides change
-    /// over.
+    /// Returns the inverse: adding a file and removing it are inverse, and the sides of a hunk are exchanged.
     pub fn invert(self) -> Primitive
         ensures exact { result ≡ inverted self }
     {
@@ -54,7 +54,7 @@ impl Primitive {
         }
     }
 
-    /// The same change. It shares its path and its lines with this one and takes no memory.
+    /// Copies the primitive: increments one reference count; does not allocate.
     pub fn try_clone(&self) -> Result<Primitive, AllocError>
         ensures exact { IfOk result (λ copy. copy ≡ self.now) }
     {
@@ -65,7 +65,7 @@ impl Primitive {
         }
     }
 
-    /// Whether the two are the same change.
+    /// True if the two are the same change.
     pub fn is_same(&self, other: &Primitive) -> bool
         ensures exact { IsTrue result ↔ (self.now ≡ other.now) }
     {
@@ -77,7 +77,7 @@ impl Primitive {
         }
     }
 
-    /// Makes the change to a tree. After an error the tree is as it was.
+    /// Applies the primitive to a tree. After an error the tree is unchanged.
     pub fn apply(&self, tree: &mut Tree) -> Result<(), Apply>
         ensures exact { Answers (Applies self.now) tree.old result tree.new }
     {

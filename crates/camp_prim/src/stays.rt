@@ -1,3 +1,4 @@
+//! Quick checks of whether two primitives commute.
 ghost use Rattle.std.specs.Prelude.{◌≡◌, ◌↔◌, IsTrue};
 ghost use Rattle.camp_prim.specs.Inside.Targets.{moved};
 ghost use Rattle.camp_prim.specs.Commuting.{Commute};
@@ -7,7 +8,7 @@ use crate::commuting::targets_of;
 use crate::labels::have_same_key;
 use crate::{Named, Primitive};
 
-/// Whether `p` and then `q` commute as they are: `p q <-> q p`. It takes no memory.
+/// True if `p` and then `q` commute unchanged: `p q <-> q p`. Does not allocate.
 pub fn stay(p: &Named, q: &Named) -> bool
     ensures exact { IsTrue result ↔ Commute p.now q.now q.now p.now }
 {
@@ -25,8 +26,7 @@ pub fn stay(p: &Named, q: &Named) -> bool
     }
 }
 
-/// Whether `p` and then `q` commute, as they are or moved: whether `commute` has an answer. It
-/// takes no memory.
+/// True if `p` and then `q` commute, changed or not: if `commute` returns a pair. Does not allocate.
 pub fn commutes(p: &Named, q: &Named) -> bool
     ensures exact { IsTrue result ↔ ((q' : AnyNamed) × ((p' : AnyNamed) × Commute p.now q.now q' p')) }
 {
@@ -39,7 +39,7 @@ pub fn commutes(p: &Named, q: &Named) -> bool
     }
 }
 
-/// Whether a primitive that moves to a line, where one is given, is as it was.
+/// True if moving a primitive to a line, if one is given, leaves it unchanged.
 fn stays_at(p: &Primitive, line: Option<u32>) -> bool
     ensures { IsTrue result ↔ (moved line p.now ≡ p.now) }
 {

@@ -1,10 +1,10 @@
--- How a name lies in its buffer, and the number that its first bytes spell.
+-- The representation of a name: its buffer, and the number of its first bytes.
 use Rattle.std.specs.Prelude.{◌≡◌, ℕ, zero, suc, ◌+◌, ◌-◌, ◌*◌, IsTrue, List, [], ◌∷◌, ◌++◌, length, take, replicate}
 use Rattle.camp_base.specs.Bytes.{is_name}
 use Rattle.camp_base.specs.Limits.{longest_name}
 use Rattle.camp_base.specs.declared.names.Name.TheInside.{Inside}
 
--- the buffer of a name: its bytes, and zeros behind them
+-- the buffer of a name: its bytes, padded with zeros
 abbrev pub padded : List ℕ → Inside
 padded bytes = record { buffer = bytes ++ replicate (longest_name - length bytes) 0; len = length bytes }
 
@@ -13,8 +13,8 @@ pub record IsPadded (name : Inside) : Type 0 where
   pub form : IsTrue (is_name (take name.len name.buffer))
   pub padding : padded (take name.len name.buffer) ≡ name
 
--- a number continued by so many digits of base 256: the next bytes, the first the most significant, and zeros where the list
--- has ended; `spelt 8 0 name` is the number that a name's first eight bytes spell
+-- `sum` continued by `n` digits of base 256: the next bytes, most significant first, padded with zeros;
+-- `spelt 8 0 name` is the big-endian number of the first eight bytes
 abbrev pub spelt : ℕ → ℕ → List ℕ → ℕ
 spelt zero sum bytes = sum
 spelt (suc n) sum [] = spelt n (sum * 256) []

@@ -1,10 +1,10 @@
--- What a path keeps beside its bytes: the number that the last of them spell.
+-- The representation of a path: its bytes, and the number of the last eight.
 use Rattle.std.specs.Prelude.{◌≡◌, ℕ, ◌-◌, IsTrue, List, length, drop}
 use Rattle.camp_base.specs.Bytes.{is_path}
 use Rattle.camp_base.specs.Inside.NameFields.{spelt}
 use Rattle.camp_base.specs.declared.paths.Path.TheInside.{Inside}
 
--- the last eight bytes of a list, or all where there are fewer
+-- the last eight bytes of a list, or all if there are fewer
 abbrev pub last_eight : List ℕ → List ℕ
 last_eight bytes = drop (length bytes - 8) bytes
 

@@ -1,16 +1,16 @@
--- Words for functions inside this crate: the last step of a change, and where lines stand in others.
+-- Definitions for private functions: the last step of a change, and lines that match at a line.
 use Rattle.std.specs.Prelude.{◌≡◌, ℕ, ◌-◌, ◌<◌, ◌≤◌, length, take, drop, Result, Ok, Err}
 use Rattle.camp_base.specs.Trees.{Lines}
 use Rattle.camp_base.specs.declared.faults.Apply.{Apply}
 use Rattle.camp_base.specs.declared.faults.Apply.TheVariants.{DoesNotApply, Memory}
 
--- Ok: the value that was wanted; or else memory ran out and nothing has changed
+-- Ok: the value is the wanted one; else memory ran out and the value is unchanged
 abbrev pub Steps : {S : Type 0} → S → S → Result (Unit {0}) Apply → S → Type 0
 Steps wanted old (Ok done) new = new ≡ wanted
 Steps wanted old (Err DoesNotApply) new = ⊥
 Steps wanted old (Err Memory) new = new ≡ old
 
--- lines stand in others from a line on, which counts from 1
+-- `front` are the lines from `line` on, counted from 1
 pub record StandsAt (line : ℕ) (front lines : Lines) : Type 0 where
   pub positive : 0 < line
   pub within : line - 1 ≤ length lines

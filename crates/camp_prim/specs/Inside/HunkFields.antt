@@ -1,9 +1,9 @@
--- How a hunk lies in its fields.
+-- The representation of a hunk.
 use Rattle.std.specs.Prelude.{if◌then◌else◌}
 use Rattle.camp_prim.specs.Hunks.{Edit, IsInRange}
 use Rattle.camp_prim.specs.declared.hunks.Hunk.TheInside.{Inside}
 
--- the hunk that the fields stand for
+-- the hunk that the fields represent
 abbrev pub edit_of : Inside → Edit
 edit_of hunk = record {
   path = hunk.body.path;
@@ -12,6 +12,6 @@ edit_of hunk = record {
   new = if hunk.flipped then hunk.body.old else hunk.body.new;
 }
 
--- it is in range
+-- the hunk is in range
 abbrev pub IsHunk : Inside → Type 0
 IsHunk hunk = IsInRange (edit_of hunk)

@@ -6,19 +6,19 @@ use Rattle.camp_prim.specs.declared.commuting.Targets.{Targets}
 use Rattle.camp_prim.specs.declared.primitives.Primitive.{Primitive}
 use Rattle.camp_prim.specs.declared.primitives.Primitive.TheVariants.{Add, Remove, Hunk}
 
--- a primitive at another line, where there is one: only a hunk has a line
+-- a primitive at another line, if one is given; only a hunk moves
 abbrev pub moved : Option ℕ → Primitive → Primitive
 moved None p = p
 moved (Some line) (Add path) = Add path
 moved (Some line) (Remove path) = Remove path
 moved (Some line) (Hunk hunk) = Hunk (at_line line hunk)
 
--- p and then q, moved and in the other order
+-- p and then q, moved to their targets and exchanged
 abbrev pub turned : Primitive → Primitive → Targets → Primitive × Primitive
 turned p q targets = (moved targets.second q, moved targets.first p)
 
--- a hunk below another comes to this line: it stands as far behind what the upper one takes as it stood behind what
--- that leaves, and it is in range there
+-- the line of a hunk below another as the two commute: from `gap` lines below what the upper one leaves to
+-- `gap` lines below what it takes away, and in range there
 pub record ComesTo (upper takes leaves : ℕ) (lower : Edit) (line : ℕ) : Type 0 where
   pub gap : ℕ
   pub stands : lower.line ≡ upper + leaves + gap
@@ -26,7 +26,7 @@ pub record ComesTo (upper takes leaves : ℕ) (lower : Edit) (line : ℕ) : Type
   pub comes : line ≡ upper + takes + gap
   pub fits : IsInRange (at_line line lower)
 
--- p and then q commute and become q' and then p', whatever their labels are, and all four are in range
+-- p and then q commute to q' and then p', whatever their labels, and all four are in range
 pub record ChangeInRange (p q q' p' : Primitive) : Type 0 where
   pub change : PrimitivesCommute p q q' p'
   pub ranges : AreInRange p q q' p'
