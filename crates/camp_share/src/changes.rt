@@ -38,7 +38,7 @@ impl<T: Share + Drop> Change<T> {
         }
     }
 
-    // Starts a list with the elements before `place` of part `index`; shares whole chunks.
+    // Starts a list with the elements before `place` of chunk `index`; shares whole chunks.
     pub(crate) fn before(
         parts: &Growing<Part<T>>,
         index: usize,
@@ -80,7 +80,7 @@ impl<T: Share + Drop> Change<T> {
         self.middle.push_items(items)
     }
 
-    // Appends all elements from `place` of part `index` on and returns the finished chunks.
+    // Appends all elements from `place` of chunk `index` on and returns the finished chunks.
     pub(crate) fn with_rest(
         mut self,
         parts: &Growing<Part<T>>,
@@ -99,7 +99,7 @@ impl<T: Share + Drop> Change<T> {
         Ok(new)
     }
 
-    // Appends the rest of part `index` from `place` on, and the next chunk if it fits in the tail. Returns
+    // Appends the rest of chunk `index` from `place` on, and the next chunk if it fits in the tail. Returns
     // the index of the first chunk that was not copied.
     fn push_cut(
         &mut self,
@@ -121,7 +121,7 @@ impl<T: Share + Drop> Change<T> {
         self.push_small(parts, index + 1)
     }
 
-    // Appends the elements of part `index` if they fit in the tail. Returns the index of the first chunk that
+    // Appends the elements of chunk `index` if they fit in the tail. Returns the index of the first chunk that
     // was not copied.
     fn push_small(&mut self, parts: &Growing<Part<T>>, index: usize) -> Result<usize, AllocError>
         requires parts { All IsPart parts.now }
@@ -170,7 +170,7 @@ fn behind_with_room<T>(parts: &Growing<Part<T>>, index: usize, place: usize) -> 
     (index - 1, part.len())
 }
 
-// Copies the elements of part `index` before `place`.
+// Copies the elements of chunk `index` before `place`.
 fn front_of<T: Share + Drop>(
     parts: &Growing<Part<T>>,
     index: usize,
@@ -281,7 +281,7 @@ pub(crate) fn spliced_in_part<T: Share + Drop>(
     Ok(Some(changed))
 }
 
-// True if chunk `part` has `gone` elements at `place` and can take `new` ones instead. More than fit in one
+// True if a chunk has `gone` elements at `place` and can take `new` ones instead. More than fit in one
 // chunk are taken only in the middle of it, where it is halved; at either end the chunk stays whole.
 fn is_within<T>(part: &[T], place: usize, gone: usize, new: usize) -> bool
     requires { place ≤ length part.now }
@@ -297,7 +297,7 @@ fn is_within<T>(part: &[T], place: usize, gone: usize, new: usize) -> bool
     new <= MAX_PART_LENGTH.saturating_sub(kept) || (place > 0 && left > 0)
 }
 
-// Replaces part `index` by a chunk of `items` followed by its own elements from `place` on.
+// Replaces chunk `index` by a chunk of `items` followed by its own elements from `place` on.
 fn with_end_of<T: Share + Drop>(
     parts: &Growing<Part<T>>,
     index: usize,
