@@ -7,12 +7,12 @@ use Rattle.camp_prim.specs.declared.named.Named.{Named}
 abbrev pub CanCommute : Named → Named → Type 0
 CanCommute p q = (q' : Named) × ((p' : Named) × Commute p q q' p')
 
--- p does not commute with the element behind it
+-- p does not commute with the element after it
 abbrev pub StaysBefore : Named → List Named → Type 0
 StaysBefore p [] = Unit {0}
 StaysBefore p (q ∷ s) = ¬ (CanCommute p q)
 
--- no element commutes with the one behind it
+-- no element commutes with the one after it
 abbrev pub Chain : List Named → Type 0
 Chain [] = Unit {0}
 Chain (p ∷ s) = StaysBefore p s × Chain s

@@ -1,9 +1,9 @@
--- When two lists of primitives are the same but for the order of neighbours that commute.
+-- Lists of primitives that are equal up to the order of neighbours that commute.
 use Rattle.std.specs.Prelude.{◌≡◌, List, ◌∷◌, ◌++◌}
 use Rattle.camp_prim.specs.Commuting.{Commute}
 use Rattle.camp_prim.specs.declared.named.Named.{Named}
 
--- .. [p] [q] .. becomes .. [q'] [p'] .., where the relation leads from p and q to q' and p'
+-- .. [p] [q] .. becomes .. [q'] [p'] .., for a relation that leads from p and q to q' and p'
 pub record CommutesOnce (Turns : Named → Named → Named → Named → Type 0) (s t : List Named) : Type 0 where
   pub before : List Named
   pub p : Named
@@ -15,7 +15,7 @@ pub record CommutesOnce (Turns : Named → Named → Named → Named → Type 0)
   pub turns : Turns p q q' p'
   pub becomes : t ≡ before ++ q' ∷ p' ∷ after
 
--- the least equivalence under commuting two neighbours
+-- the least equivalence that commutes two neighbours
 infix 4 ◌~◌
 pub data ◌~◌ : List Named → List Named → Type 0 where
   same : {s : List Named} → s ~ s

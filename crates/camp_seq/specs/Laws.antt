@@ -1,4 +1,4 @@
--- The laws of lists that crates above build on.
+-- The laws of lists that the crates above build on.
 use Rattle.std.specs.Prelude.{◌≡◌, ◌↔◌, List, [], ◌∷◌, ◌++◌, All, Contains}
 use Rattle.camp_base.specs.Trees.{Files}
 use Rattle.camp_prim.specs.Labels.{label_of}
@@ -14,7 +14,7 @@ use Rattle.camp_seq.specs.Running.{AppliesAll, inverse_all}
 abbrev pub EquivalentRun : Type 0
 EquivalentRun = (s t : List Named) → s ~ t → (old new : Files) → AppliesAll s old new ↔ AppliesAll t old new
 
--- what passes, comes to the front, is split or put in order, is equivalent to what it came from
+-- commuting past, moving to the front, splitting and normal ordering give equivalent lists
 pub record AreEquivalent : Type 0 where
   pub passed : (p : Named) (s s' : List Named) (p' : Named) → Passes p s s' p' → (p ∷ s) ~ (s' ++ p' ∷ [])
   pub all_passed : (r s s' r' : List Named) → PassesAll r s s' r' → (r ++ s) ~ (s' ++ r')
@@ -35,7 +35,7 @@ pub record AreDetermined : Type 0 where
   pub norm : (s t u : List Named) → Norm s t → Norm s u → t ≡ u
   pub merges : (a b b' a' c d : List Named) → CleanMerge a b b' a' → CleanMerge a b c d → (b' ≡ c) × (a' ≡ d)
 
--- the inverse of a list leads back
+-- a list and its inverse undo each other
 abbrev pub InverseOfListLeadsBack : Type 0
 InverseOfListLeadsBack = (s : List Named) (old new : Files) → AppliesAll s old new ↔ AppliesAll (inverse_all s) new old
 
@@ -43,7 +43,7 @@ InverseOfListLeadsBack = (s : List Named) (old new : Files) → AppliesAll s old
 abbrev pub HasNormalOrder : Type 0
 HasNormalOrder = (s : List Named) → (t : List Named) × Norm s t
 
--- a clean merge closes a square of trees: a then b', and b then a', end in one tree
+-- a clean merge closes a square of trees: a then b', and b then a', lead to the same tree
 abbrev pub MergeCloses : Type 0
 MergeCloses =
     (a b b' a' : List Named) → CleanMerge a b b' a'
@@ -58,11 +58,12 @@ MergeIsEquivalent = (a b b' a' : List Named) → CleanMerge a b b' a' → (a ++ 
 abbrev pub MergeIsSymmetric : Type 0
 MergeIsSymmetric = (a b b' a' : List Named) → CleanMerge a b b' a' → CleanMerge b a a' b'
 
--- a and b merge cleanly exactly where the inverse of a passes b
+-- a and b merge cleanly exactly if the inverse of a commutes past b
 abbrev pub MergeIsPassing : Type 0
 MergeIsPassing = (a b b' a' : List Named) → CleanMerge a b b' a' ↔ PassesAll (inverse_all a) b b' (inverse_all a')
 
--- each element of the first part of a split has one of the given labels, and no element of the second has
+-- each element of the first half of a split has one of the given labels, and no element of the second half
+-- has
 abbrev pub SplitByLabels : Type 0
 SplitByLabels =
     (labels : List Label) (s f t : List Named) → Splits labels s f t

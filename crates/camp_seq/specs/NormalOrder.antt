@@ -6,12 +6,11 @@ use Rattle.camp_prim.specs.declared.labels.Label.{Label}
 use Rattle.camp_prim.specs.declared.named.Named.{Named}
 use Rattle.camp_seq.specs.Passing.{Fronts, Parts}
 
--- no label that comes to the front of the list is less than this one
+-- no label that can be moved to the front of the list is less than this one
 abbrev pub IsLeast : Label → List Named → Type 0
 IsLeast label s = (other : Label) (y : Named) (t : List Named) → Fronts other s y t → label_cmp other label ≢ Less
 
--- t is s in normal order: it begins with the least label that comes to the front, and goes on with the rest in normal
--- order
+-- t is s in normal order: first the least label that can be moved to the front, then the rest in normal order
 abbrev pub Norm : List Named → List Named → Type 0
 Norm s [] = s ≡ []
 Norm s (y ∷ t) = (rest : List Named) × Fronts (label_of y) s y rest × IsLeast (label_of y) s × Norm rest t

@@ -1,4 +1,4 @@
--- Primitives that pass lists of primitives.
+-- Primitives that commute past lists of primitives.
 use Rattle.std.specs.Prelude.{◌≡◌, ◌≢◌, List, [], ◌∷◌, ◌⊎◌, Contains}
 use Rattle.camp_prim.specs.Commuting.{Commute}
 use Rattle.camp_prim.specs.Labels.{label_of}
@@ -11,7 +11,7 @@ Passes p [] s' p' = (s' ≡ []) × (p' ≡ p)
 Passes p (q ∷ s) s' p' =
     (q' : Named) × (passing : Named) × (t : List Named) × Commute p q q' passing × Passes passing s t p' × (s' ≡ q' ∷ t)
 
--- p s q ~ s' q' p', each in its own place: p is commuted past every element of s and then past q
+-- p s q ~ s' q' p', in place: p is commuted past every element of s and then past q
 abbrev pub PassesWithLast : Named × List Named × Named → Named × List Named × Named → Type 0
 PassesWithLast old new = (passing : Named) × Passes old.0 old.1 new.1 passing × Commute passing old.2 new.2 new.0
 
@@ -29,7 +29,7 @@ Fronts label (p ∷ s) y t =
     ⊎ ((label_of p ≢ label) × ((found : Named) × (p' : Named) × (u : List Named)
     × Fronts label s found u × Commute p found y p' × (t ≡ p' ∷ u)))
 
--- s ~ f t: the elements with these labels, in their order, are commuted to the front, past the others before them
+-- s ~ f t: the elements with these labels, in their order, are commuted in front of the others
 abbrev pub Parts : List Label → List Named → List Named → List Named → Type 0
 Parts labels [] f t = (f ≡ []) × (t ≡ [])
 Parts labels (p ∷ s) f t =

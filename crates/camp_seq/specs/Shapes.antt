@@ -1,4 +1,4 @@
--- How far the hunks of a list can reach, by their greatest line and by the number of their lines.
+-- How far the hunks of a list can reach, by their greatest line and the count of their lines.
 use Rattle.std.specs.Prelude.{ℕ, ◌+◌, max, List, [], ◌∷◌, length}
 use Rattle.camp_prim.specs.declared.primitives.Primitive.{Primitive}
 use Rattle.camp_prim.specs.declared.primitives.Primitive.TheVariants.{Add, Remove, Hunk}
@@ -10,7 +10,7 @@ line_of (Add path) = 0
 line_of (Remove path) = 0
 line_of (Hunk hunk) = hunk.line
 
--- the number of a hunk's old and new lines, and 0 for an add or a remove
+-- the count of a hunk's old and new lines, and 0 for an add or a remove
 abbrev pub sides_of : Primitive → ℕ
 sides_of (Add path) = 0
 sides_of (Remove path) = 0
@@ -21,12 +21,12 @@ abbrev pub greatest_line : List Named → ℕ
 greatest_line [] = 0
 greatest_line (p ∷ s) = max (line_of p.prim) (greatest_line s)
 
--- the number of the old and new lines of all hunks of the list
+-- the count of the old and new lines of all hunks of the list
 abbrev pub all_sides : List Named → ℕ
 all_sides [] = 0
 all_sides (p ∷ s) = sides_of p.prim + all_sides s
 
--- how far hunks of the list reach at most in any order that commuting gives it: the greatest line of one, and the old
--- and new lines of all
+-- a bound on how far hunks of the list reach in any order that commuting gives it: the greatest line of one
+-- plus the old and new lines of all
 abbrev pub reach_of : List Named → ℕ
 reach_of s = greatest_line s + all_sides s

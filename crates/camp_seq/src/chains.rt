@@ -1,9 +1,10 @@
+//! Chains: lists in which no two neighbours commute.
 ghost use Rattle.std.specs.Prelude.{◌↔◌, IsTrue};
 ghost use Rattle.camp_seq.specs.Chains.{CanCommute, Chain, StaysBefore};
 
 use camp_prim::{Named, commutes};
 
-/// Whether no two neighbours of a list commute. It takes no memory.
+/// True if no two neighbours of a list commute; does not allocate.
 pub fn is_chain(items: &[Named]) -> bool
     ensures exact { IsTrue result ↔ Chain items.now }
 {
@@ -15,15 +16,14 @@ pub fn is_chain(items: &[Named]) -> bool
     true
 }
 
-/// Whether two neighbours commute. It takes no memory.
+/// True if two neighbours commute; does not allocate.
 pub fn can_commute(p: &Named, q: &Named) -> bool
     ensures exact { IsTrue result ↔ CanCommute p.now q.now }
 {
     commutes(p, q)
 }
 
-/// Whether `p` does not commute with the first element of the list behind it. True where that list is
-/// empty.
+/// True if `p` does not commute with the first element of the list after it, or that list is empty.
 fn stays_before(p: &Named, s: &[Named]) -> bool
     ensures { IsTrue result ↔ StaysBefore p.now s.now }
 {

@@ -1,14 +1,13 @@
-//! Faster ways to the results of the rules. Each says when it may be taken; there its result is that
-//! of the rule.
+//! Faster ways to the results of the definitions. Each says when it applies; there its result is the defined one.
 //!
-//! - A list is its own normal order where the label of each element is not less than any before it, or the
-//!   element does not commute with the one before it. Then no element can come before one with a greater label.
-//! - A list has room for sure where its greatest line and all its old and new lines add up to 2^30 at
-//!   most. It is put in order by insertion.
-//! - Before a list that is its own normal order an element goes to the right past lesser labels as long as it commutes
-//!   with them. Where a look tells that none comes to before it there, it stays there, and nothing else is moved.
-//! - Where a primitive keeps its line at each step, it passes a list, and all stay as they are. Where the
-//!   first element of the list stops it, it does not pass.
+//! - A list is its own normal order if the label of each element is not less than any before it, or the element does
+//! not commute with the one before it. Then no element can be moved in front of one with a greater label.
+//! - A list certainly has headroom if its greatest line and all its old and new lines add up to at most 2^30. It is
+//! ordered by insertion.
+//! - An element before a list that is its own normal order is commuted to the right past lesser labels. If a quick
+//! check says that no later element can be moved in front of it there, nothing else is moved.
+//! - A primitive that keeps its line at each step passes a list and leaves all elements unchanged. If the first element
+//! of the list blocks it, it does not pass.
 mod insertions;
 mod looks;
 

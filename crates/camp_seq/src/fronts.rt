@@ -1,3 +1,4 @@
+//! Commuting a primitive to the front of a list.
 ghost use Rattle.std.specs.Prelude.{◌≡◌, ◌↔◌, Contains, IfErr, IfOk, IsTrue, MatchOption, map};
 ghost use Rattle.camp_base.specs.Answers.{Changes, FindsPair};
 ghost use Rattle.camp_prim.specs.Labels.{label_of};
@@ -9,9 +10,9 @@ use crate::passes::precede;
 use camp_prim::{Label, Named};
 use std::alloc::AllocError;
 
-/// `Some((y, t))` where `s` is the same as `y` and then `t`: the first primitive of `s` with this
-/// label is commuted to the front, where it is `y`. None where it can't come there, or there is none.
-/// That there is none is answered whatever memory does.
+/// Commutes the first primitive of `s` with this label to the front: `Some((y, t))`, where `y` and then `t`
+/// are equivalent to `s`. `None` if it cannot be moved there, or if no primitive has the label; the latter
+/// never fails with out of memory.
 #[tactic(auto, using(crate::proofs::FrontSteps::first_contained, crate::proofs::FrontSteps::none_fronts))]
 pub fn front(s: &Seq, label: &Label) -> Result<Option<(Named, Seq)>, AllocError>
     ensures exact { IfOk result (FindsPair (Fronts label.now s.now)) }
@@ -28,8 +29,8 @@ pub fn front(s: &Seq, label: &Label) -> Result<Option<(Named, Seq)>, AllocError>
     Ok(Some((first, rest)))
 }
 
-/// Commutes the first element with a label to the front. Where it can't come there, or there is none,
-/// the elements are as they were.
+/// Commutes the first element with a label to the front, in place. False if there is none or it cannot be
+/// moved there; the elements are then unchanged.
 #[tactic(auto, using(crate::proofs::FrontSteps::none_fronts))]
 pub(crate) fn bring(items: &mut [Named], label: &Label) -> bool
     ensures exact { Changes (FrontsInPlace label.now) items.old result items.new }
@@ -45,7 +46,7 @@ pub(crate) fn bring(items: &mut [Named], label: &Label) -> bool
     true
 }
 
-/// The place of the first element with a label.
+/// Finds the index of the first element with a label.
 #[tactic(auto, using(crate::proofs::FrontSteps::first_with))]
 fn place_of(items: &[Named], label: &Label) -> Option<usize>
     ensures { MatchOption result (Lacks label.now items.now) (FirstWith label.now items.now) }

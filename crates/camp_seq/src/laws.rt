@@ -1,3 +1,4 @@
+//! The laws of lists, as functions whose contracts state them.
 ghost use Rattle.camp_seq.specs.Laws.{AreDetermined, AreEquivalent, EquivalentRun, HasNormalOrder, InverseOfListLeadsBack, MergeCloses, MergeIsEquivalent, MergeIsPassing, MergeIsSymmetric, SplitByLabels};
 ghost use Rattle.camp_seq.specs.Room.{LawOfThree, MergesInAnyOrder, NormalForm};
 
@@ -7,20 +8,20 @@ pub fn equivalent_lists_run_alike()
     ensures law { EquivalentRun }
 {}
 
-/// What passes a list, comes to its front, is split off or put in order, is equivalent to what it
-/// came from.
+/// Commuting past a list, moving to the front, splitting and normal ordering give equivalent lists.
 #[tactic(auto, using(crate::proofs::ListEquivalence::are_equivalent))]
 pub fn lists_of_results_are_equivalent()
     ensures law { AreEquivalent }
 {}
 
-/// Passing, coming to the front, splitting, putting in order and merging have at most one result.
+/// Commuting past a list, moving to the front, splitting, normal ordering and merging have at most one
+/// result.
 #[tactic(auto, using(crate::proofs::ListResults::are_determined))]
 pub fn results_of_lists_are_determined()
     ensures law { AreDetermined }
 {}
 
-/// What a list does to a tree, its inverse undoes, and what the inverse undoes the list did.
+/// A list and its inverse undo each other.
 #[tactic(auto, using(crate::proofs::ListRuns::inverse_all_leads_back))]
 pub fn inverse_of_a_list_leads_back()
     ensures law { InverseOfListLeadsBack }
@@ -32,7 +33,7 @@ pub fn every_list_has_a_normal_order()
     ensures law { HasNormalOrder }
 {}
 
-/// Two lists that merge cleanly lead to one tree in both orders.
+/// Two lists that merge cleanly lead to the same tree in both orders.
 pub fn clean_merge_closes()
     ensures law { MergeCloses }
 {}
@@ -49,33 +50,33 @@ pub fn clean_merge_is_symmetric()
     ensures law { MergeIsSymmetric }
 {}
 
-/// Two lists merge cleanly just where the inverse of the one passes the other.
+/// Two lists merge cleanly exactly if the inverse of one commutes past the other.
 #[tactic(auto, using(crate::proofs::MergeGrid::merge_is_passing))]
 pub fn clean_merge_is_passing_the_inverse()
     ensures law { MergeIsPassing }
 {}
 
-/// Each element of the first part of a split has one of the given labels, and no element of the
-/// second has.
+/// Each element of the first half of a split has one of the given labels, and no element of the second half
+/// has.
 pub fn splits_are_by_labels()
     ensures law { SplitByLabels }
 {}
 
-/// Where the first two of three primitives commute, and the third commutes past both, the six orders of
-/// the three exist and agree, given room.
+/// If the first two of three primitives commute and the third commutes past both, the six orders of the three
+/// exist and agree, given headroom.
 #[tactic(auto, using(crate::proofs::LawOfThree::law_of_three))]
 pub fn six_orders_of_three_agree()
     ensures law { LawOfThree }
 {}
 
-/// A list with room and every list equivalent to it have one normal order.
+/// A list with headroom and every list equivalent to it have the same normal order.
 #[tactic(auto, using(crate::proofs::NormalForms::normal_form))]
 pub fn normal_order_is_a_normal_form()
     ensures law { NormalForm }
 {}
 
-/// Neither whether two lists have room to merge, nor, given room, whether they merge cleanly depends on the order of
-/// their elements.
+/// Whether two lists have headroom to merge does not depend on the order of their elements; nor does, given
+/// headroom, whether they merge cleanly.
 #[tactic(auto, using(crate::proofs::MergeOrders::merging_in_any_order))]
 pub fn lists_merge_in_any_order()
     ensures law { MergesInAnyOrder }

@@ -1,3 +1,4 @@
+//! The inverse of a list, and the clean merge of two.
 ghost use Rattle.std.specs.Prelude.{◌≡◌, IfOk};
 ghost use Rattle.camp_base.specs.Answers.{FindsPair};
 ghost use Rattle.camp_seq.specs.Merging.{CleanMerge};
@@ -7,7 +8,7 @@ use crate::Seq;
 use crate::passes::change_places;
 use std::alloc::AllocError;
 
-/// The inverse of a list: the inverses of its primitives, in reverse order.
+/// Inverts a list: the inverses of its primitives, in reverse order.
 pub fn invert_all(s: &Seq) -> Result<Seq, AllocError>
     ensures exact { IfOk result (λ inverse. inverse ≡ inverse_all s.now) }
 {
@@ -20,9 +21,9 @@ pub fn invert_all(s: &Seq) -> Result<Seq, AllocError>
     Ok(Seq { items })
 }
 
-/// `Some((b', a'))` where `a` and `b`, which begin in one state, merge cleanly: `a` and then `b'`
-/// end where `b` and then `a'` do. Each primitive of `a` is taken back past all of `b`. None where
-/// one can't pass.
+/// Merges two lists that begin in the same state: `Some((b', a'))`, where `a` and then `b'` lead to the same
+/// state as `b` and then `a'`. The inverse of each primitive of `a` is commuted past all of `b`; `None` if
+/// one cannot pass.
 #[tactic(auto, using(crate::proofs::MergeGrid::passing_merges))]
 pub fn clean_merge(a: &Seq, b: &Seq) -> Result<Option<(Seq, Seq)>, AllocError>
     ensures exact { IfOk result (FindsPair (CleanMerge a.now b.now)) }

@@ -1,3 +1,4 @@
+//! The normal order of a list.
 ghost use Rattle.std.specs.Prelude.{List, ◌∷◌, ◌≡◌, ◌<◌, ◌≤◌, ◌↔◌, length, drop, IfOk, IsTrue};
 ghost use Rattle.std.specs.Ordering.{is_lt};
 ghost use Rattle.std.specs.declared.cmp.Ordering.TheVariants.{Less};
@@ -16,9 +17,8 @@ use crate::rooms::surely_has_room;
 use camp_prim::{Label, Named};
 use std::alloc::AllocError;
 
-/// The list in normal order: it begins with the least label that can come to the front, and goes on
-/// with the rest in normal order. Where the list has room, it is the normal order of all lists that
-/// are equivalent to it.
+/// Puts a list in normal order: first the least label that can be moved to the front, then the rest in normal
+/// order. If the list has headroom, it is the normal order of every equivalent list.
 #[tactic(auto, using(crate::proofs::NormalForms::normal_form))]
 pub fn norm(s: &Seq) -> Result<Seq, AllocError>
     ensures order { IfOk result (λ ordered. Norm s.now ordered) }
@@ -28,7 +28,7 @@ pub fn norm(s: &Seq) -> Result<Seq, AllocError>
     Ok(ordered(s.try_clone()?))
 }
 
-/// The list in normal order, in its place in memory. It takes no memory.
+/// Puts a list in normal order, in place; does not allocate.
 pub fn ordered(mut s: Seq) -> Seq
     ensures exact { Norm s result }
 {
@@ -36,8 +36,8 @@ pub fn ordered(mut s: Seq) -> Seq
     s
 }
 
-/// Puts a list in normal order, in its place in memory, and tells whether it is known to be its own normal order then:
-/// a look tells it, or the list has room. It takes no memory.
+/// Puts a list in normal order, in place; does not allocate. True if the result is known to be its own normal
+/// order: by a quick check, or because the list has headroom.
 pub fn put_in_order(s: &mut Seq) -> bool
     ensures order { Norm s.old s.new }
     ensures own { IsTrue result → Norm s.new s.new }
@@ -45,8 +45,8 @@ pub fn put_in_order(s: &mut Seq) -> bool
     order(&mut s.items)
 }
 
-/// Puts a primitive before a list, and then the list in normal order, in its place in memory. The list may be known
-/// to be its own normal order before. The answer tells whether it is known to be so then.
+/// Inserts a primitive before a list and puts the list in normal order, in place. `ordered` says that the
+/// list is known to be its own normal order before; the result says whether it is known to be so after.
 pub fn put_first(a: Named, s: &mut Seq, ordered: bool) -> Result<bool, AllocError>
     requires { IsTrue ordered → Norm s.old s.old }
     ensures order { IfOk result (λ told. Norm (a ∷ s.old) s.new) }
@@ -59,8 +59,8 @@ pub fn put_first(a: Named, s: &mut Seq, ordered: bool) -> Result<bool, AllocErro
     Ok(order(&mut s.items))
 }
 
-/// The same where the list is its own normal order: the primitive is put in its place, and what is behind it there
-/// is ordered only where one of them may come to before it.
+/// The same for a list that is its own normal order: moves the primitive to its position, and orders what
+/// comes after it only if one of them may be moved in front of it.
 fn put_before(mut a: Named, s: &mut Seq) -> Result<bool, AllocError>
     requires { Norm s.old s.old }
     ensures order { IfOk result (λ told. Norm (a ∷ s.old) s.new) }
@@ -72,8 +72,8 @@ fn put_before(mut a: Named, s: &mut Seq) -> Result<bool, AllocError>
     Ok(surely_has_room(&s.items))
 }
 
-/// Commutes `a`, which stands before `s`, to its place, and answers with it and with whether it stays there before
-/// the others as they are.
+/// Commutes `a`, which is before `s`, to its position. Returns that index, and whether `a` is known to stay
+/// before the elements after it.
 fn find_first_place(a: &mut Named, s: &mut [Named]) -> (usize, bool)
     requires { Norm s.old s.old }
     ensures place { GoesIn s.old a.old result.0 s.new a.new }
@@ -85,7 +85,7 @@ fn find_first_place(a: &mut Named, s: &mut [Named]) -> (usize, bool)
     (at, stays)
 }
 
-/// Puts what is from a place on in normal order, but where it is known to be so as it is.
+/// Puts the elements from index `at` on in normal order, unless they are known to be.
 fn settle_from(items: &mut [Named], at: usize, known: bool)
     requires { at ≤ length items.old }
     ensures { OrderedFrom items.old at known items.new }
@@ -96,11 +96,12 @@ fn settle_from(items: &mut [Named], at: usize, known: bool)
     order_anew(&mut items[at..]);
 }
 
-/// Puts a list in normal order, and tells whether it is known to be its own normal order then. It takes no memory.
+/// Puts a list in normal order, in place; does not allocate. True if the result is known to be its own normal
+/// order.
 ///
-/// A list that is its own normal order stays as it is. One whose hunks stay in range in any order is
-/// ordered by insertion: n elements take at most n * (n - 1) commuting steps. Another, with hunks near the
-/// limit of 2^30, is ordered by selection, as the rule has it.
+/// A list that is its own normal order is unchanged. One with headroom is ordered by insertion: n elements
+/// take at most n * (n - 1) commuting steps. Any other, with hunks near the limit of 2^30, is ordered by
+/// selection.
 pub(crate) fn order(items: &mut [Named]) -> bool
     ensures order { Norm items.old items.new }
     ensures own { IsTrue result → Norm items.new items.new }
@@ -112,7 +113,7 @@ pub(crate) fn order(items: &mut [Named]) -> bool
     surely_has_room(items)
 }
 
-/// The same where a look does not tell that the list is in order.
+/// The same for a list that the quick check does not recognise as ordered.
 fn order_anew(items: &mut [Named])
     ensures { Norm items.old items.new }
 {
@@ -123,12 +124,11 @@ fn order_anew(items: &mut [Named])
     }
 }
 
-/// For each place the labels are tried in ascending order until one comes to the front. Where the
-/// first one does each time, n elements take at most n * (n - 1) / 2 commuting steps. Each label that is
-/// tried and stops takes no more than twice the steps up to where it stops. At worst nearly all
-/// stop, late, at each place, and that adds up to n^3 / 3: whether a label can come to the front of
-/// the rest has to be asked anew for each place, since near the limit of a hunk's line what stopped
-/// before may pass later, and the other way round.
+/// Selects, for each index, the least label that can be moved to the front of the rest, trying the labels in
+/// ascending order. If the first one succeeds each time, n elements take at most n * (n - 1) / 2 commuting
+/// steps. A label that is blocked costs at most twice the steps up to where it is blocked; at worst nearly
+/// all are blocked late at each index, n^3 / 3 steps. What is blocked has to be tried anew at each index,
+/// since near the limit of a hunk's line it may pass later, and the other way round.
 fn order_by_selection(items: &mut [Named])
     ensures { Norm items.old items.new }
 {
@@ -137,7 +137,7 @@ fn order_by_selection(items: &mut [Named])
     }
 }
 
-/// Commutes the element with the least label that can come to the front of the list to its front.
+/// Commutes the element with the least label that can be moved to the front to the front.
 #[tactic(auto, using(crate::proofs::LabelSteps::starts_above))]
 fn settle(items: &mut [Named])
     requires { 0 < length items.old }
@@ -153,7 +153,7 @@ fn settle(items: &mut [Named])
     }
 }
 
-/// The least label of the list above one that was tried.
+/// Finds the least label of the list above the last one that was tried.
 fn least_above(items: &[Named], tried: &Option<Label>) -> Label
     requires { StartsAbove tried.now items.now }
     ensures { LeastAbove tried.now items.now result }
@@ -168,7 +168,7 @@ fn least_above(items: &[Named], tried: &Option<Label>) -> Label
     least
 }
 
-/// Whether a label is above the one that was tried, and below the least so far.
+/// True if a label is above the last one that was tried and below the least so far.
 fn comes_before(tried: &Option<Label>, label: &Label, least: &Label) -> bool
     ensures { IsTrue result
         ↔ (IsTrue (is_above tried.now label.now) × (label_cmp label.now least.now ≡ Less)) }

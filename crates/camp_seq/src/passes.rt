@@ -1,3 +1,4 @@
+//! Commuting a primitive or a list past a list.
 ghost use Rattle.std.specs.Prelude.{IfOk};
 ghost use Rattle.std.specs.Bool.{then_some};
 ghost use Rattle.camp_base.specs.Answers.{Changes, FindsPair};
@@ -9,8 +10,8 @@ use crate::fast::is_stopped;
 use camp_prim::{Named, commute_in_place};
 use std::alloc::AllocError;
 
-/// `Some((s', p'))` where `p` and then `s` are the same as `s'` and then `p'`: `p` is commuted past
-/// every primitive of `s`. None where it can't pass.
+/// Commutes `p` past all of `s`: `Some((s', p'))`, where `s'` and then `p'` are equivalent to `p` and then
+/// `s`; `None` if it cannot pass.
 pub fn past(p: &Named, s: &Seq) -> Result<Option<(Seq, Named)>, AllocError>
     ensures exact { IfOk result (FindsPair (Passes p.now s.now)) }
 {
@@ -25,8 +26,8 @@ pub fn past(p: &Named, s: &Seq) -> Result<Option<(Seq, Named)>, AllocError>
     Ok(Some((before, behind)))
 }
 
-/// `Some((s', r'))` where `r` and then `s` are the same as `s'` and then `r'`: each primitive of
-/// `r`, from its last to its first, is commuted past all of `s`. None where one can't pass.
+/// Commutes `r` past all of `s`, from its last primitive to its first: `Some((s', r'))`, where `s'` and then
+/// `r'` are equivalent to `r` and then `s`; `None` if one cannot pass.
 pub fn past_all(r: &Seq, s: &Seq) -> Result<Option<(Seq, Seq)>, AllocError>
     ensures exact { IfOk result (FindsPair (PassesAll r.now s.now)) }
 {
@@ -38,8 +39,7 @@ pub fn past_all(r: &Seq, s: &Seq) -> Result<Option<(Seq, Seq)>, AllocError>
     Ok(Some((before, behind)))
 }
 
-/// Commutes all of `r` past `s`, each list in its place in memory. Where one can't pass, both are left
-/// as they are then.
+/// Commutes all of `r` past `s`, in place. False if one cannot pass; both lists are then partly commuted.
 pub(crate) fn change_places(r: &mut Seq, s: &mut Seq) -> bool
     ensures exact { FindsPair (PassesAll r.old s.old) (then_some result (s.new, r.new)) }
 {
@@ -58,8 +58,8 @@ fn pass_all(r: &mut [Named], s: &mut [Named]) -> bool
     true
 }
 
-/// Commutes `p` past all of `s`, which stands behind it. Where it can't pass, both are left as they
-/// are then.
+/// Commutes `p` past all of `s`, which is after it, in place. False if it cannot pass; both are then partly
+/// commuted.
 pub(crate) fn pass(p: &mut Named, s: &mut [Named]) -> bool
     ensures exact { FindsPair (Passes p.old s.old) (then_some result (s.new, p.new)) }
 {
@@ -67,8 +67,8 @@ pub(crate) fn pass(p: &mut Named, s: &mut [Named]) -> bool
     at == s.len()
 }
 
-/// Commutes `p` past all of `s` and then past the one behind it, each in its place in memory. Where it can't pass
-/// them, all are as they were.
+/// Commutes `p` past all of `s` and then past `last`, in place. False if it cannot pass; all are then
+/// unchanged.
 pub fn pass_by(p: &mut Named, s: &mut Seq, last: &mut Named) -> bool
     ensures exact { Changes PassesWithLast (p.old, s.old, last.old) result (p.new, s.new, last.new) }
 {
@@ -88,7 +88,8 @@ fn pass_with_last(p: &mut Named, s: &mut [Named], last: &mut Named) -> bool
     true
 }
 
-/// Commutes `p` past all of `s`, which stands behind it. Where it can't pass, both are as they were.
+/// Commutes `p` past all of `s`, which is after it, in place. False if it cannot pass; both are then
+/// unchanged.
 fn pass_or_stay(p: &mut Named, s: &mut [Named]) -> bool
     ensures exact { Changes PassesInPlace (p.old, s.old) result (p.new, s.new) }
 {
@@ -100,8 +101,8 @@ fn pass_or_stay(p: &mut Named, s: &mut [Named]) -> bool
     true
 }
 
-/// Commutes `p`, which stands before `s`, to the right as far as it can come, and answers with the number of
-/// elements of `s` that are before it then.
+/// Commutes `p`, which is before `s`, as far to the right as it can be moved, in place. Returns the number of
+/// elements of `s` before it.
 fn go_past(p: &mut Named, s: &mut [Named]) -> usize
     ensures { GoesPast s.old p.old result s.new p.new }
 {
@@ -113,8 +114,8 @@ fn go_past(p: &mut Named, s: &mut [Named]) -> usize
     s.len()
 }
 
-/// Commutes `p` to before all of `s`, which stands before it. Where it can't come there, both are as
-/// they were.
+/// Commutes `p`, which is after `s`, to before all of it, in place. False if it cannot be moved there; both
+/// are then unchanged.
 pub(crate) fn precede(s: &mut [Named], p: &mut Named) -> bool
     ensures exact { Changes PrecedesInPlace (s.old, p.old) result (s.new, p.new) }
 {
@@ -126,8 +127,8 @@ pub(crate) fn precede(s: &mut [Named], p: &mut Named) -> bool
     true
 }
 
-/// Commutes `p`, which stands behind `s`, to the left as far as it can come, and answers with the
-/// number of elements of `s` that are still before it.
+/// Commutes `p`, which is after `s`, as far to the left as it can be moved, in place. Returns the number of
+/// elements of `s` still before it.
 #[tactic(auto, using(crate::proofs::ListSteps::none_done))]
 pub(crate) fn come_forward(s: &mut [Named], p: &mut Named) -> usize
     ensures { ComesUpTo s.old p.old result s.new p.new }

@@ -1,3 +1,4 @@
+//! Headroom: lists whose hunks stay in range in any order.
 ghost use Rattle.std.specs.Prelude.{◌≡◌, ◌<◌, ◌≤◌, ◌+◌, ◌↔◌, [], ◌∷◌, ◌++◌, IsTrue, MatchOption};
 ghost use Rattle.camp_base.specs.Limits.{greatest_reach};
 ghost use Rattle.camp_prim.specs.Effect.{InRange};
@@ -8,17 +9,17 @@ ghost use Rattle.camp_seq.specs.Shapes.{all_sides, line_of, sides_of, reach_of};
 use crate::Seq;
 use camp_prim::{Named, Primitive};
 
-/// The greatest sum of a hunk's line and the numbers of its old and of its new lines.
+/// The greatest sum of a hunk's line and the counts of its old and of its new lines.
 const MAX_REACH: usize = 1 << 30;
 
-/// A list of primitives in range whose reach is in range has room.
+/// A list of primitives in range whose reach is in range has headroom.
 #[tactic(auto, using(crate::proofs::Reaching::room_within))]
 pub fn reach_gives_room()
     ensures law { ReachGivesRoom }
 {}
 
-/// Whether a list has room for sure: the greatest line of its hunks and the numbers of all their
-/// lines add up to 2^30 at most. Other lists may have room too.
+/// True if a list certainly has headroom: the greatest line of its hunks and the counts of all their lines
+/// add up to at most 2^30. Other lists may have headroom too.
 pub fn has_room(s: &Seq) -> bool
     ensures exact { IsTrue result ↔ (reach_of s.now ≤ greatest_reach) }
     ensures room { IsTrue result → HasRoom s.now }
@@ -26,9 +27,8 @@ pub fn has_room(s: &Seq) -> bool
     surely_has_room(&s.items)
 }
 
-/// Whether the greatest line of a list's hunks and the numbers of all their lines together are in
-/// the range of one hunk. Where they are, commuting neighbours brings no hunk out of range; where
-/// they are not, that may still be so. It takes one look at each element.
+/// True if the greatest line of a list's hunks and the counts of all their lines are together in the range of
+/// one hunk; then no commuting brings a hunk out of range. False decides nothing. Visits each element once.
 pub(crate) fn surely_has_room(items: &[Named]) -> bool
     ensures exact { IsTrue result ↔ (reach_of items.now ≤ greatest_reach) }
     ensures room { IsTrue result → HasRoom items.now }
@@ -39,9 +39,9 @@ pub(crate) fn surely_has_room(items: &[Named]) -> bool
     }
 }
 
-/// Whether two lists that begin in one state, each with one more element behind it, have room for sure to merge, in
-/// whatever order their elements are: the greatest line of all their hunks and the numbers of all their lines add up to
-/// 2^30 at most. It takes one look at each element.
+/// True if two lists that begin in the same state, each followed by one more element, certainly have headroom
+/// to merge in any order of their elements: the greatest line of all their hunks and the counts of all their
+/// lines add up to at most 2^30. Visits each element once.
 pub fn has_room_to_merge(s: &[Named], p: &Named, t: &[Named], q: &Named) -> bool
     ensures exact { IsTrue result ↔ (reach_of ((s.now ++ p.now ∷ []) ++ (t.now ++ q.now ∷ [])) ≤ greatest_reach) }
     ensures room { IsTrue result → HasRoomToMerge (s.now ++ p.now ∷ []) (t.now ++ q.now ∷ []) }
@@ -52,8 +52,8 @@ pub fn has_room_to_merge(s: &[Named], p: &Named, t: &[Named], q: &Named) -> bool
     }
 }
 
-/// The greatest line of a list's hunks and the numbers of all their lines together, with one more element behind the
-/// list. None where the numbers are more than 2^30.
+/// Computes the greatest line of the hunks of a list followed by one more element, and the count of all their
+/// lines; `None` if the count is more than 2^30.
 fn shape_with(items: &[Named], last: &Named) -> Option<(usize, usize)>
     ensures { MatchOption result (greatest_reach < all_sides (items.now ++ last.now ∷ []))
         (λ shape. GoesOnTo (items.now ++ last.now ∷ []) 0 0 shape.0 shape.1) }
@@ -61,8 +61,8 @@ fn shape_with(items: &[Named], last: &Named) -> Option<(usize, usize)>
     shape_from(items, line_of(&last.prim), sides_of(&last.prim))
 }
 
-/// The greater of a line and the greatest line of a list's hunks, and a number with the numbers of all their lines.
-/// None where that number is more than 2^30.
+/// Computes the greater of `line` and the greatest line of a list's hunks, and `more` plus the count of all
+/// their lines; `None` if that sum is more than 2^30.
 fn shape_from(items: &[Named], line: usize, more: usize) -> Option<(usize, usize)>
     requires line { line ≤ greatest_reach }
     requires more { more ≤ greatest_reach }
@@ -81,7 +81,7 @@ fn shape_from(items: &[Named], line: usize, more: usize) -> Option<(usize, usize
     Some((greatest, sides))
 }
 
-/// The line of a hunk, and 0 for an add or a remove.
+/// Returns the line of a hunk, or 0 for an add or a remove.
 fn line_of(p: &Primitive) -> usize
     ensures value { result ≡ line_of p.now }
     ensures in_range { InRange p.now }
@@ -92,7 +92,7 @@ fn line_of(p: &Primitive) -> usize
     }
 }
 
-/// The number of a hunk's old and new lines, and 0 for an add or a remove.
+/// Returns the count of a hunk's old and new lines, or 0 for an add or a remove.
 fn sides_of(p: &Primitive) -> usize
     ensures { result ≡ sides_of p.now }
 {

@@ -1,11 +1,12 @@
+//! Applying a list to a tree.
 ghost use Rattle.camp_base.specs.Answers.{AnswersByTrial};
 ghost use Rattle.camp_seq.specs.Running.{AppliesAll};
 
 use crate::Seq;
 use camp_base::{Apply, Tree};
 
-/// Makes the changes of a list to a tree, one after the other. After an error the tree is as it
-/// was, whichever of them did not apply.
+/// Applies the primitives of a list to a tree, one after the other. After an error the tree is unchanged,
+/// whichever of them failed.
 #[tactic(auto, using(crate::proofs::ListRuns::run_more))]
 pub fn apply_all(s: &Seq, tree: &mut Tree) -> Result<(), Apply>
     ensures exact { AnswersByTrial (AppliesAll s.now) tree.old result tree.new }

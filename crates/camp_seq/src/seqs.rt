@@ -1,3 +1,4 @@
+//! The list of labelled primitives.
 ghost use Rattle.std.specs.Prelude.{◌≡◌, ◌↔◌, [], ◌∷◌, ◌++◌, if◌then◌else◌, is_ok, IfErr, IfOk, IsTrue};
 
 use camp_prim::Named;
@@ -20,7 +21,7 @@ impl Model for Seq {
 }
 
 impl Seq {
-    /// The list without a primitive. It takes no memory.
+    /// Makes an empty list; does not allocate.
     pub fn empty(alloc: Global) -> Seq
         ensures exact { result ≡ [] }
     {
@@ -29,7 +30,7 @@ impl Seq {
         }
     }
 
-    /// The list without a primitive, with room for so many.
+    /// Makes an empty list with capacity for `room` primitives.
     pub fn with_room(alloc: Global, room: usize) -> Result<Seq, AllocError>
         ensures exact { IfOk result (λ seq. seq ≡ []) }
     {
@@ -37,7 +38,7 @@ impl Seq {
         Ok(Seq { items })
     }
 
-    /// Puts a primitive behind the others. An error gives it back, and the list is as it was.
+    /// Appends a primitive. An error returns it and leaves the list unchanged.
     pub fn push(&mut self, p: Named) -> Result<(), AllocFailed<Named>>
         ensures pushed { self.new ≡ (if is_ok result then self.old ++ p ∷ [] else self.old) }
         ensures given_back { IfErr result (λ error. error.value ≡ p) }
@@ -61,7 +62,7 @@ impl Seq {
         Ok(Seq { items })
     }
 
-    /// Whether the two have the same primitives in the same order. It takes no memory.
+    /// True if the two have the same primitives in the same order; does not allocate.
     pub fn is_same(&self, other: &Seq) -> bool
         ensures exact { IsTrue result ↔ (self.now ≡ other.now) }
     {

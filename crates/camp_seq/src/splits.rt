@@ -1,3 +1,4 @@
+//! Splitting a list by labels.
 ghost use Rattle.std.specs.Prelude.{◌<◌, ◌↔◌, length, option_map, Contains, IfOk, IsTrue};
 ghost use Rattle.std.specs.Bool.{then_some};
 ghost use Rattle.camp_base.specs.Answers.{Finds, FindsPair};
@@ -12,9 +13,9 @@ use crate::passes::pass;
 use camp_prim::{Label, Named};
 use std::alloc::AllocError;
 
-/// `Some((f, t))` where `s` is the same as `f` and then `t`: `f` has the primitives with these
-/// labels, commuted to before the others, and `t` the others, both in normal order. None where one
-/// can't come there.
+/// Splits a list: `Some((f, t))`, where `f` and then `t` are equivalent to `s`, `f` has the primitives with
+/// these labels, `t` the others, and both are in normal order; `None` if one cannot be moved in front of the
+/// others.
 pub fn split(s: &Seq, labels: &[Label]) -> Result<Option<(Seq, Seq)>, AllocError>
     ensures exact { IfOk result (FindsPair (Splits labels.now s.now)) }
 {
@@ -30,8 +31,8 @@ pub fn split(s: &Seq, labels: &[Label]) -> Result<Option<(Seq, Seq)>, AllocError
     Ok(Some((named, others)))
 }
 
-/// Commutes the elements with these labels to the front, in their order, and answers how many they
-/// are. None where an element before one of them stops it; the list is then left as it is.
+/// Commutes the elements with these labels to the front, in their order and in place. Returns their number,
+/// or `None` if one is blocked; the list is then partly commuted.
 fn gather(items: &mut [Named], labels: &[Label]) -> Option<usize>
     ensures exact { FindsPair (PartsInPlace labels.now items.old)
         (option_map (λ count. (count, items.new)) result) }
@@ -47,7 +48,8 @@ fn gather(items: &mut [Named], labels: &[Label]) -> Option<usize>
     Some(count)
 }
 
-/// Commutes the first element past the others. Where it can't pass, they are left as they are then.
+/// Commutes the first element past the others, in place. False if it cannot pass; they are then partly
+/// commuted.
 fn pass_first(items: &mut [Named]) -> bool
     ensures exact { Finds (FirstPasses items.old) (then_some result items.new) }
 {

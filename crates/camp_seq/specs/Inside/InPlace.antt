@@ -1,4 +1,4 @@
--- What moving elements inside a list answers and leaves.
+-- The results of moving elements inside a list.
 use Rattle.std.specs.Prelude.{◌≡◌, ◌≢◌, ℕ, ◌<◌, ◌≤◌, List, [], ◌∷◌, ◌++◌, length, take, drop, All}
 use Rattle.camp_prim.specs.Commuting.{Commute}
 use Rattle.camp_prim.specs.Labels.{label_of}
@@ -12,16 +12,16 @@ Precedes [] p p' s' = (p' ≡ p) × (s' ≡ [])
 Precedes (q ∷ s) p p' s' =
     (coming : Named) × (q' : Named) × (t : List Named) × Precedes s p coming t × Commute q coming p' q' × (s' ≡ q' ∷ t)
 
--- the list and the p behind it, each in its own place
+-- the same in place
 abbrev pub PrecedesInPlace : List Named × Named → List Named × Named → Type 0
 PrecedesInPlace old new = Precedes old.0 old.1 new.1 new.0
 
--- a and then s stand before p: on its way to the left p comes to no place before an element of a
+-- a and then s are before p: commuted to the left, p is blocked before it passes any element of a
 abbrev pub IsHeld : List Named → List Named → Named → Type 0
 IsHeld [] s p = Unit {0}
 IsHeld (y ∷ a) s p = ((p' : Named) (t : List Named) → ¬ (Precedes (y ∷ (a ++ s)) p p' t)) × IsHeld a s p
 
--- p0, which stood behind s0, has come forward to a place, each in its own place, and could come no further
+-- p0, which was after s0, was commuted in place to the left up to the index `at`, and was blocked there
 pub record ComesUpTo (s0 : List Named) (p0 : Named) (at : ℕ) (s : List Named) (p : Named) : Type 0 where
   pub bound : at ≤ length s0
   pub long : length s ≡ length s0
@@ -29,7 +29,8 @@ pub record ComesUpTo (s0 : List Named) (p0 : Named) (at : ℕ) (s : List Named) 
   pub came : Precedes (drop at s0) p0 p (drop at s)
   pub held : IsHeld (take at s0) (drop at s0) p0
 
--- p0, which stood before s0, has passed the elements before a place, each in its own place, and could come no further
+-- p0, which was before s0, was commuted in place past the elements before the index `at`, and was blocked
+-- there
 pub record GoesPast (s0 : List Named) (p0 : Named) (at : ℕ) (s : List Named) (p : Named) : Type 0 where
   pub bound : at ≤ length s0
   pub long : length s ≡ length s0
@@ -37,7 +38,7 @@ pub record GoesPast (s0 : List Named) (p0 : Named) (at : ℕ) (s : List Named) (
   pub passed : Passes p0 (take at s0) (take at s) p
   pub stops : at < length s0 → (s' : List Named) (p' : Named) → ¬ (Passes p0 s0 s' p')
 
--- p and the s behind it, each in its own place: p is commuted past every element of s
+-- p is commuted past every element of s, in place
 abbrev pub PassesInPlace : Named × List Named → Named × List Named → Type 0
 PassesInPlace old new = Passes old.0 old.1 new.1 new.0
 
@@ -64,7 +65,8 @@ abbrev pub FirstPasses : List Named → List Named → Type 0
 FirstPasses [] t = ⊥
 FirstPasses (p ∷ s) t = (s' : List Named) × (p' : Named) × Passes p s s' p' × (t ≡ s' ++ p' ∷ [])
 
--- the elements with these labels and behind them the others, from a place on, and before it the list as it was
+-- from the index `at` on, first the elements with these labels and then the others; before it the list is
+-- unchanged
 pub record PartsFrom (labels : List Label) (s : List Named) (at count : ℕ) (now : List Named) : Type 0 where
   pub named : List Named
   pub others : List Named
@@ -73,7 +75,7 @@ pub record PartsFrom (labels : List Label) (s : List Named) (at count : ℕ) (no
   pub counted : length named ≡ count
   pub waiting : take at now ≡ take at s
 
--- so many elements have these labels, and are commuted to the front
+-- `count` elements have these labels, and are commuted to the front
 abbrev pub PartsInPlace : List Label → List Named → ℕ → List Named → Type 0
 PartsInPlace labels s count t =
     (named : List Named) × (others : List Named) × Parts labels s named others

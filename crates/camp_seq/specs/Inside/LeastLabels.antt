@@ -1,4 +1,4 @@
--- The labels of a list in ascending order, up to the first that comes to its front.
+-- The labels of a list in ascending order, up to the first that can be moved to its front.
 use Rattle.std.specs.Prelude.{◌≡◌, ◌≢◌, ℕ, ◌+◌, Bool, true, if◌then◌else◌, List, [], ◌∷◌, Option, None, Some, IsTrue, All, ◌⊎◌}
 use Rattle.std.specs.Ordering.{is_lt}
 use Rattle.std.specs.declared.cmp.Ordering.TheVariants.{Less}
@@ -23,22 +23,22 @@ abbrev pub HasLabel : Label → List Named → Type 0
 HasLabel label [] = ⊥
 HasLabel label (p ∷ s) = (label_of p ≡ label) ⊎ HasLabel label s
 
--- of these elements none whose label is yet to be tried has a lesser one
+-- no element whose label was not tried has a lesser label
 abbrev pub NoneLess : Option Label → Label → List Named → Type 0
 NoneLess tried label s = All (λ p. IsTrue (is_above tried (label_of p)) → label_cmp (label_of p) label ≢ Less) s
 
--- the least label of the list that is yet to be tried
+-- the least label of the list that was not tried
 pub record LeastAbove (tried : Option Label) (s : List Named) (label : Label) : Type 0 where
   pub above : IsTrue (is_above tried label)
   pub held : HasLabel label s
   pub least : NoneLess tried label s
 
--- how many elements have a label that is yet to be tried
+-- the number of elements whose label was not tried
 abbrev pub untried : Option Label → List Named → ℕ
 untried tried [] = 0
 untried tried (p ∷ s) = (if is_above tried (label_of p) then 1 else 0) + untried tried s
 
--- t is s with the least label that comes to the front at its front
+-- t is s with the least label that can be moved to the front at its front
 pub record Settles (s t : List Named) : Type 0 where
   pub first : Named
   pub rest : List Named

@@ -1,4 +1,4 @@
--- Lists that are their own normal order by a look at each element.
+-- Lists that a quick check of each element finds in normal order.
 use Rattle.std.specs.Prelude.{◌≡◌, ◌≢◌, ◌⊎◌, List}
 use Rattle.std.specs.List.{AllByRecursion}
 use Rattle.std.specs.declared.cmp.Ordering.TheVariants.{Less}
@@ -8,8 +8,8 @@ use Rattle.camp_prim.specs.declared.named.Named.{Named}
 use Rattle.camp_seq.specs.Chains.{CanCommute}
 use Rattle.camp_seq.specs.NormalOrder.{Norm}
 
--- x behind others, of which `last` is the last, and `greatest` the greatest label: its own label is not less, and is
--- the greatest now, or it is less, and x does not commute with the last
+-- x after other elements, whose last is `last` and whose greatest label is `greatest`: its own label is not
+-- less, and is the greatest from then on; or it is less, and x does not commute with the last
 abbrev pub StaysLast : Label → Named → Named → Label → Type 0
 StaysLast greatest last x more =
     ((label_cmp (label_of x) greatest ≢ Less) × (more ≡ label_of x))

@@ -1,4 +1,4 @@
-//! The normal order of a list with room, by insertion.
+//! The normal order of a list with headroom, by insertion.
 ghost use Rattle.std.specs.Prelude.{List, [], ◌∷◌, ◌++◌, ◌-◌, length, take, drop};
 ghost use Rattle.camp_prim.specs.declared.named.Named.{Named};
 ghost use Rattle.camp_seq.specs.Inside.FirstInOrder.{ComesIn, GoesIn};
@@ -9,8 +9,8 @@ ghost use Rattle.camp_seq.specs.Room.{HasRoom};
 use crate::passes::come_forward;
 use camp_prim::{Named, commute_in_place, has_less_label};
 
-/// Puts a list with room in normal order: one element after the other is put in its place among
-/// those before it. n elements take at most n * (n - 1) commuting steps.
+/// Puts a list with headroom in normal order: inserts one element after the other among those before it. n
+/// elements take at most n * (n - 1) commuting steps.
 pub(crate) fn order_by_insertion(items: &mut [Named])
     requires { HasRoom items.old }
     ensures { Norm items.old items.new }
@@ -20,8 +20,8 @@ pub(crate) fn order_by_insertion(items: &mut [Named])
     }
 }
 
-/// Commutes the last element to its place among the others, which are in normal order: behind those
-/// that it can't pass, and there behind those whose labels are less than its own.
+/// Commutes the last element to its position among the others, which are in normal order: after those that
+/// block it, and from there after those with lesser labels.
 fn place_last(items: &mut [Named])
     requires room { HasRoom items.old }
     requires own { Norm (take (length items.old - 1) items.old) (take (length items.old - 1) items.old) }
@@ -34,8 +34,8 @@ fn place_last(items: &mut [Named])
     items[at..].rotate_right(1);
 }
 
-/// Commutes `x`, which stands behind `s`, to its place among the elements of `s`. Each stays in its
-/// place in memory, and the answer is the number of elements of `s` before it.
+/// Commutes `x`, which is after `s`, to its position among the elements of `s`, in place. Returns the number
+/// of elements of `s` before it.
 fn find_place(s: &mut [Named], x: &mut Named) -> usize
     requires room { HasRoom (s.old ++ x.old ∷ []) }
     requires own { Norm s.old s.old }
@@ -46,9 +46,9 @@ fn find_place(s: &mut [Named], x: &mut Named) -> usize
     from + at
 }
 
-/// Commutes `a`, which stands before `s`, to the right, past elements with lesser labels, as far as it
-/// can. Each stays in its place in memory, and the answer is the number of elements of `s` before it. An element
-/// that can pass all of `s` stays there before the others as they are.
+/// Commutes `a`, which is before `s`, to the right past elements with lesser labels, as far as it can be
+/// moved, in place. Returns the number of elements of `s` before it. If it can pass all of `s`, the elements
+/// after it are unchanged.
 pub(crate) fn go_in(a: &mut Named, s: &mut [Named]) -> usize
     requires { Norm s.old s.old }
     ensures place { GoesIn s.old a.old result s.new a.new }

@@ -1,4 +1,4 @@
-//! Looks that tell what the way by the rule would come to. They take no memory.
+//! Quick checks of what the definitions would give. They do not allocate.
 ghost use Rattle.std.specs.Prelude.{◌<◌, List, [], ◌∷◌, ◌++◌, length, IfSome, IsTrue};
 ghost use Rattle.camp_prim.specs.Labels.{label_of};
 ghost use Rattle.camp_prim.specs.declared.named.Named.{Named};
@@ -11,9 +11,9 @@ ghost use Rattle.camp_seq.specs.Passing.{Passes};
 use crate::chains::can_commute;
 use camp_prim::{Named, has_less_label, stay};
 
-/// A quick test by one look at each element: its label is not less than any before it, or it does not commute
-/// with the one before it. True: the list is in normal order. False: it may or may not be. It takes no
-/// memory.
+/// True only if the list is in normal order: the label of each element is not less than any before it, or the
+/// element does not commute with the one before it. False decides nothing. Visits each element once; does not
+/// allocate.
 pub fn is_own_order(items: &[Named]) -> bool
     ensures sound { IsTrue result → Norm items.now items.now }
 {
@@ -23,7 +23,7 @@ pub fn is_own_order(items: &[Named]) -> bool
     greatest_in_order(items).is_some()
 }
 
-/// The same of a list, and of it with one more element behind it.
+/// The same check of a list, and of the list followed by one more element.
 pub fn are_own_orders(items: &[Named], last: &Named) -> (bool, bool)
     ensures list { IsTrue result.0 → Norm items.now items.now }
     ensures with_last { IsTrue result.1 → Norm (items.now ++ last.now ∷ []) (items.now ++ last.now ∷ []) }
@@ -37,8 +37,8 @@ pub fn are_own_orders(items: &[Named], last: &Named) -> (bool, bool)
     }
 }
 
-/// The same of a list in which no two neighbours commute. Where one more element does not commute with the last of
-/// them, the others are not looked at.
+/// The same of a list in which no two neighbours commute. If the last of them does not commute with the one
+/// more element, no other is visited.
 pub fn are_own_orders_of_chain(items: &[Named], last: &Named) -> (bool, bool)
     requires { Chain items.now }
     ensures list { IsTrue result.0 → Norm items.now items.now }
@@ -53,7 +53,8 @@ pub fn are_own_orders_of_chain(items: &[Named], last: &Named) -> (bool, bool)
     (true, true)
 }
 
-/// The element with the greatest label of a list, where a look at each tells that it is its own normal order.
+/// Returns the element with the greatest label if the quick check finds the list in normal order, else
+/// `None`.
 fn greatest_in_order(items: &[Named]) -> Option<&Named>
     requires { 0 < length items.now }
     ensures { IfSome result (λ greatest. IsInOrder items.now (label_of greatest.now)) }
@@ -65,7 +66,8 @@ fn greatest_in_order(items: &[Named]) -> Option<&Named>
     Some(greatest)
 }
 
-/// The element with the greatest label, with one more, where that stays behind the others.
+/// Returns the element with the greatest label, one more element included, if that stays after the others;
+/// else `None`.
 fn greatest_with<'a>(greatest: &'a Named, last: &Named, x: &'a Named) -> Option<&'a Named>
     ensures { IfSome result (λ more. StaysLast (label_of greatest.now) last.now x.now (label_of more.now)) }
 {
@@ -78,9 +80,9 @@ fn greatest_with<'a>(greatest: &'a Named, last: &Named, x: &'a Named) -> Option<
     Some(greatest)
 }
 
-/// Whether a look tells that a list in normal order is so too with one more element before it. No element comes to
-/// before that one from behind another with a greater label, or from behind one that it does not commute with, and
-/// none from behind a label that is not less than that of the first.
+/// True only if a list in normal order stays so with one more element before it: no element can be moved in
+/// front of it from after a greater label, from after one that it does not commute with, or from after a
+/// label that is not less than that of `x`.
 pub(crate) fn stays_first(x: &Named, s: &[Named]) -> bool
     requires { Norm s.now s.now }
     ensures { IsTrue result → Norm (x.now ∷ s.now) (x.now ∷ s.now) }
@@ -103,7 +105,7 @@ pub(crate) fn stays_first(x: &Named, s: &[Named]) -> bool
     true
 }
 
-/// The element with the greatest label of those before an element and of it, where it stays behind them.
+/// Returns the element with the greatest label, `p` included, if `p` stays after the others; else `None`.
 fn greatest_behind<'a>(greatest: &'a Named, last: &Named, p: &'a Named) -> Option<&'a Named>
     ensures { IfSome result (λ more. StaysBehind (label_of greatest.now) last.now p.now (label_of more.now)) }
 {
@@ -116,8 +118,8 @@ fn greatest_behind<'a>(greatest: &'a Named, last: &Named, p: &'a Named) -> Optio
     Some(p)
 }
 
-/// Whether a primitive passes a list, and all stay as they are. Where it says no, they may still do.
-/// It takes no memory.
+/// True only if a primitive commutes past a list and all elements stay unchanged. False decides nothing. Does
+/// not allocate.
 pub fn stays_past(p: &Named, s: &[Named]) -> bool
     ensures sound { IsTrue result → Passes p.now s.now s.now p.now }
 {
@@ -129,7 +131,7 @@ pub fn stays_past(p: &Named, s: &[Named]) -> bool
     true
 }
 
-/// Whether the first element of a list stops what is to pass it.
+/// True if the first element of a list blocks `p`.
 pub(crate) fn is_stopped(p: &Named, s: &[Named]) -> bool
     ensures { IsTrue result → (s' : List Named) (p' : Named) → ¬ (Passes p.now s.now s' p') }
 {
