@@ -1,4 +1,4 @@
--- A primitive or a list put before a contexted patch: what is seen behind it becomes what is seen before it.
+-- Adding a primitive or a list to a contexted patch: what is seen after it becomes what is seen before it.
 use Rattle.std.specs.Prelude.{◌≡◌, List, [], ◌∷◌}
 use Rattle.camp_prim.specs.Effect.{inverse_of}
 use Rattle.camp_prim.specs.Labels.{label_of}
@@ -8,14 +8,14 @@ use Rattle.camp_seq.specs.NormalOrder.{Norm}
 use Rattle.camp_seq.specs.Passing.{Passes, Fronts}
 use Rattle.camp_ctx.specs.Contexts.{ContextedPatch}
 
--- cancel: a and c:p give c':p, where c ~ a^ c'; what comes to the front is a^ itself
+-- cancel: a and c:p give c':p, where c ~ a^ c'; the primitive that is moved to the front is a^ itself
 pub record Cancels (a : Named) (x y : ContextedPatch) : Type 0 where
   pub rest : List Named
   pub front : Fronts (label_of (inverse_of a)) x.context (inverse_of a) rest
   pub context : Norm rest y.context
   pub patch : y.patch ≡ x.patch
 
--- commute: a and c:p give c':p', where a c ~ c' a' and a' p <-> p' a''; a passes by c:p
+-- commute: a and c:p give c':p', where a c ~ c' a' and a' p <-> p' a''; a passes c:p
 pub record PassesBy (a : Named) (x y : ContextedPatch) : Type 0 where
   pub a' : Named
   pub a'' : Named
@@ -29,11 +29,11 @@ pub record Keeps (a : Named) (x y : ContextedPatch) : Type 0 where
   pub context : Norm (a ∷ x.context) y.context
   pub patch : y.patch ≡ x.patch
 
--- a change gives nothing
+-- the relation gives nothing
 abbrev pub GivesNone : (ContextedPatch → ContextedPatch → Type 0) → ContextedPatch → Type 0
 GivesNone Change x = (y : ContextedPatch) → ¬ (Change x y)
 
--- a added to a contexted patch: the first of cancel, commute and keep that gives something
+-- adding a to a contexted patch: the first of cancel, commute and keep that gives something
 pub data Adds (a : Named) (x y : ContextedPatch) : Type 0 where
   cancel : Cancels a x y → Adds a x y
   commute : GivesNone (Cancels a) x → PassesBy a x y → Adds a x y
@@ -44,10 +44,10 @@ abbrev pub FromLast : (Named → ContextedPatch → ContextedPatch → Type 0) �
 FromLast Change [] x z = z ≡ x
 FromLast Change (a ∷ r) x z = (y : ContextedPatch) × FromLast Change r x y × Change a y z
 
--- a list added to a contexted patch
+-- adding a list to a contexted patch
 abbrev pub AddsAll : List Named → ContextedPatch → ContextedPatch → Type 0
 AddsAll = FromLast Adds
 
--- a list that passes by a contexted patch
+-- a list that commutes past a contexted patch
 abbrev pub PassesByAll : List Named → ContextedPatch → ContextedPatch → Type 0
 PassesByAll = FromLast PassesBy

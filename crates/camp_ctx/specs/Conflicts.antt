@@ -1,4 +1,4 @@
--- When two contexted patches of one state conflict.
+-- When two contexted patches of the same state conflict.
 use Rattle.std.specs.Prelude.{Bool, List, map, filter}
 use Rattle.std.specs.List.{list_any}
 use Rattle.std.specs.Ordering.{eq_by_cmp}
@@ -9,7 +9,7 @@ use Rattle.camp_seq.specs.Merging.{CleanMerge}
 use Rattle.camp_seq.specs.NormalOrder.{Splits}
 use Rattle.camp_ctx.specs.Contexts.{ContextedPatch, whole}
 
--- whether a list has an element with this signed label
+-- a list has an element with this signed label
 abbrev pub has_label : List Named → Label → Bool
 has_label s label = list_any (λ p. eq_by_cmp label_cmp (label_of p) label) s
 
@@ -17,8 +17,8 @@ has_label s label = list_any (λ p. eq_by_cmp label_cmp (label_of p) label) s
 abbrev pub common_labels : List Named → List Named → List Label
 common_labels s t = filter (has_label t) (map label_of s)
 
--- two lists of one state merge cleanly behind what they have in common:
--- s ~ common s1 and t ~ common t1, and s1 and t1 merge cleanly to t' and s'
+-- two lists of the same state merge cleanly behind what they have in common: s ~ common s1 and t ~ common t1,
+-- and s1 and t1 merge cleanly to t' and s'
 pub record MergesBehindCommon (s t t' s' : List Named) : Type 0 where
   pub common : List Named
   pub s1 : List Named

@@ -7,16 +7,16 @@ use Rattle.camp_prim.specs.declared.named.Named.{Named}
 use Rattle.camp_seq.specs.Running.{AppliesAll}
 use Rattle.camp_prim.specs.declared.labels.Key.{Key}
 
--- c:p, a patch p with a list c that leads to it from the state where it is seen
+-- c:p, a patch p with a list c that leads to it from the state in which it is seen
 pub record ContextedPatch : Type 0 where
   pub context : List Named
   pub patch : Named
 
--- :p, a patch seen from the state where it stands
+-- :p, a patch without a context
 abbrev pub bare : Named → ContextedPatch
 bare p = record { context = []; patch = p }
 
--- c p, the context and then the patch
+-- c p, the context followed by the patch
 abbrev pub whole : ContextedPatch → List Named
 whole x = x.context ++ x.patch ∷ []
 
@@ -28,7 +28,7 @@ patch_key p = key_of (label_of p)
 abbrev pub context_key : ContextedPatch → Key
 context_key x = patch_key x.patch
 
--- the context and then the patch apply to a tree
+-- the context followed by the patch applies to a tree
 abbrev pub Valid : Files → ContextedPatch → Type 0
 Valid tree x = (after : Files) × AppliesAll (whole x) tree after
 
@@ -36,7 +36,7 @@ Valid tree x = (after : Files) × AppliesAll (whole x) tree after
 abbrev pub ContextedPatches : Type 0
 ContextedPatches = FinMap key_cmp ContextedPatch
 
--- each member stands under its own label
+-- the key of each member is its own label
 abbrev pub AreKeyed : ContextedPatches → Type 0
 AreKeyed xs = (key : Key) (x : ContextedPatch) → get xs key ≡ Some x → key ≡ context_key x
 
@@ -44,7 +44,7 @@ AreKeyed xs = (key : Key) (x : ContextedPatch) → get xs key ≡ Some x → key
 abbrev pub only : ContextedPatch → ContextedPatches
 only x = insert empty (context_key x) x
 
--- X and l: the set with l too; a member with the label of l that is there stays
+-- X and l: the set with l too; a member with the label of l stays instead
 abbrev pub with_member : ContextedPatches → ContextedPatch → ContextedPatches
 with_member xs l = if contains_key xs (context_key l) then xs else insert xs (context_key l) l
 
@@ -52,7 +52,7 @@ with_member xs l = if contains_key xs (context_key l) then xs else insert xs (co
 abbrev pub AreValid : Files → ContextedPatches → Type 0
 AreValid tree xs = (key : Key) (x : ContextedPatch) → get xs key ≡ Some x → Valid tree x
 
--- what stands at a label before and after a change of members: nothing both times, or a member and what it becomes
+-- the values of a key before and after a change of members: none both times, or a member and what it becomes
 abbrev pub ChangesAt : (ContextedPatch → ContextedPatch → Type 0) → Option ContextedPatch → Option ContextedPatch → Type 0
 ChangesAt Change None None = Unit {0}
 ChangesAt Change None (Some y) = ⊥

@@ -1,4 +1,4 @@
--- The laws of contexted patches that crates above build on.
+-- The laws of contexted patches that the crates above build on.
 use Rattle.std.specs.Prelude.{◌≡◌, List, []}
 use Rattle.camp_base.specs.Trees.{Files}
 use Rattle.camp_prim.specs.Effect.{Applies}
@@ -8,7 +8,7 @@ use Rattle.camp_ctx.specs.Adding.{Adds, AddsAll, PassesBy, PassesByAll}
 use Rattle.camp_ctx.specs.Conflicts.{MergesBehindCommon, Conflict}
 use Rattle.camp_ctx.specs.Contexts.{ContextedPatch, Valid, ContextedPatches, AreValid, EachMember}
 
--- a change has at most one result
+-- a relation has at most one result
 abbrev pub GivesOne : {X : Type 0} → (X → X → Type 0) → Type 0
 GivesOne {X} Change = (x y z : X) → Change x y → Change x z → y ≡ z
 
@@ -23,7 +23,7 @@ pub record AreDetermined : Type 0 where
   pub merges :
       (s t t' s' u v : List Named) → MergesBehindCommon s t t' s' → MergesBehindCommon s t u v → (t' ≡ u) × (s' ≡ v)
 
--- a change always has a result
+-- a relation always has a result
 abbrev pub AlwaysGives : {X : Type 0} → (X → X → Type 0) → Type 0
 AlwaysGives {X} Change = (x : X) → (y : X) × Change x y
 
@@ -34,7 +34,8 @@ pub record AddingGives : Type 0 where
   pub adds_to_members : (a : Named) → AlwaysGives (EachMember (Adds a))
   pub adds_all_to_members : (r : List Named) → AlwaysGives (EachMember (AddsAll r))
 
--- where a step leads from one tree to another, what is valid in the second becomes by a change valid in the first
+-- if a step leads from one tree to another, the relation turns what is valid in the second into something
+-- valid in the first
 abbrev pub KeepsValid : (ContextedPatch → ContextedPatch → Type 0) → (Files → Files → Type 0) → Type 0
 KeepsValid Change Step = (x y : ContextedPatch) → Change x y → (old new : Files) → Step old new → Valid new x → Valid old y
 
@@ -44,7 +45,7 @@ KeepsMembersValid Change Step =
     (xs ys : ContextedPatches) → EachMember Change xs ys →
     (old new : Files) → Step old new → AreValid new xs → AreValid old ys
 
--- adding and passing by keep what is valid
+-- adding and commuting past keep validity
 pub record KeepValid : Type 0 where
   pub adds : (a : Named) → KeepsValid (Adds a) (Applies a.prim)
   pub adds_all : (r : List Named) → KeepsValid (AddsAll r) (AppliesAll r)
@@ -58,7 +59,7 @@ pub record EmptyChangesNothing : Type 0 where
   pub adds : (x y : ContextedPatch) → AddsAll [] x y → y ≡ x
   pub adds_to_members : (xs ys : ContextedPatches) → EachMember (AddsAll []) xs ys → ys ≡ xs
 
--- what merges cleanly behind a common part, and what conflicts, does so in either order
+-- merging behind a common part, and conflicting, are symmetric
 pub record AreSymmetric : Type 0 where
   pub merges : (s t t' s' : List Named) → MergesBehindCommon s t t' s' → MergesBehindCommon t s s' t'
   pub conflicts : (x y : ContextedPatch) → Conflict x y → Conflict y x

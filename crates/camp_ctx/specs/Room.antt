@@ -1,4 +1,4 @@
--- When a list has room to be added to a contexted patch.
+-- When a list has headroom to be added to a contexted patch.
 use Rattle.std.specs.Prelude.{◌≤◌, List, ◌++◌, All}
 use Rattle.camp_base.specs.Limits.{greatest_reach}
 use Rattle.camp_prim.specs.Effect.{InRange}
@@ -9,18 +9,19 @@ use Rattle.camp_seq.specs.Shapes.{reach_of}
 use Rattle.camp_ctx.specs.Adding.{AddsAll}
 use Rattle.camp_ctx.specs.Contexts.{ContextedPatch, whole}
 
--- a list has room to be added: in whatever order it is, where its last elements have been added, the others with what
--- has come of the contexted patch behind them have room
+-- a list has headroom to be added: in any order of it, after its last elements were added, the others
+-- followed by the result have headroom
 abbrev pub HasRoomToAdd : List Named → ContextedPatch → Type 0
 HasRoomToAdd r x =
     (first last : List Named) → r ~ (first ++ last) → (y : ContextedPatch) → AddsAll last x y → HasRoom (first ++ whole y)
 
--- with room, adding a list does not depend on the order of its elements
+-- with headroom, adding a list does not depend on the order of its elements
 abbrev pub AddsInAnyOrder : Type 0
 AddsInAnyOrder =
     (r s : List Named) (x y : ContextedPatch) → HasRoomToAdd r x → r ~ s → AddsAll r x y → AddsAll s x y
 
--- where a list, a context and its patch are in range, and so is the reach of all of them, the list has room to be added
+-- if a list, a context and its patch are in range, and so is the reach of all of them, the list has headroom
+-- to be added
 abbrev pub ReachGivesRoomToAdd : Type 0
 ReachGivesRoomToAdd =
     (r : List Named) (x : ContextedPatch) → All (λ p. InRange p.prim) (r ++ whole x)

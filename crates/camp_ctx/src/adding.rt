@@ -1,3 +1,4 @@
+//! Adding primitives and lists to a contexted patch, and commuting them past it.
 ghost use Rattle.std.specs.Prelude.{◌≡◌, IfOk, IsTrue};
 ghost use Rattle.camp_base.specs.Answers.{Finds};
 ghost use Rattle.camp_prim.specs.Effect.{inverse_of};
@@ -20,8 +21,8 @@ use std::alloc::{AllocError, Global};
 use std::slice;
 
 impl Contexted {
-    /// What is seen behind a list, as it is seen before the list: each primitive of the list, from
-    /// the last to the first, is added.
+    /// Adds a list: turns what is seen after the list into what is seen before it. The primitives are added
+    /// from the last to the first.
     pub fn add(r: &Seq, x: &Contexted) -> Result<Contexted, AllocError>
         ensures exact { IfOk result (λ y. AddsAll r.now x.now y) }
     {
@@ -31,8 +32,8 @@ impl Contexted {
         Ok(all)
     }
 
-    /// The same of a list that is given away. Where all of it is put before an empty context as it stands, it
-    /// becomes the context, and nothing of it is copied.
+    /// The same, and consumes the list. A list that is linked as it stands to an empty context becomes the
+    /// context without a copy.
     pub fn add_given(r: Seq, x: &Contexted) -> Result<Contexted, AllocError>
         ensures exact { IfOk result (λ y. AddsAll r x.now y) }
     {
@@ -44,8 +45,8 @@ impl Contexted {
         Contexted::told(x.allocator(), r, patch, told)
     }
 
-    /// What is seen behind a primitive, as it is seen before it: its inverse at the front of the
-    /// context is taken away; else it passes by; else it comes into the context.
+    /// Adds a primitive: removes its inverse from the front of the context if it can be moved there; else
+    /// commutes it past the context and the patch; else inserts it before the context.
     pub fn add_one(a: &Named, x: &Contexted) -> Result<Contexted, AllocError>
         ensures exact { IfOk result (λ y. Adds a.now x.now y) }
     {
@@ -54,8 +55,8 @@ impl Contexted {
         Ok(sum)
     }
 
-    /// `Some` of what is seen behind a list, as it is seen before the list, where each primitive of
-    /// the list, from the last to the first, passes by. None where one can't.
+    /// Commutes a list past a contexted patch, from its last primitive to its first: the contexted patch as
+    /// it is seen before the list, or `None` if one primitive cannot pass.
     pub fn past(r: &Seq, x: &Contexted) -> Result<Option<Contexted>, AllocError>
         ensures exact { IfOk result (Finds (PassesByAll r.now x.now)) }
     {
@@ -70,8 +71,8 @@ impl Contexted {
         Ok(Some(passed))
     }
 
-    /// `Some` of what is seen behind a primitive, as it is seen before it, where the primitive
-    /// passes by the context and the patch. None where it can't.
+    /// Commutes a primitive past the context and the patch: the contexted patch as it is seen before it, or
+    /// `None` if it cannot pass.
     pub fn past_one(a: &Named, x: &Contexted) -> Result<Option<Contexted>, AllocError>
         ensures exact { IfOk result (Finds (PassesBy a.now x.now)) }
     {
@@ -85,7 +86,7 @@ impl Contexted {
     }
 }
 
-/// The same where the primitive has passed the context, as `moved`. None where it can't pass the patch.
+/// The same once the primitive has passed the context, as `moved`; `None` if it cannot pass the patch.
 fn past_patch(
     a: &Named,
     mut context: Seq,
@@ -103,8 +104,8 @@ fn past_patch(
     Ok(Some(before))
 }
 
-/// The elements of a list are added, from the last to the first. Where each surely leaves the contexted patch as it is,
-/// nothing is copied.
+/// Adds the elements of a list, from the last to the first. Copies nothing if a quick check finds that all of
+/// them leave the contexted patch unchanged.
 fn add_items(r: &[Named], x: Contexted) -> Result<Contexted, AllocError>
     ensures { IfOk result (AddsAll r.now x) }
 {
@@ -115,7 +116,7 @@ fn add_items(r: &[Named], x: Contexted) -> Result<Contexted, AllocError>
     add_to_copy(&r[..count], &x)
 }
 
-/// The same with a copy of the context, which is made once, and then changed in its place in memory.
+/// The same on one copy of the context, which is then changed in place.
 fn add_to_copy(r: &[Named], x: &Contexted) -> Result<Contexted, AllocError>
     ensures { IfOk result (AddsAll r.now x.now) }
 {
@@ -128,7 +129,7 @@ fn add_to_copy(r: &[Named], x: &Contexted) -> Result<Contexted, AllocError>
     made(x.allocator(), context, patch, told)
 }
 
-/// The context, with room for so many more elements.
+/// Copies the context, with capacity for `more` further elements.
 fn copy_with_room(x: &Contexted, more: usize) -> Result<Seq, AllocError>
     ensures { IfOk result (λ copy. copy ≡ x.now.context) }
 {
@@ -138,8 +139,8 @@ fn copy_with_room(x: &Contexted, more: usize) -> Result<Seq, AllocError>
     Ok(copy)
 }
 
-/// Adds a primitive to a context and the patch behind it, in their places in memory. `told` and the answer: whether
-/// the context is known to be its own normal order, before and then.
+/// Adds a primitive to a context and the patch after it, in place. `told` and the result say whether the
+/// context is known to be its own normal order, before and after.
 fn add_to(a: &Named, context: &mut Seq, patch: &mut Named, told: bool) -> Result<bool, AllocError>
     requires { IsTrue told → Norm context.old context.old }
     ensures adds { IfOk result (λ told. Adds a.now (behind context.old patch.old) (behind context.new patch.new)) }
@@ -157,9 +158,10 @@ fn add_to(a: &Named, context: &mut Seq, patch: &mut Named, told: bool) -> Result
     Ok(told)
 }
 
-/// Puts a context in normal order that `a` has passed, as it has the patch behind it. It is so where it was so
-/// before, and `a^`, the context and the patch have room: they do where `a` and these have room to merge, since `a^`
-/// reaches as far as `a`. The answer: whether it is known to be its own normal order then.
+/// Puts a context that `a` has passed in normal order; `patch` is the patch as `a` has passed it. If the
+/// context was its own normal order before, it still is if `a^`, the context and the patch have headroom;
+/// they do if `a` and these have headroom to merge, since `a^` reaches as far as `a`. True if the context is
+/// known to be its own normal order.
 fn order_passed(a: &Named, context: &mut Seq, patch: &Named, told: bool) -> bool
     requires { IsTrue told → KeepsOrder a.now context.old patch.now }
     ensures order { Norm context.old context.new }
@@ -174,8 +176,8 @@ fn order_passed(a: &Named, context: &mut Seq, patch: &Named, told: bool) -> bool
     true
 }
 
-/// `Some` of what is behind the inverse of `a` at the front of a list. None where what comes to the front there is
-/// not that inverse.
+/// Returns the list after the inverse of `a` at its front. `None` if the primitive that can be moved to the
+/// front is not that inverse.
 fn behind_inverse(a: &Named, s: &Seq) -> Result<Option<Seq>, AllocError>
     ensures exact { IfOk result
         (Finds (λ rest. Fronts (label_of (inverse_of a.now)) s.now (inverse_of a.now) rest)) }
@@ -193,7 +195,8 @@ fn behind_inverse(a: &Named, s: &Seq) -> Result<Option<Seq>, AllocError>
     Ok(Some(rest))
 }
 
-/// A patch behind a context, which is its own normal order where that is told or a look tells it.
+/// Makes a contexted patch. Its context is its own normal order if `told` says so or the quick check finds
+/// it.
 fn made(alloc: Global, context: Seq, patch: Named, told: bool) -> Result<Contexted, AllocError>
     requires { IsTrue told → Norm context context }
     ensures { IfOk result (λ y. y ≡ behind context patch) }

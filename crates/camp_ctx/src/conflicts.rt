@@ -1,3 +1,4 @@
+//! Conflicts between contexted patches.
 ghost use Rattle.std.specs.Prelude.{◌≡◌, ◌↔◌, IfOk, IsTrue};
 ghost use Rattle.camp_base.specs.Answers.{FindsPair};
 ghost use Rattle.camp_ctx.specs.Conflicts.{common_labels, has_label, Conflict, MergesBehindCommon};
@@ -12,7 +13,7 @@ use camp_seq::{Seq, clean_merge, split};
 use std::alloc::{AllocError, Global};
 use std::slice;
 
-/// Whether two contexted patches that are seen from one state conflict.
+/// True if two contexted patches that are seen from the same state conflict.
 pub fn conflict(x: &Contexted, y: &Contexted) -> Result<bool, AllocError>
     ensures exact { IfOk result (λ found. IsTrue found ↔ Conflict x.now y.now) }
 {
@@ -36,8 +37,8 @@ pub fn conflict(x: &Contexted, y: &Contexted) -> Result<bool, AllocError>
     }
 }
 
-/// `Some((t', s'))` where two lists that begin in one state have a common part, and merge cleanly
-/// behind it: `t'` stands behind `s`, and `s'` behind `t`.
+/// Merges two lists of the same state behind what they have in common: `Some((t', s'))` if the rests merge
+/// cleanly, where `t'` comes after `s`, and `s'` after `t`.
 pub fn merge_behind_common(
     alloc: Global,
     s: &Seq,
@@ -62,7 +63,7 @@ pub fn merge_behind_common(
     Ok(clean_merge(&rest, &beside)?)
 }
 
-/// The context and then the patch.
+/// Joins the context and the patch to one list.
 fn whole(x: &Contexted) -> Result<Seq, AllocError>
     ensures { IfOk result (λ list. list ≡ whole x.now) }
 {
@@ -73,7 +74,7 @@ fn whole(x: &Contexted) -> Result<Seq, AllocError>
     )
 }
 
-/// The labels of the elements of `s` that an element of `t` has too.
+/// Returns the labels of the elements of `s` that elements of `t` have too.
 fn common_labels(alloc: Global, s: &[Named], t: &[Named]) -> Result<Vec<Label>, AllocError>
     ensures { IfOk result (λ labels. labels.items ≡ common_labels s.now t.now) }
 {
@@ -83,7 +84,7 @@ fn common_labels(alloc: Global, s: &[Named], t: &[Named]) -> Result<Vec<Label>, 
         .collect(alloc)
 }
 
-/// Whether an element of a list has a label.
+/// True if an element of a list has the label.
 pub(crate) fn has_label(s: &[Named], label: &Label) -> bool
     ensures { result ≡ has_label s.now label.now }
 {

@@ -1,3 +1,4 @@
+//! The contexted patch.
 ghost use Rattle.std.specs.Prelude.{◌≡◌, ◌↔◌, [], ◌∷◌, ◌++◌, IfOk, IsTrue};
 ghost use Rattle.camp_seq.specs.NormalOrder.{Norm};
 ghost use Rattle.camp_ctx.specs.Contexts.{context_key, whole};
@@ -9,8 +10,8 @@ use camp_share::{Share, Shared};
 use std::alloc::{AllocError, Global};
 use std::marker::Model;
 
-/// A patch with a list of primitives, its context, that leads to it from the state where it is seen.
-/// A copy is one count.
+/// A patch with its context: a list of primitives that leads to it from the state in which it is seen. Copies
+/// are reference counted.
 #[derive(Drop)]
 pub struct Contexted {
     alloc: Global,
@@ -21,7 +22,7 @@ pub struct Contexted {
 struct Parts {
     context: Seq,
     patch: Named,
-    // What a look has told: the context is its own normal order, and so is the whole.
+    // The results of the quick checks: the context is its own normal order, and so is the whole.
     context_is_ordered: bool,
     whole_is_ordered: bool,
 }
@@ -39,7 +40,7 @@ impl Model for Contexted {
 }
 
 impl Contexted {
-    /// `c:p`, with the context as it is given.
+    /// Makes `c:p` with this context.
     pub fn new(alloc: Global, context: Seq, patch: Named) -> Result<Contexted, AllocError>
         ensures exact { IfOk result (λ x. x ≡ record { context = context; patch = patch }) }
     {
@@ -47,7 +48,8 @@ impl Contexted {
         Contexted::told(alloc, context, patch, told)
     }
 
-    /// `c:p`, where a look has told whether the context is its own normal order, and whether the whole is.
+    /// Makes `c:p` from the results of the quick checks: whether the context is its own normal order, and
+    /// whether the whole is.
     pub(crate) fn told(
         alloc: Global,
         context: Seq,
@@ -83,21 +85,21 @@ impl Contexted {
         &self.parts.patch
     }
 
-    /// The name of the patch.
+    /// Returns the name of the patch.
     pub fn name(&self) -> &Name
         ensures exact { result.now ≡ self.now.patch.name }
     {
         &self.patch().name
     }
 
-    /// The place in the patch.
+    /// Returns the position of the primitive in its patch.
     pub fn place(&self) -> u8
         ensures exact { result ≡ self.now.patch.place }
     {
         self.patch().place
     }
 
-    /// The absolute label of the patch.
+    /// Returns the absolute label of the patch.
     pub fn key(&self) -> Key
         ensures exact { result ≡ context_key self.now }
     {
@@ -114,21 +116,22 @@ impl Contexted {
         })
     }
 
-    /// Whether the two have the same context and the same patch. It takes no memory.
+    /// True if the two have the same context and the same patch; does not allocate.
     pub fn is_same(&self, other: &Contexted) -> bool
         ensures exact { IsTrue result ↔ (self.now ≡ other.now) }
     {
         self.context().is_same(other.context()) && self.patch().is_same(other.patch())
     }
 
-    /// A quick test, made once. True: the context is its own normal order. False: it may or may not be.
+    /// True only if the context is its own normal order. False decides nothing. Checked once, when the
+    /// contexted patch is made.
     pub(crate) fn context_is_ordered(&self) -> bool
         ensures { IsTrue result → Norm self.now.context self.now.context }
     {
         self.parts.context_is_ordered
     }
 
-    /// The same of the context with the patch behind it.
+    /// The same of the context followed by the patch.
     pub(crate) fn whole_is_ordered(&self) -> bool
         ensures { IsTrue result → Norm (whole self.now) (whole self.now) }
     {

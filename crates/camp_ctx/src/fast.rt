@@ -1,33 +1,30 @@
-//! Faster ways to the results of the rules. Each says when it may be taken; there its result is that
-//! of the rule.
+//! Faster ways to the results of the definitions. Each says when it applies; there its result is the defined one.
 //!
-//! - A chain is added in one pass. Where the elements of a list, from some place on, neither commute nor
-//!   cancel with what stands behind them, adding them one by one puts each in front and orders nothing.
-//!   So they are joined to the context at once, and the rest is added one by one.
-//! - A chain that is given away, and is all put before an empty context, becomes the context. No element of it is
-//!   copied.
-//! - A patch without a context is looked at beside a chain that is all put before another patch: where its inverse
-//!   passes them as they are, it does not conflict with them, and where it does not merge with the first of them,
-//!   under a label that they don't have, it does. What is seen behind the chain is not made.
-//! - What a primitive passes as it is, and what is its own normal order then, stays as it is where the
-//!   primitive is added, and is shared. So are the elements at the end of a list that all leave a contexted patch so: the
-//!   context is copied where the first comes that may not.
-//! - A context in normal order is so too when a primitive has passed it, if there is room. So it is not put in order
-//!   anew.
-//! - Whether a look tells that the context, and the whole, is its own normal order is found out once, when a
-//!   contexted patch is made, and kept with it (`Contexted::context_is_ordered`, `whole_is_ordered`). Of a chain the
-//!   last element alone is looked at, where the patch doesn't pass that. A context that was put in order is known to
-//!   be its own normal order where it has room, whatever a look tells.
-//! - A patch without a context, whose inverse passes the whole of another contexted patch as it is, does
-//!   not conflict with it: the two merge with nothing in common. No list is made of it.
-//! - Contexted patches that change other files, under other absolute labels, do not conflict: their normal
-//!   orders change other files too, and merge as they are. No list is made of them.
-//! - Two contexted patches without a label in common conflict exactly where they don't merge as they stand, if each
-//!   is its own normal order or they have room: with room, whether lists merge does not depend on their orders.
-//!   So none is put in order; and where the inverse of the first primitive of the one does not commute with the
-//!   first of the other, no list is made of them.
-//! - Two lists with no label in common merge as they stand where each is its own normal order: a split
-//!   takes nothing off. Where their first primitives do not merge, the lists do not, and neither is copied.
+//! - A chain is added in one pass. If the elements of a list, from some index on, neither commute with nor cancel what
+//! comes after them, adding them one by one inserts each at the front and orders nothing. So they are joined to
+//! the context at once, and the rest is added one by one.
+//! - A chain that is consumed and linked to an empty context becomes the context; no element of it is copied.
+//! - A patch without a context is compared with a chain that is linked to another patch: if its inverse passes them
+//! unchanged, it does not conflict with them; if it does not merge with the first of them, and they do not have its label,
+//! it does. What is seen after the chain is not made.
+//! - A context that a primitive passes unchanged, and that is in normal order, stays unchanged when the primitive is
+//! added, and is shared. So do the elements at the end of a list that all leave a contexted patch unchanged: the
+//! context is copied at the first that may change it.
+//! - A context in normal order stays so when a primitive has passed it, if there is headroom; it is not ordered anew.
+//! - The quick checks of whether the context, and the whole, are their own normal orders are made once, when a
+//! contexted patch is made (`Contexted::context_is_ordered`, `whole_is_ordered`). Of a chain only the last element is
+//! checked, if the patch does not pass it. A context that was ordered is known to be its own normal order if it has
+//! headroom, whatever the quick check says.
+//! - A patch without a context whose inverse passes the whole of another contexted patch unchanged does not conflict
+//! with it: the two merge with nothing in common. No list is made.
+//! - Contexted patches that change other files, under other absolute labels, do not conflict: their normal orders
+//! change other files too, and merge unchanged. No list is made.
+//! - Two contexted patches without a common label conflict exactly if they do not merge in their order, if each is its
+//! own normal order or they have headroom: with headroom, whether lists merge does not depend on their orders.
+//! So neither is ordered; and if the inverse of the first primitive of one does not commute with the first of the
+//! other, no list is made.
+//! - Two lists without a common label merge in their order if each is its own normal order: a split changes nothing. If
+//! their first primitives do not merge, the lists do not, and neither is copied.
 mod behind;
 mod conflicts;
 mod elsewhere;

@@ -1,10 +1,11 @@
+//! Joining lists.
 ghost use Rattle.std.specs.Prelude.{◌≡◌, ◌++◌, IfOk};
 
 use camp_prim::Named;
 use camp_seq::Seq;
 use std::alloc::{AllocError, Global};
 
-/// A list and then another, copied.
+/// Copies a list and then another into one list.
 pub fn join(alloc: Global, s: &[Named], t: &[Named]) -> Result<Seq, AllocError>
     ensures exact { IfOk result (λ joined. joined ≡ s.now ++ t.now) }
 {
@@ -14,7 +15,7 @@ pub fn join(alloc: Global, s: &[Named], t: &[Named]) -> Result<Seq, AllocError>
     Ok(joined)
 }
 
-/// Puts copies of these behind a list.
+/// Appends copies of `items` to a list.
 pub(crate) fn push_all(list: &mut Seq, items: &[Named]) -> Result<(), AllocError>
     ensures { IfOk result (λ _. list.new ≡ list.old ++ items.now) }
 {

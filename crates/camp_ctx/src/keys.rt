@@ -1,3 +1,4 @@
+//! The key of a member of a set.
 ghost use Rattle.std.specs.Prelude.{◌≡◌};
 ghost use Rattle.camp_prim.proofs.LabelOrder.{key_ties};
 

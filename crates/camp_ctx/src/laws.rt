@@ -1,7 +1,8 @@
+//! The laws of contexted patches, as functions whose contracts state them.
 ghost use Rattle.camp_ctx.specs.Laws.{AddingGives, AreDetermined, AreSymmetric, EmptyChangesNothing, KeepValid};
 ghost use Rattle.camp_ctx.specs.Room.{AddsInAnyOrder, ReachGivesRoomToAdd};
 
-/// Adding, passing by, and merging behind a common part have at most one result.
+/// Adding, commuting past, and merging behind a common part have at most one result.
 #[tactic(auto, using(crate::proofs::SetChanges::are_determined))]
 pub fn results_in_context_are_determined()
     ensures law { AreDetermined }
@@ -13,8 +14,8 @@ pub fn adding_always_gives()
     ensures law { AddingGives }
 {}
 
-/// Adding and passing by keep what is valid: what is valid behind a primitive or a list becomes
-/// something that is valid before it.
+/// Adding and commuting past keep validity: what is valid after a primitive or a list becomes something that
+/// is valid before it.
 #[tactic(auto, using(crate::proofs::SetChanges::keep_valid))]
 pub fn adding_and_passing_keep_valid()
     ensures law { KeepValid }
@@ -31,14 +32,14 @@ pub fn conflict_is_symmetric()
     ensures law { AreSymmetric }
 {}
 
-/// Where a list, a context and its patch are in range, and so is the reach of all of them, the list has
-/// room to be added.
+/// If a list, a context and its patch are in range, and so is the reach of all of them, the list has headroom
+/// to be added.
 #[tactic(auto, using(crate::proofs::RoomToAdd::reach_gives_room_to_add))]
 pub fn reach_gives_room_to_add()
     ensures law { ReachGivesRoomToAdd }
 {}
 
-/// Adding a list does not depend on the order of its elements, given room.
+/// Adding a list does not depend on the order of its elements, given headroom.
 #[tactic(auto, using(crate::proofs::AddOrders::adds_in_any_order))]
 pub fn list_adds_in_any_order()
     ensures law { AddsInAnyOrder }

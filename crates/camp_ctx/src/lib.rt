@@ -1,4 +1,4 @@
-//! Patches with a context that leads to them, and sets of them.
+//! Contexted patches, which have a list of primitives that leads to them, and sets of them.
 #![tactic(auto)]
 
 mod adding;

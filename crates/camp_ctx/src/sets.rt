@@ -1,3 +1,4 @@
+//! Sets of contexted patches.
 ghost use Rattle.std.specs.Prelude.{◌≡◌, ◌↔◌, IfOk, IsTrue, MatchOption, None, Some, fold, slice_get};
 ghost use Rattle.std.specs.FinMap as map;
 ghost use Rattle.camp_ctx.specs.Contexts.{context_key, only, with_member, ContextedPatch, AreKeyed, EachMember};
@@ -35,7 +36,7 @@ impl Model for CtxSet {
 }
 
 impl CtxSet {
-    /// The set without a member. It takes no memory.
+    /// Makes an empty set; does not allocate.
     pub fn empty(alloc: Global) -> CtxSet
         ensures exact { result ≡ map.empty }
     {
@@ -44,7 +45,7 @@ impl CtxSet {
         }
     }
 
-    /// How many members the set has.
+    /// Returns the number of members.
     pub fn len(&self) -> usize
         ensures value { result ≡ map.len self.now }
         ensures keyed { AreKeyed self.now }
@@ -52,7 +53,7 @@ impl CtxSet {
         self.members.len()
     }
 
-    /// The member with an absolute label.
+    /// Returns the member with an absolute label, or `None`.
     pub fn get(&self, key: &Key) -> Option<&Contexted>
         ensures exact { MatchOption result
             (map.get self.now key.now ≡ None)
@@ -61,7 +62,7 @@ impl CtxSet {
         self.members.get(&MemberKey::new(*key))
     }
 
-    /// The set with a member too. A member with its label that is there stays.
+    /// Returns the set with one more member. A member with the same label stays instead.
     pub fn insert(&self, member: &Contexted) -> Result<CtxSet, AllocError>
         ensures exact { IfOk result (λ set. set ≡ with_member self.now member.now) }
     {
@@ -70,7 +71,7 @@ impl CtxSet {
         Ok(CtxSet { members })
     }
 
-    /// The set with these members too, one after the other. It is made once for all of them.
+    /// Returns the set with more members, inserted one after the other; builds the map once.
     pub fn insert_all(&self, more: &[Contexted]) -> Result<CtxSet, AllocError>
         ensures exact { IfOk result (λ set. set ≡ fold with_member self.now more.now) }
     {
@@ -83,7 +84,7 @@ impl CtxSet {
         Ok(CtxSet { members })
     }
 
-    /// The set without the member of a label.
+    /// Returns the set without the member with a label.
     pub fn without(&self, key: &Key) -> Result<CtxSet, AllocError>
         ensures exact { IfOk result (λ set. set ≡ map.remove self.now key.now) }
     {
@@ -91,7 +92,7 @@ impl CtxSet {
         Ok(CtxSet { members })
     }
 
-    /// The member at a place in the order of the labels.
+    /// Returns the member at `index` in the order of the labels, or `None` past the end.
     pub fn at(&self, index: usize) -> Option<&Contexted>
         ensures exact { MatchOption result
             (slice_get (map.values self.now) index ≡ None)
@@ -103,7 +104,7 @@ impl CtxSet {
         }
     }
 
-    /// The member of a set that has no other. None where it has none, or more than one.
+    /// Returns the only member, or `None` if there are none or several.
     pub fn sole(&self) -> Option<&Contexted>
         ensures exact { MatchOption result
             ((x : ContextedPatch) → ¬ (self.now ≡ only x))
@@ -115,7 +116,7 @@ impl CtxSet {
         self.at(0)
     }
 
-    /// What is seen behind a list, as it is seen before the list: the list is added to every member.
+    /// Adds a list to every member: what is seen after the list becomes what is seen before it.
     pub fn add(r: &Seq, set: &CtxSet) -> Result<CtxSet, AllocError>
         ensures exact { IfOk result (λ sum. EachMember (AddsAll r.now) set.now sum) }
     {
@@ -133,7 +134,7 @@ impl CtxSet {
         Ok(CtxSet { members })
     }
 
-    /// The same with a primitive in place of a list.
+    /// Adds a primitive to every member.
     pub fn add_one(a: &Named, set: &CtxSet) -> Result<CtxSet, AllocError>
         ensures exact { IfOk result (λ sum. EachMember (Adds a.now) set.now sum) }
     {
@@ -148,7 +149,7 @@ impl CtxSet {
         Ok(CtxSet { members })
     }
 
-    /// Whether the two sets have the same members. It takes no memory.
+    /// True if the two sets have the same members; does not allocate.
     pub fn is_same(&self, other: &CtxSet) -> bool
         ensures exact { IsTrue result ↔ (self.now ≡ other.now) }
     {

@@ -1,4 +1,4 @@
--- Lists that do not merge, and primitives that have nothing to do with each other.
+-- Lists that do not merge, and primitives that are independent of each other.
 use Rattle.std.specs.Prelude.{◌≡◌, ◌≢◌, List, false}
 use Rattle.std.specs.List.{AllByRecursion}
 use Rattle.camp_prim.specs.Effect.{InRange}
@@ -13,7 +13,7 @@ use Rattle.camp_ctx.specs.Conflicts.{has_label}
 abbrev pub NoCleanMerge : List Named → List Named → Type 0
 NoCleanMerge s t = (t' s' : List Named) → ¬ (CleanMerge s t t' s')
 
--- two lists merge cleanly as they stand exactly where their normal orders do
+-- two lists merge cleanly in their order exactly if their normal orders do
 pub record MergesAsOrdered (s t : List Named) : Type 0 where
   pub forth : (s1 t1 t' s' : List Named) → Norm s s1 → Norm t t1 → CleanMerge s1 t1 t' s'
       → (v' : List Named) × (u' : List Named) × CleanMerge s t v' u'
@@ -21,7 +21,7 @@ pub record MergesAsOrdered (s t : List Named) : Type 0 where
       → (s1 : List Named) × (t1 : List Named) × (v' : List Named) × (u' : List Named)
       × Norm s s1 × Norm t t1 × CleanMerge s1 t1 v' u'
 
--- no label of the one list is in the other
+-- no label of one list is in the other
 abbrev pub LacksLabels : List Named → List Named → Type 0
 LacksLabels s t = AllByRecursion (λ p. has_label t (label_of p) ≡ false) s
 
@@ -32,10 +32,10 @@ pub record Elsewhere (p q : Named) : Type 0 where
   pub first : InRange p.prim
   pub second : InRange q.prim
 
--- a primitive has nothing to do with any of a list
+-- a primitive is independent of every element of a list
 abbrev pub IsElsewhere : List Named → Named → Type 0
 IsElsewhere t p = AllByRecursion (Elsewhere p) t
 
--- no element of the one list has to do with one of the other
+-- no element of one list changes a file of the other
 abbrev pub AreElsewhere : List Named → List Named → Type 0
 AreElsewhere s t = AllByRecursion (IsElsewhere t) s

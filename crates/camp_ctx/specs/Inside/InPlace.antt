@@ -1,4 +1,4 @@
--- A context and the patch behind it, apart, and what a primitive that passes them leaves.
+-- A context and the patch after it, and what a primitive that passes them leaves.
 use Rattle.std.specs.Prelude.{List, [], ◌∷◌, ◌++◌}
 use Rattle.camp_prim.specs.Effect.{inverse_of}
 use Rattle.camp_prim.specs.declared.named.Named.{Named}
@@ -10,6 +10,6 @@ use Rattle.camp_ctx.specs.Contexts.{ContextedPatch}
 abbrev pub behind : List Named → Named → ContextedPatch
 behind c p = record { context = c; patch = p }
 
--- c and the p behind it, which a has passed: where they have room with a^ before them, c is its own normal order
+-- c and the patch p after it, which a has passed: if a^, c and p have headroom, c is its own normal order
 abbrev pub KeepsOrder : Named → List Named → Named → Type 0
 KeepsOrder a c p = HasRoom (inverse_of a ∷ (c ++ p ∷ [])) → Norm c c

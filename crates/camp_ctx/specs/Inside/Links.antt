@@ -1,4 +1,4 @@
--- Primitives that are added by putting them before a context as they stand.
+-- Primitives that are added by inserting them before a context as they stand.
 use Rattle.std.specs.Prelude.{◌≢◌, ℕ, ◌<◌, ◌≤◌, List, [], ◌∷◌, ◌++◌, length, drop}
 use Rattle.camp_prim.specs.Effect.{inverse_of}
 use Rattle.camp_prim.specs.Labels.{label_of}
@@ -6,13 +6,13 @@ use Rattle.camp_prim.specs.declared.named.Named.{Named}
 use Rattle.camp_seq.specs.Chains.{CanCommute, Chain}
 use Rattle.camp_ctx.specs.Adding.{AddsAll}
 
--- a neither commutes with what stands behind it nor is taken away with it
+-- a neither commutes with nor cancels the first element after it
 abbrev pub Links : Named → List Named → Named → Type 0
 Links a [] patch = ¬ (CanCommute a patch)
 Links a (q ∷ s) patch = ¬ (CanCommute a q) × (label_of q ≢ label_of (inverse_of a))
 
--- from a place on the elements are put before the context as they stand, and where there are any, no two neighbours
--- commute then
+-- from the index `at` on, the elements are inserted before the context as they stand; if there are any, no
+-- two neighbours commute after that
 abbrev pub LinksFrom : List Named → List Named → Named → ℕ → Type 0
 LinksFrom r s patch at =
     (at ≤ length r)

@@ -1,4 +1,4 @@
-//! Conflicts with what is seen behind a list, which is not made.
+//! Conflicts with what is seen after a list, without making it.
 ghost use Rattle.std.specs.Prelude.{◌≡◌, ◌↔◌, ◌<◌, [], ◌∷◌, ◌++◌, false, length, IfOk, IfSome, IsTrue};
 ghost use Rattle.camp_prim.specs.Effect.{inverse_of};
 ghost use Rattle.camp_prim.specs.Labels.{label_of};
@@ -17,8 +17,8 @@ use camp_seq::{Seq, are_own_orders_of_chain, stays_past};
 use std::alloc::AllocError;
 use std::slice;
 
-/// Whether a patch without a context conflicts with what is seen behind a list, as it is seen before the list.
-/// None where a look does not tell: then it may or may not.
+/// True if a patch without a context conflicts with `x`, which is seen after the list `r`, as it is seen
+/// before it. `None` if the quick check does not decide.
 pub fn conflict_behind(a: &Named, r: &Seq, x: &Contexted) -> Result<Option<bool>, AllocError>
     ensures sound { IfOk result (λ told. IfSome told (λ found.
         (seen : ContextedPatch) × AddsAll r.now x.now seen × (IsTrue found ↔ Conflict (bare a.now) seen))) }
@@ -39,7 +39,7 @@ pub fn conflict_behind(a: &Named, r: &Seq, x: &Contexted) -> Result<Option<bool>
     Ok(None)
 }
 
-/// Whether the inverse of a primitive passes a list and the patch behind it, and all stay as they are.
+/// True if the inverse of a primitive passes a list and the patch after it, and all stay unchanged.
 fn goes_back(a: &Named, s: &[Named], patch: &Named) -> Result<bool, AllocError>
     ensures { IfOk result (λ yes. IsTrue yes →
         Passes (inverse_of a.now) (s.now ++ patch.now ∷ []) (s.now ++ patch.now ∷ []) (inverse_of a.now)) }
@@ -52,8 +52,8 @@ fn goes_back(a: &Named, s: &[Named], patch: &Named) -> Result<bool, AllocError>
     Ok(stay(&back, patch))
 }
 
-/// Whether the label of a primitive is neither in a list nor that of the patch behind it, and the primitive does
-/// not merge with the first of them.
+/// True if neither a list nor the patch after it has the label of a primitive, and the primitive does not
+/// merge with the first of the list.
 fn stands_against(a: &Named, s: &[Named], patch: &Named) -> Result<bool, AllocError>
     requires { 0 < length s.now }
     ensures lacks { IfOk result (λ yes. IsTrue yes → has_label (s.now ++ patch.now ∷ []) (label_of a.now) ≡ false) }

@@ -1,4 +1,4 @@
-//! Conflicts and merges that a look tells.
+//! Quick checks of conflicts and merges.
 ghost use Rattle.std.specs.Prelude.{◌≡◌, ◌↔◌, List, [], ◌∷◌, IfOk, IfSome, IsTrue};
 ghost use Rattle.camp_base.specs.Answers.{FindsPair};
 ghost use Rattle.camp_prim.specs.Labels.{label_of};
@@ -16,8 +16,8 @@ use camp_seq::{Seq, can_commute, clean_merge, has_room_to_merge, is_own_order, s
 use std::alloc::AllocError;
 use std::slice;
 
-/// Whether a look tells that two contexted patches conflict: they merge only as they stand, and their first primitives
-/// don't. Where it says no, they may still do.
+/// True only if two contexted patches conflict, by a quick check: they merge only in their order, and their
+/// first primitives do not merge. False decides nothing.
 pub(crate) fn clash(x: &Contexted, y: &Contexted) -> Result<bool, AllocError>
     ensures { IfOk result (λ yes. IsTrue yes → Conflict x.now y.now) }
 {
@@ -29,8 +29,8 @@ pub(crate) fn clash(x: &Contexted, y: &Contexted) -> Result<bool, AllocError>
     Ok(merge_as_they_stand(x, y))
 }
 
-/// Whether two contexted patches conflict, given as lists too. None where they have a label in common, or where their
-/// orders may count.
+/// True if two contexted patches conflict; `first` and `second` are their lists. `None` if they have a common
+/// label, or if their orders may matter.
 pub(crate) fn conflict_in_any_order(
     x: &Contexted,
     y: &Contexted,
@@ -50,8 +50,8 @@ pub(crate) fn conflict_in_any_order(
     }
 }
 
-/// Whether two contexted patches conflict exactly where they don't merge as they stand: they have no label in common,
-/// and each is its own normal order, or they have room. Where it says no, that may still be so.
+/// True only if two contexted patches conflict exactly if they do not merge in their order: they have no
+/// common label, and each is its own normal order or they have headroom. False decides nothing.
 fn merge_as_they_stand(x: &Contexted, y: &Contexted) -> bool
     ensures labels { IsTrue result → LacksLabels (whole x.now) (whole y.now) }
     ensures orders { IsTrue result → MergesAsOrdered (whole x.now) (whole y.now) }
@@ -70,7 +70,7 @@ fn merge_as_they_stand(x: &Contexted, y: &Contexted) -> bool
     )
 }
 
-/// Whether a look has told of both that they are their own normal orders.
+/// True if the quick check found both in normal order.
 fn are_ordered(x: &Contexted, y: &Contexted) -> bool
     ensures first { IsTrue result → Norm (whole x.now) (whole x.now) }
     ensures second { IsTrue result → Norm (whole y.now) (whole y.now) }
@@ -78,7 +78,7 @@ fn are_ordered(x: &Contexted, y: &Contexted) -> bool
     x.whole_is_ordered() && y.whole_is_ordered()
 }
 
-/// The first primitive of the context, or the patch where there is none.
+/// Returns the first primitive of the context, or the patch if there is none.
 fn first_of(x: &Contexted) -> &Named
     ensures { (rest : List AnyNamed) × (whole x.now ≡ result.now ∷ rest) }
 {
@@ -88,7 +88,7 @@ fn first_of(x: &Contexted) -> &Named
     }
 }
 
-/// Whether no label of a contexted patch is in another.
+/// True if no label of one contexted patch is in the other.
 fn have_no_common_label(x: &Contexted, y: &Contexted) -> bool
     ensures { IsTrue result → LacksLabels (whole x.now) (whole y.now) }
 {
@@ -98,7 +98,7 @@ fn have_no_common_label(x: &Contexted, y: &Contexted) -> bool
     names_none(y, x.context().items())
 }
 
-/// Whether a contexted patch has none of the labels of a list.
+/// True if a contexted patch has none of the labels of a list.
 fn names_none(y: &Contexted, s: &[Named]) -> bool
     ensures { IsTrue result → LacksLabels s.now (whole y.now) }
 {
@@ -110,7 +110,7 @@ fn names_none(y: &Contexted, s: &[Named]) -> bool
     true
 }
 
-/// Whether a contexted patch has the label of a primitive.
+/// True if a contexted patch has the label of a primitive.
 fn names(y: &Contexted, p: &Named) -> bool
     ensures { result ≡ has_label (whole y.now) (label_of p.now) }
 {
@@ -121,8 +121,8 @@ fn names(y: &Contexted, p: &Named) -> bool
     has_label(slice::from_ref(y.patch()), &label)
 }
 
-/// Whether a look tells that a patch without a context merges with a list, and both stay as they are.
-/// Where it says no, they may still do.
+/// True only if a patch without a context is independent of a list: they merge, and both stay unchanged.
+/// False decides nothing.
 pub(crate) fn stand_aside(x: &Contexted, t: &Seq) -> Result<bool, AllocError>
     ensures { IfOk result (λ yes. IsTrue yes → MergesBehindCommon (whole x.now) t.now t.now (whole x.now)) }
 {
@@ -137,7 +137,7 @@ pub(crate) fn stand_aside(x: &Contexted, t: &Seq) -> Result<bool, AllocError>
     Ok(is_own_order(t.items()))
 }
 
-/// Whether two lists have no label in common, and a look tells that they are their own normal orders.
+/// True if two lists have no common label, and the quick check finds both in normal order.
 pub(crate) fn are_apart(common: &[Label], s: &Seq, t: &Seq) -> bool
     ensures none { IsTrue result → common.now ≡ [] }
     ensures first { IsTrue result → Norm s.now s.now }
@@ -146,7 +146,7 @@ pub(crate) fn are_apart(common: &[Label], s: &Seq, t: &Seq) -> bool
     common.is_empty() && is_own_order(s.items()) && is_own_order(t.items())
 }
 
-/// The clean merge of two lists. Neither is copied where their first primitives don't merge.
+/// Merges two lists. Copies neither if their first primitives do not merge.
 pub(crate) fn merge_apart(s: &Seq, t: &Seq) -> Result<Option<(Seq, Seq)>, AllocError>
     ensures exact { IfOk result (FindsPair (CleanMerge s.now t.now)) }
 {
@@ -156,7 +156,7 @@ pub(crate) fn merge_apart(s: &Seq, t: &Seq) -> Result<Option<(Seq, Seq)>, AllocE
     clean_merge(s, t)
 }
 
-/// Whether the first primitives of two lists don't merge.
+/// True if the first primitives of two lists do not merge.
 pub(crate) fn stop_each_other(s: &[Named], t: &[Named]) -> Result<bool, AllocError>
     ensures { IfOk result (λ yes. IsTrue yes → NoCleanMerge s.now t.now) }
 {
@@ -169,7 +169,7 @@ pub(crate) fn stop_each_other(s: &[Named], t: &[Named]) -> Result<bool, AllocErr
     }
 }
 
-/// Whether a contexted patch is seen from the state where it stands.
+/// True if a contexted patch has an empty context.
 fn has_no_context(x: &Contexted) -> bool
     ensures { IsTrue result ↔ (x.now.context ≡ []) }
 {

@@ -7,8 +7,8 @@ ghost use Rattle.camp_ctx.specs.Inside.Apart.{AreElsewhere, Elsewhere, IsElsewhe
 use crate::Contexted;
 use camp_prim::{Named, have_same_key};
 
-/// Whether two contexted patches change other files, under other absolute labels, and so don't conflict.
-/// Where it says no, they may still not. It takes no memory.
+/// True only if two contexted patches change other files, under other absolute labels, and so do not
+/// conflict. False decides nothing. Does not allocate.
 pub(crate) fn are_elsewhere(x: &Contexted, y: &Contexted) -> bool
     ensures { IsTrue result → ¬ (Conflict x.now y.now) }
 {
@@ -18,7 +18,7 @@ pub(crate) fn are_elsewhere(x: &Contexted, y: &Contexted) -> bool
     all_elsewhere(x.context().items(), y)
 }
 
-/// Whether each element of a list changes other files than a contexted patch.
+/// True if each element of a list changes other files than a contexted patch.
 fn all_elsewhere(s: &[Named], y: &Contexted) -> bool
     ensures { IsTrue result → AreElsewhere s.now (whole y.now) }
 {
@@ -30,7 +30,7 @@ fn all_elsewhere(s: &[Named], y: &Contexted) -> bool
     true
 }
 
-/// Whether a primitive changes another file than each of a contexted patch.
+/// True if a primitive changes another file than each primitive of a contexted patch.
 fn is_elsewhere(p: &Named, y: &Contexted) -> bool
     ensures { IsTrue result → IsElsewhere (whole y.now) p.now }
 {
@@ -40,7 +40,7 @@ fn is_elsewhere(p: &Named, y: &Contexted) -> bool
     is_away_from(p, y.context().items())
 }
 
-/// Whether a primitive changes another file than each element of a list.
+/// True if a primitive changes another file than each element of a list.
 fn is_away_from(p: &Named, s: &[Named]) -> bool
     ensures { IsTrue result → IsElsewhere s.now p.now }
 {

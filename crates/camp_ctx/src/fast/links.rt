@@ -1,4 +1,4 @@
-//! A chain is added in one pass.
+//! Adding a chain in one pass.
 ghost use Rattle.std.specs.Prelude.{◌≡◌, ◌≢◌, ◌<◌, ◌≤◌, ◌++◌, ◌↔◌, length, drop, IfOk, IsTrue};
 ghost use Rattle.camp_prim.specs.Effect.{inverse_of};
 ghost use Rattle.camp_prim.specs.Labels.{label_of};
@@ -11,8 +11,8 @@ use camp_prim::Named;
 use camp_seq::{Seq, are_own_orders_of_chain, can_commute, is_chain};
 use std::alloc::AllocError;
 
-/// The part of a list that is put before a context as it stands, from a place on, and the sum with
-/// it. What stands before that place is yet to be added.
+/// Links the end of a list to a context as it stands: returns the index from which the elements are linked,
+/// and the sum with them. The elements before that index are still to be added.
 pub(crate) fn linked(r: &[Named], x: &Contexted) -> Result<(usize, Contexted), AllocError>
     ensures within { IfOk result (λ found. found.0 ≤ length r.now) }
     ensures added { IfOk result (λ found. AddsAll (drop found.0 r.now) x.now found.1) }
@@ -28,7 +28,7 @@ pub(crate) fn linked(r: &[Named], x: &Contexted) -> Result<(usize, Contexted), A
     Ok((start, sum))
 }
 
-/// Whether all of a list, and there is some, is put before a contexted patch without a context as it stands.
+/// True if a list is not empty and all of it is linked as it stands to a contexted patch without a context.
 pub(crate) fn becomes_context(r: &Seq, x: &Contexted) -> bool
     ensures some { IsTrue result → 0 < length r.now }
     ensures chain { IsTrue result → Chain r.now }
@@ -45,7 +45,7 @@ pub(crate) fn becomes_context(r: &Seq, x: &Contexted) -> bool
     links_from(items, context, x.patch()) == 0
 }
 
-/// From which place on the elements of a list are put before a context as they stand: no two
+/// Returns the index from which the elements of a list are linked to a context as they stand: no two
 /// neighbours commute or cancel.
 fn links_from(r: &[Named], s: &[Named], patch: &Named) -> usize
     ensures { LinksFrom r.now s.now patch.now result }
@@ -61,8 +61,7 @@ fn links_from(r: &[Named], s: &[Named], patch: &Named) -> usize
     0
 }
 
-/// Whether the last element of a list may be put before a context as it stands. Where it may not, none
-/// of the list is.
+/// True if the last element of a list may be linked to a context; if not, none of the list is.
 fn may_link(r: &[Named], s: &[Named], patch: &Named) -> bool {
     match r.last() {
         None => false,
@@ -70,8 +69,8 @@ fn may_link(r: &[Named], s: &[Named], patch: &Named) -> bool {
     }
 }
 
-/// Whether a primitive neither commutes with what stands behind it nor is taken away with it. Behind it
-/// stand two lists and the patch.
+/// True if a primitive neither commutes with nor cancels the first element after it; two lists and the patch
+/// come after it.
 fn links(a: &Named, r: &[Named], s: &[Named], patch: &Named) -> bool
     ensures { IsTrue result ↔ Links a.now (r.now ++ s.now) patch.now }
 {
@@ -84,7 +83,7 @@ fn links(a: &Named, r: &[Named], s: &[Named], patch: &Named) -> bool
     !can_commute(a, patch)
 }
 
-/// Whether two neighbours neither commute nor are inverse by their labels.
+/// True if two neighbours do not commute and their labels are not inverse.
 fn holds(a: &Named, q: &Named) -> bool
     ensures { IsTrue result ↔ (¬ (CanCommute a.now q.now) × (label_of q.now ≢ label_of (inverse_of a.now))) }
 {

@@ -1,4 +1,4 @@
-//! What stays as it is behind a primitive.
+//! Quick checks of what a primitive leaves unchanged.
 ghost use Rattle.std.specs.Prelude.{◌≤◌, length, drop, IsTrue, slice_get};
 ghost use Rattle.std.specs.FinMap as map;
 ghost use Rattle.camp_seq.specs.NormalOrder.{Norm};
@@ -11,8 +11,8 @@ use camp_prim::{Named, stay};
 use camp_seq::{Seq, stays_past};
 
 impl Contexted {
-    /// A quick test. True: adding `a` leaves the contexted patch as it is, and `a` passes by it. False:
-    /// it may or may not. It takes no memory.
+    /// True only if adding `a` leaves the contexted patch unchanged, and `a` passes it. False decides
+    /// nothing. Does not allocate.
     pub fn stays_behind(&self, a: &Named) -> bool
         ensures sound { IsTrue result → Adds a.now self.now self.now }
         ensures passes { IsTrue result → PassesBy a.now self.now self.now }
@@ -21,7 +21,8 @@ impl Contexted {
     }
 }
 
-/// The same of a context and the patch behind it, where it may be told that the context is its own normal order.
+/// The same of a context and the patch after it; `told` says that the context is known to be its own normal
+/// order.
 pub(crate) fn stays(a: &Named, context: &Seq, patch: &Named, told: bool) -> bool
     requires { IsTrue told → Norm context.now context.now }
     ensures sound { IsTrue result → Adds a.now (behind context.now patch.now) (behind context.now patch.now) }
@@ -36,7 +37,8 @@ pub(crate) fn stays(a: &Named, context: &Seq, patch: &Named, told: bool) -> bool
     stay(a, patch)
 }
 
-/// How many elements of a list are left to be added where those behind them leave a contexted patch as it is.
+/// Returns the number of elements of a list that still have to be added, if those after them leave a
+/// contexted patch unchanged.
 pub(crate) fn changing(r: &[Named], x: &Contexted) -> usize
     ensures within { result ≤ length r.now }
     ensures added { AddsAll (drop result r.now) x.now x.now }
@@ -50,8 +52,7 @@ pub(crate) fn changing(r: &[Named], x: &Contexted) -> usize
 }
 
 impl CtxSet {
-    /// A quick test. True: adding `a` leaves each member as it is. False: it may or may not. It
-    /// takes no memory.
+    /// True only if adding `a` leaves each member unchanged. False decides nothing. Does not allocate.
     pub fn stays_behind(&self, a: &Named) -> bool
         ensures sound { IsTrue result → EachMember (Adds a.now) self.now self.now }
     {
@@ -64,7 +65,7 @@ impl CtxSet {
     }
 }
 
-/// Whether the member at a place, if there is one, is as it was where `a` is added.
+/// True if the member at `index`, if there is one, is unchanged when `a` is added.
 fn member_stays(set: &CtxSet, index: usize, a: &Named) -> bool
     ensures { IsTrue result → ChangesAt (Adds a.now)
         (slice_get (map.values set.now) index) (slice_get (map.values set.now) index) }
