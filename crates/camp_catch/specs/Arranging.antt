@@ -1,11 +1,11 @@
--- Lists of catches brought into another order by commuting neighbours.
+-- Lists of catches that are reordered by commuting neighbours.
 use Rattle.std.specs.Prelude.{◌≡◌, ◌≢◌, ◌⊎◌, ℕ, List, [], ◌∷◌, ◌++◌, Contains}
 use Rattle.camp_prim.specs.declared.labels.Key.{Key}
 use Rattle.camp_catch.specs.Catches.{catch_key}
 use Rattle.camp_catch.specs.Commuting.{CommuteCatch}
 use Rattle.camp_catch.specs.declared.catches.Catch.{Catch}
 
--- list k <-> k' list': k is commuted left over a list, from its last to its first
+-- list k <-> k' list': k is commuted to before all of a list
 abbrev pub ComesBefore : List Catch → Catch → Catch → List Catch → Type 0
 ComesBefore [] k k' list' = (k' ≡ k) × (list' ≡ [])
 ComesBefore (j ∷ list) k k' list' =
@@ -16,7 +16,7 @@ ComesBefore (j ∷ list) k k' list' =
 abbrev pub DoNotCommute : Catch → Catch → Type 0
 DoNotCommute j k = (k' j' : Catch) → ¬ (CommuteCatch j k k' j')
 
--- on its way left over a list, k can not pass the catch with this absolute label
+-- k, commuted to before a list, is blocked by the catch with this absolute label
 abbrev pub StopsAt : List Catch → Catch → Key → Type 0
 StopsAt [] k on = ⊥
 StopsAt (j ∷ list) k on =
@@ -27,7 +27,8 @@ StopsAt (j ∷ list) k on =
 abbrev pub IsOf : List (List ℕ) → Catch → Type 0
 IsOf names k = Contains names (catch_key k).name
 
--- rest list <-> first others: behind the catches of rest, those of the names come first, in their order
+-- rest list <-> first others: the catches of the names are commuted to before `rest` and the others, in their
+-- order
 abbrev pub ArrangesBehind : List (List ℕ) → List Catch → List Catch → List Catch → List Catch → Type 0
 ArrangesBehind names rest [] first others = (first ≡ []) × (others ≡ rest)
 ArrangesBehind names rest (k ∷ list) first others =
@@ -35,8 +36,8 @@ ArrangesBehind names rest (k ∷ list) first others =
     × ComesBefore rest k k' rest' × ArrangesBehind names rest' list t others × (first ≡ k' ∷ t)))
     ⊎ ((¬ (IsOf names k)) × ArrangesBehind names (rest ++ k ∷ []) list first others)
 
--- behind the catches of rest, which are of none of the names, `patch` is the absolute label of the first catch of the
--- names that stops, and `on` that of the catch that it can not pass
+-- after the catches of `rest`, which are of none of the names: `patch` is the absolute label of the first
+-- catch of the names that is blocked, and `on` that of the catch that blocks it
 abbrev pub SticksBehind : List (List ℕ) → List Catch → List Catch → Key → Key → Type 0
 SticksBehind names rest [] patch on = ⊥
 SticksBehind names rest (k ∷ list) patch on =
@@ -45,15 +46,16 @@ SticksBehind names rest (k ∷ list) patch on =
     × ComesBefore rest k k' rest' × SticksBehind names rest' list patch on))
     ⊎ ((¬ (IsOf names k)) × SticksBehind names (rest ++ k ∷ []) list patch on))
 
--- list <-> first rest: the catches of the names are commuted left over the others
+-- list <-> first rest: the catches of the names are commuted to before the others
 abbrev pub Arrange : List (List ℕ) → List Catch → List Catch → List Catch → Type 0
 Arrange names list first rest = ArrangesBehind names [] list first rest
 
--- the list can not be arranged: the catch of the names with the absolute label `patch` can not pass the one with `on`
+-- the list cannot be arranged: the catch of the names with the absolute label `patch` is blocked by the one
+-- with `on`
 abbrev pub ArrangeSticks : List (List ℕ) → List Catch → Key → Key → Type 0
 ArrangeSticks names list patch on = SticksBehind names [] list patch on
 
--- list <-> k' others: the first catch with this absolute label is commuted left over all before it
+-- list <-> k' others: the first catch with this absolute label is commuted to before all others
 abbrev pub ComesFirst : Key → List Catch → Catch → List Catch → Type 0
 ComesFirst key [] k' others = ⊥
 ComesFirst key (j ∷ list) k' others =
@@ -61,15 +63,15 @@ ComesFirst key (j ∷ list) k' others =
     ⊎ ((catch_key j ≢ key) × ((coming : Catch) × (j' : Catch) × (t : List Catch)
     × ComesFirst key list coming t × CommuteCatch j coming k' j' × (others ≡ j' ∷ t)))
 
--- the list in the order of these absolute labels; the catches that it does not name stay behind the others, in their
--- order
+-- the list in the order of these absolute labels; the catches that it does not name stay after the others, in
+-- their order
 abbrev pub Align : List Key → List Catch → List Catch → Type 0
 Align [] list aligned = aligned ≡ list
 Align (key ∷ order) list aligned =
     (k : Catch) × (others : List Catch) × (t : List Catch)
     × ComesFirst key list k others × Align order others t × (aligned ≡ k ∷ t)
 
--- the first label of the order whose catch can not come first, or is not there
+-- the first label of the order whose catch is blocked or does not exist
 abbrev pub AlignSticks : List Key → List Catch → Key → Type 0
 AlignSticks [] list stuck = ⊥
 AlignSticks (key ∷ order) list stuck =

@@ -5,7 +5,7 @@ use Rattle.camp_catch.specs.Merging.{Clean, FirstConflict, PlainBesideConflictor
 use Rattle.camp_catch.specs.declared.catches.Catch.{Catch}
 use Rattle.camp_catch.specs.declared.catches.Conflictor.{Conflictor}
 
--- where the one case has a result, the other has none
+-- if one case has a result, the other has none
 abbrev pub Exclude : (Catch → Catch → Type 0) → (Catch → Catch → Type 0) → Type 0
 Exclude One Other = (k' j' k j : Catch) → One k' j' → ¬ (Other k j)
 
@@ -28,8 +28,8 @@ pub record CasesExclude : Type 0 where
   pub apart_several : ConflictorsExclude TwoConflictorsApart OneOfSeveralConflicts
   pub only_several : ConflictorsExclude OnlyConflictGoes OneOfSeveralConflicts
 
--- the same of merging; the mirror is the cases of a plain catch and a conflictor, seen from the other side, and two
--- conflictors have one case
+-- the same of merging; the mirror is the cases of a plain catch and a conflictor with the results exchanged,
+-- and two conflictors have one case
 pub record MergeCasesExclude : Type 0 where
   pub both_plain : (a b : Named) → Exclude (Clean a b) (FirstConflict a b)
   pub plain_and_conflictor : PlainExclude PlainBesideConflictor PlainJoinsConflictor

@@ -18,17 +18,18 @@ abbrev pub effect_of : Catch → List Named
 effect_of (Plain a) = a ∷ []
 effect_of (Catch.Conflictor k) = k.effect
 
--- what a catch conflicts with, and its identity, are valid in a tree; a plain catch has neither
+-- the conflicts and the identity of a conflictor are valid in a tree; a plain catch has neither
 abbrev pub IsSeenFrom : Files → Catch → Type 0
 IsSeenFrom tree (Plain a) = Unit {0}
 IsSeenFrom tree (Catch.Conflictor k) = AreValid tree k.conflicts × Valid tree k.identity
 
--- a catch fits a tree and leads to another: its effect does, and there its conflicts and its identity are valid
+-- a catch fits a tree and leads to another: its effect leads there, and its conflicts and its identity are
+-- valid there
 pub record Fits (j : Catch) (old new : Files) : Type 0 where
   pub effect : AppliesAll (effect_of j) old new
   pub seen : IsSeenFrom new j
 
--- catches, each in the tree that those before it leave, fit a tree and lead to another
+-- catches fit a tree one after the other and lead to another
 abbrev pub FitsAll : List Catch → Files → Files → Type 0
 FitsAll [] old new = new ≡ old
 FitsAll (j ∷ js) old new = (between : Files) × Fits j old between × FitsAll js between new

@@ -1,6 +1,6 @@
--- When two catches, one after the other, may commute, and what they become. The letters of the cases: j is [a] or (r,
--- X, i), k is [b] or (s, Y, l); the sets X, Y, Z are conflicts, i and l identities. Each list that a case makes is put
--- in normal order as it is made; an inverse s^ is taken as it is. A catch is in a set where its absolute label is.
+-- When two catches, one after the other, commute, and to which two. The letters of the cases: j is [a] or (r,
+-- X, i), k is [b] or (s, Y, l); the sets X, Y, Z are conflicts, i and l identities. Each list that a case
+-- makes is in normal order; an inverse s^ is taken as it is. A catch is in a set if its absolute label is.
 use Rattle.std.specs.Prelude.{◌≡◌, ◌≢◌, ◌⊎◌, ◌≤◌, ◌&&◌, List, [], ◌∷◌, ◌++◌, map, filter, Some, None}
 use Rattle.std.specs.List.{All}
 use Rattle.std.specs.FinMap.{get, contains_key, remove, len}
@@ -28,7 +28,7 @@ pub record BothPlain (a b : Named) (k' j' : Catch) : Type 0 where
   pub second : k' ≡ Plain b'
   pub first : j' ≡ Plain a'
 
--- plain past conflictor: a is not in Y; a s ~ s' a', and a' passes by l
+-- plain past conflictor: a is not in Y; a s ~ s' a', and a' passes l
 -- [a] (s, Y, l) <-> (s', Y', l') [a'], where a' added to Y gives Y'
 pub record PlainPastConflictor (a : Named) (k : Conflictor) (k' j' : Catch) : Type 0 where
   pub apart : get k.conflicts (patch_key a) ≡ None
@@ -40,7 +40,7 @@ pub record PlainPastConflictor (a : Named) (k : Conflictor) (k' j' : Catch) : Ty
   pub second : k' ≡ Catch.Conflictor moved
   pub first : j' ≡ Plain a'
 
--- conflictor past plain: r b ~ b' r', and b^ passes by i
+-- conflictor past plain: r b ~ b' r', and b^ passes i
 -- (r, X, i) [b] <-> [b'] (r', X', i'), where b^ added to X gives X'
 pub record ConflictorPastPlain (j : Conflictor) (b : Named) (k' j' : Catch) : Type 0 where
   pub b' : Named
@@ -51,12 +51,11 @@ pub record ConflictorPastPlain (j : Conflictor) (b : Named) (k' j' : Catch) : Ty
   pub second : k' ≡ Plain b'
   pub first : j' ≡ Catch.Conflictor moved
 
--- the labels of the inverses in r whose absolute labels stand in a set
+-- the labels of the inverses in r whose absolute labels are in a set
 abbrev pub labels_undone : List Named → ContextedPatches → List Label
 labels_undone r ys = map label_of (filter (λ p. p.inverse && contains_key ys (patch_key p)) r)
 
--- two effects commute, but for what r undoes of Y, which stays first: r is split by the labels undone, and joined
--- is what is behind the common part
+-- two effects commute, except for what r undoes of Y, which stays first: r is split by the labels undone
 -- common rr s ~ common s' rr', where r ~ common rr by the labels undone, and rr s ~ s' rr'
 pub record EffectsPass (r s : List Named) (ys : ContextedPatches) (effect rr' : List Named) : Type 0 where
   pub common : List Named
@@ -156,7 +155,7 @@ CommuteCatch (Plain a) (Catch.Conflictor k) k' j' = CommutePlainConflictor a k k
 CommuteCatch (Catch.Conflictor j) (Plain b) k' j' = ConflictorPastPlain j b k' j'
 CommuteCatch (Catch.Conflictor j) (Catch.Conflictor k) k' j' = CommuteConflictors j k k' j'
 
--- what may be wanting memory: two plain catches where they commute, and any others
+-- commuting these may run out of memory: two plain catches if they commute, and any others
 abbrev pub MayWant : Catch → Catch → Type 0
 MayWant (Plain a) (Plain b) = (b' : Named) × ((a' : Named) × Commute a b b' a')
 MayWant (Plain a) (Catch.Conflictor k) = Unit {0}

@@ -1,4 +1,4 @@
--- Conflictors (r, X, i), and what is made of them: r is the effect, X the conflicts, and i the identity.
+-- Conflictors (r, X, i), and what is made from them: r is the effect, X the conflicts, and i the identity.
 use Rattle.std.specs.Prelude.{List, [], ◌∷◌}
 use Rattle.std.specs.FinMap.{remove}
 use Rattle.camp_prim.specs.Effect.{inverse_of}
@@ -11,7 +11,7 @@ use Rattle.camp_catch.specs.declared.catches.Conflictor.{Conflictor}
 abbrev pub against : Named → Named → Conflictor
 against a b = record { effect = inverse_of a ∷ []; conflicts = only (bare a); identity = bare b }
 
--- ([], {l}, i): a conflict with l alone, which has no effect
+-- ([], {l}, i): a conflict with l alone, without an effect
 abbrev pub in_conflict_with : ContextedPatch → ContextedPatch → Conflictor
 in_conflict_with l i = record { effect = []; conflicts = only l; identity = i }
 
@@ -31,7 +31,8 @@ joined_by l k = with_conflicts (with_member k.conflicts l) k
 abbrev pub without : Key → Conflictor → Conflictor
 without key k = with_conflicts (remove k.conflicts key) k
 
--- (r, X, i) becomes (r', X', i'): r' is as one relation says, each member of X changes by another, and i by a third
+-- (r, X, i) becomes (r', X', i'): the three relations lead from the effect, each member of the conflicts, and
+-- the identity to the new ones
 pub record Becomes (IsEffect : List Named → Type 0) (ChangesMember ChangesIdentity : ContextedPatch → ContextedPatch → Type 0)
     (old new : Conflictor) : Type 0 where
   pub effect : IsEffect new.effect

@@ -9,13 +9,14 @@ use Rattle.camp_catch.specs.Merging.{MergeCatch}
 use Rattle.camp_catch.specs.MergingLists.{MergeLists}
 use Rattle.camp_catch.specs.declared.catches.Catch.{Catch}
 
--- commuting keeps effects: where j and then k fit, so do k' and then j', and both orders end in one tree
+-- commuting keeps effects: if j and then k fit, so do k' and then j', and both orders lead to the same tree
 abbrev pub CommuteKeepsEffects : Type 0
 CommuteKeepsEffects =
     (j k k' j' : Catch) → CommuteCatch j k k' j' → (old between new : Files) → Fits j old between → Fits k between new →
     (other : Files) × Fits k' old other × Fits j' other new
 
--- merging keeps effects: where j and k fit one tree, k' fits after j and j' after k, and both orders end in one tree
+-- merging keeps effects: if j and k fit the same tree, k' fits after j and j' after k, and both orders lead
+-- to the same tree
 abbrev pub MergeKeepsEffects : Type 0
 MergeKeepsEffects =
     (j k k' j' : Catch) → MergeCatch j k k' j' → (old left right : Files) → Fits j old left → Fits k old right →
@@ -33,7 +34,7 @@ CommuteIsUnique =
 abbrev pub MergeIsUnique : Type 0
 MergeIsUnique = (j k k' j' l i : Catch) → MergeCatch j k k' j' → MergeCatch j k l i → (k' ≡ l) × (j' ≡ i)
 
--- what is arranged, aligned or merged keeps fitting, and ends in the same tree
+-- a list that is arranged, aligned or merged still fits its tree, and leads to the same tree
 pub record ListsKeepEffects : Type 0 where
   pub arranged :
       (names : List (List ℕ)) (list first rest : List Catch) → Arrange names list first rest → (old new : Files) →
@@ -56,15 +57,15 @@ KeysPart names (key ∷ keys) first rest =
     (Contains names key.name × ((t : List Key) × KeysPart names keys t rest × (first ≡ key ∷ t)))
     ⊎ ((¬ (Contains names key.name)) × ((t : List Key) × KeysPart names keys first t × (rest ≡ key ∷ t)))
 
--- the keys in this order first: each in turn is taken out of the others, which keep their order
+-- the keys of the order first, each taken out of the others, which keep their order
 abbrev pub KeysAlign : List Key → List Key → List Key → Type 0
 KeysAlign [] keys aligned = aligned ≡ keys
 KeysAlign (key ∷ order) keys aligned =
     (before : List Key) × (after : List Key) × (t : List Key)
     × (keys ≡ before ++ key ∷ after) × KeysAlign order (before ++ after) t × (aligned ≡ key ∷ t)
 
--- commuting and merging keep absolute labels; a list that is arranged or aligned has those of the list in their new
--- order, and a list that is merged has those that it had, in its order
+-- commuting and merging keep absolute labels; arranging and aligning permute them; merging lists keeps those
+-- of each list in their order
 pub record KeepLabels : Type 0 where
   pub commuted :
       (j k k' j' : Catch) → CommuteCatch j k k' j' → (catch_key k' ≡ catch_key k) × (catch_key j' ≡ catch_key j)

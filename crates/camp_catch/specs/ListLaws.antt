@@ -1,5 +1,5 @@
--- The results of arranging, aligning and merging lists of catches: at most one, and exactly one of a result and the
--- labels where there is none.
+-- The results of arranging, aligning and merging lists of catches: at most one, and exactly one of a result
+-- and the labels that block it.
 use Rattle.std.specs.Prelude.{◌≡◌, ◌↔◌, ◌⊎◌, ℕ, List, map, Contains}
 use Rattle.camp_prim.specs.declared.labels.Key.{Key}
 use Rattle.camp_prim.specs.declared.named.Named.{Named}
@@ -11,11 +11,11 @@ use Rattle.camp_catch.specs.MergingLists.{MergesWithAll, SticksWithin, MergeList
 use Rattle.camp_catch.specs.declared.catches.Catch.{Catch}
 use Rattle.camp_catch.specs.declared.catches.Catch.TheVariants.{Plain}
 
--- two results that are determined are equal
+-- two pairs are equal
 abbrev pub AreEqual : {X Y : Type 0} → X → Y → X → Y → Type 0
 AreEqual x y z w = (x ≡ z) × (y ≡ w)
 
--- a relation of two results has at most one pair of them
+-- a relation has at most one pair
 abbrev pub GivesOnePair : {X Y : Type 0} → (X → Y → Type 0) → Type 0
 GivesOnePair {X} {Y} Result = (x z : X) (y w : Y) → Result x y → Result z w → AreEqual x y z w
 
@@ -38,7 +38,7 @@ pub record ListsAreUnique : Type 0 where
   pub merged : (p q : List Catch) → GivesOnePair (MergeLists p q)
   pub merge_sticks : (p q : List Catch) → GivesOnePair (MergeSticks p q)
 
--- a relation of two results has one
+-- a relation has a pair
 abbrev pub HasPair : {X Y : Type 0} → (X → Y → Type 0) → Type 0
 HasPair {X} {Y} Result = (x : X) × (y : Y) × Result x y
 
@@ -59,7 +59,7 @@ pub record CatchesAreDecided : Type 0 where
   pub commute : CommuteIsDecided
   pub merge : MergeIsDecided
 
--- a list either becomes what it is to become, or sticks
+-- a list either has a result or is blocked
 pub record ListsSucceedOrStick : Type 0 where
   pub comes_before :
       (list : List Catch) (k : Catch) →
@@ -76,7 +76,7 @@ pub record ListsSucceedOrStick : Type 0 where
   pub merges :
       (p q : List Catch) → OneOf (HasPair (MergeLists p q)) (HasPair (MergeSticks p q))
 
--- what is arranged by names depends on which names there are, and not on their order or number
+-- arranging by names depends on which names there are, not on their order or number
 pub record ArrangeByMembers : Type 0 where
   pub arranged :
       (names others : List (List ℕ)) → ((name : List ℕ) → Contains names name ↔ Contains others name) →
@@ -85,8 +85,8 @@ pub record ArrangeByMembers : Type 0 where
       (names others : List (List ℕ)) → ((name : List ℕ) → Contains names name ↔ Contains others name) →
       (list : List Catch) (patch on : Key) → ArrangeSticks names list patch on → ArrangeSticks others list patch on
 
--- of plain catches with room: what stops those of some names on their way to the front is of each other names that have
--- these among them, and whose catches come to the front
+-- of plain catches with headroom: a patch that blocks those of some names on their way to the front is among
+-- the names of each larger list of names whose catches can be moved to the front
 abbrev pub WhatStopsComesAlong : Type 0
 WhatStopsComesAlong =
     (patches : List Named) (names others : List (List ℕ)) → HasRoom patches →
@@ -94,8 +94,8 @@ WhatStopsComesAlong =
     ArrangeSticks names (map Plain patches) patch on → HasPair (Arrange others (map Plain patches)) →
     Contains others on.name
 
--- of plain catches with room: where those of some names come to the front, and those of others do, then behind these
--- come those of the names that are not theirs
+-- of plain catches with headroom: if those of some names can be moved to the front, and those of others too,
+-- then those of the names that are not among the others can be moved to the front of what is after the others
 abbrev pub FrontsComeBehindFronts : Type 0
 FrontsComeBehindFronts =
     (patches : List Named) (names others wanted : List (List ℕ)) → HasRoom patches →

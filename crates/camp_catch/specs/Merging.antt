@@ -1,5 +1,5 @@
--- What two catches that begin in one state become one after the other: k' after j, and j' after k. The letters are
--- those of commuting; each list that a case makes is put in normal order as it is made.
+-- The merge of two catches that begin in the same state: k' after j, and j' after k. The letters are those of
+-- commuting; each list that a case makes is in normal order.
 use Rattle.std.specs.Prelude.{◌≡◌, ◌⊎◌, List, ◌∷◌}
 use Rattle.camp_prim.specs.Effect.{inverse_of}
 use Rattle.camp_prim.specs.declared.named.Named.{Named}
@@ -66,7 +66,7 @@ MergePlainConflictor a k k' j' = PlainBesideConflictor a k k' j' ⊎ PlainJoinsC
 abbrev pub Mirror : Conflictor → Named → Catch → Catch → Type 0
 Mirror j b k' j' = MergePlainConflictor b j j' k'
 
--- l joins the conflicts where a fact holds, and elsewhere they stay
+-- l joins the conflicts if a fact holds; else they stay
 abbrev pub JoinsWhere : Type 0 → ContextedPatch → Conflictor → Conflictor → Type 0
 JoinsWhere Holds l old new = (Holds × (new ≡ joined_by l old)) ⊎ ((¬ Holds) × (new ≡ old))
 

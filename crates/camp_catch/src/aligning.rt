@@ -1,3 +1,4 @@
+//! Putting a list of catches in a given order.
 ghost use Rattle.std.specs.Prelude.{◌≡◌, ◌↔◌, IfOk, IsTrue, MatchOption};
 ghost use Rattle.std.specs.Bool.{then_some};
 ghost use Rattle.std.specs.Result.{MatchResult};
@@ -14,9 +15,9 @@ use camp_prim::Key;
 use camp_share::Shared;
 use std::alloc::{AllocError, Global};
 
-/// The list in the order of these absolute labels; catches that the order does not name stay behind
-/// the others, in their order. Blocked by the first label whose catch can't come to its place, or is
-/// not there. A catch that stands in its place is only looked at.
+/// Commutes the catches with these absolute labels to the front, in this order; the others stay after them in
+/// theirs. Blocked by the first label whose catch cannot be moved to its position or does not exist. A catch
+/// that is already in its position is only checked.
 pub fn align(
     alloc: Global,
     list: &[Shared<Catch>],
@@ -32,8 +33,7 @@ pub fn align(
     Ok(settled)
 }
 
-/// Puts a list in the order in its place in memory. Where a label stops that, the list is left as it
-/// is then.
+/// Puts a list in the order, in place. If a label is blocked, the list is partly reordered.
 fn put_in_order(alloc: Global, list: &mut [Gaining], order: &[Key]) -> Result<(), Unmade<Key>>
     ensures exact { ComesTo (λ answer. MatchResult answer
         (λ _. Align order.now list.old list.new)
@@ -47,8 +47,8 @@ fn put_in_order(alloc: Global, list: &mut [Gaining], order: &[Key]) -> Result<()
     Ok(())
 }
 
-/// Brings the first catch with a label to the front. Where it can't come there, or there is none, the
-/// list is left as it is then.
+/// Commutes the first catch with a label to the front, in place. False if there is none or it is blocked; the
+/// list is then partly commuted.
 fn come_first(alloc: Global, list: &mut [Gaining], key: &Key) -> Result<bool, AllocError>
     ensures exact { IfOk result (λ found. Finds (ComesFirstInPlace key.now list.old) (then_some found list.new)) }
 {
@@ -70,7 +70,7 @@ fn come_first(alloc: Global, list: &mut [Gaining], key: &Key) -> Result<bool, Al
     }
 }
 
-/// The place of the first catch with a label.
+/// Finds the index of the first catch with a label.
 fn place_of(list: &[Gaining], key: &Key) -> Option<usize>
     ensures { MatchOption result (Lacks key.now list.now) (FirstWith key.now list.now) }
 {

@@ -1,3 +1,4 @@
+//! Moving the catches of some patches to the front of a list.
 ghost use Rattle.std.specs.Prelude.{◌↔◌, IsTrue};
 ghost use Rattle.std.specs.FinMap.{keys};
 ghost use Rattle.std.specs.Ordering.{nat_cmp};
@@ -15,23 +16,22 @@ use camp_prim::Key;
 use camp_share::{Share, Shared, SharedMap};
 use std::alloc::Global;
 
-/// The catches of some patches, and behind them the others.
+/// The catches of some patches, and the others, which come after them.
 #[derive(Drop)]
 pub struct Arranged {
     pub first: Vec<Shared<Catch>>,
     pub rest: Vec<Shared<Catch>>,
 }
 
-/// A catch that is to come to the front, and the one that it can't pass.
+/// A catch that was to be moved to the front, and the catch that blocks it.
 #[derive(Clone, Copy, Debug, PartialEq, Eq)]
 pub struct Stuck {
     pub patch: Key,
     pub on: Key,
 }
 
-/// The catches of the patches whose names are keys of the map, commuted left over the others, and
-/// the others. Blocked by the first of them that can't pass another. Catches that don't move are shared
-/// with the old list.
+/// Commutes the catches of the patches whose names are keys of the map to the front, past the others. Blocked
+/// by the first of them that cannot pass another. Catches that do not change are shared with the old list.
 pub fn arrange<V>(
     alloc: Global,
     list: &[Shared<Catch>],
@@ -59,7 +59,7 @@ pub fn arrange<V>(
     Ok(Arranged { first, rest })
 }
 
-/// Whether a catch belongs to one of the patches.
+/// True if a catch belongs to one of the patches.
 fn is_of<V>(names: &SharedMap<Name, V>, catch: &Catch) -> bool
     ensures { IsTrue result ↔ IsOf (keys (map_of (slice_cmp nat_cmp) names.now)) catch.now }
 {

@@ -1,3 +1,4 @@
+//! Catches and conflictors.
 ghost use Rattle.std.specs.Prelude.{◌≡◌, ◌↔◌, IfOk, IsTrue};
 ghost use Rattle.camp_catch.specs.Catches.{catch_key, effect_of};
 
@@ -9,15 +10,15 @@ use camp_share::Share;
 use std::alloc::AllocError;
 use std::slice;
 
-/// One change of a patch as it stands in a branch: plain, or in conflict with others.
+/// One change of a patch as it is in a branch: plain, or in conflict with others.
 #[derive(Drop)]
 pub enum Catch {
     Plain(Named),
     Conflictor(Conflictor),
 }
 
-/// A change in conflict. `effect` is what it does to a tree. What it conflicts with, and which change
-/// it is, are seen from the state behind the effect.
+/// A change in conflict. `effect` is what it does to a tree. Its conflicts and its identity are seen from the
+/// state after the effect.
 #[derive(Drop)]
 pub struct Conflictor {
     pub effect: Seq,
@@ -26,7 +27,7 @@ pub struct Conflictor {
 }
 
 impl Catch {
-    /// The name of its patch.
+    /// Returns the name of its patch.
     pub fn name(&self) -> &Name
         ensures exact { result.now ≡ (catch_key self.now).name }
     {
@@ -36,7 +37,7 @@ impl Catch {
         }
     }
 
-    /// The place in its patch.
+    /// Returns its position in its patch.
     pub fn place(&self) -> u8
         ensures exact { result ≡ (catch_key self.now).place }
     {
@@ -46,7 +47,7 @@ impl Catch {
         }
     }
 
-    /// The absolute label: that of its patch, or of its identity.
+    /// Returns the absolute label: that of its patch, or of its identity.
     pub fn key(&self) -> Key
         ensures exact { result ≡ catch_key self.now }
     {
@@ -56,7 +57,7 @@ impl Catch {
         }
     }
 
-    /// What it does to a tree, primitive by primitive.
+    /// Returns its effect on a tree, primitive by primitive.
     pub fn effect(&self) -> &[Named]
         ensures exact { result.now ≡ effect_of self.now }
     {
@@ -75,8 +76,7 @@ impl Catch {
         }
     }
 
-    /// Whether the two are plain with the same patch, or conflictors with the same parts. It takes
-    /// no memory.
+    /// True if both are plain with the same patch, or conflictors with the same fields; does not allocate.
     pub fn is_same(&self, other: &Catch) -> bool
         ensures exact { IsTrue result ↔ (self.now ≡ other.now) }
     {
@@ -102,7 +102,7 @@ impl Conflictor {
         })
     }
 
-    /// Whether the two have the same parts. It takes no memory.
+    /// True if the two have the same fields; does not allocate.
     pub fn is_same(&self, other: &Conflictor) -> bool
         ensures exact { IsTrue result ↔ (self.now ≡ other.now) }
     {

@@ -1,3 +1,4 @@
+//! Commuting two catches.
 ghost use Rattle.std.specs.Prelude.{◌≡◌, ◌≤◌, ◌↔◌, [], ◌∷◌, length, IfOk, IfErr, IsTrue, None, Some};
 ghost use Rattle.std.specs.FinMap.{get, len};
 ghost use Rattle.camp_base.specs.Answers.{Finds, FindsPair};
@@ -20,9 +21,9 @@ use camp_prim::Named;
 use camp_seq::{Seq, front, past, past_all};
 use std::alloc::{AllocError, Global};
 
-/// What two catches and one after the other become in the other order: `Some((k', j'))`, where `k'`
-/// and then `j'` do what `j` and then `k` do. None where they don't commute. Of two plain
-/// catches None is answered whatever memory does.
+/// Commutes two catches, one after the other: `Some((k', j'))`, where `k'` and then `j'` have the effect of
+/// `j` and then `k`; `None` if they do not commute. For two plain catches `None` is exact: it never stands
+/// for out of memory.
 pub fn commute(alloc: Global, j: &Catch, k: &Catch) -> Result<Option<(Catch, Catch)>, AllocError>
     ensures exact { IfOk result (FindsPair (CommuteCatch j.now k.now)) }
     ensures memory { IfErr result (λ error. MayWant j.now k.now) }
@@ -35,7 +36,7 @@ pub fn commute(alloc: Global, j: &Catch, k: &Catch) -> Result<Option<(Catch, Cat
     }
 }
 
-/// `[a] [b] <-> [b'] [a']`
+/// Commutes two plain catches: `[a] [b] <-> [b'] [a']`.
 fn both_plain(a: &Named, b: &Named) -> Result<Option<(Catch, Catch)>, AllocError>
     ensures exact { IfOk result (FindsPair (BothPlain a.now b.now)) }
     ensures memory { IfErr result (λ error. MayWant (Plain a.now) (Plain b.now)) }
@@ -46,7 +47,8 @@ fn both_plain(a: &Named, b: &Named) -> Result<Option<(Catch, Catch)>, AllocError
     Ok(Some((Catch::Plain(b), Catch::Plain(a))))
 }
 
-/// A plain catch before a conflictor: it is not in the conflictor's set, or it is there alone, or as one of several.
+/// Commutes a plain catch and a conflictor after it: the plain one is not in the conflictor's set, or alone
+/// in it, or one of several.
 fn plain_before_conflictor(
     alloc: Global,
     a: &Named,
@@ -61,6 +63,7 @@ fn plain_before_conflictor(
     }
 }
 
+/// Commutes a plain catch past a conflictor that does not conflict with it:
 /// `[a] (s, Y, l) <-> (s', Y', l') [a']`, where `a'` added to `Y` gives `Y'`
 fn plain_past_conflictor(a: &Named, k: &Conflictor) -> Result<Option<(Catch, Catch)>, AllocError>
     requires { get k.now.conflicts (patch_key a.now) ≡ None }
@@ -75,6 +78,7 @@ fn plain_past_conflictor(a: &Named, k: &Conflictor) -> Result<Option<(Catch, Cat
     }
 }
 
+/// Commutes a conflictor past a plain catch:
 /// `(r, X, i) [b] <-> [b'] (r', X', i')`, where `b^` added to `X` gives `X'`
 fn conflictor_past_plain(
     alloc: Global,
@@ -92,8 +96,8 @@ fn conflictor_past_plain(
     }
 }
 
-/// `Some((s', X', i'))`, where `s'` is `s` in normal order, `b^` added to `X` gives `X'`, and `b^`
-/// passes by `i`. None where it can't.
+/// Makes `(s', X', i')`, where `s'` is `s` in normal order, `b^` added to `X` gives `X'`, and `i'` is `i` as
+/// `b^` has passed it; `None` if `b^` cannot pass `i`.
 fn inverse_passes_before(
     b: &Named,
     s: Seq,
@@ -106,8 +110,8 @@ fn inverse_passes_before(
     passes_before(&back, s, j)
 }
 
-/// `Some((b', r'))` where `r` and then `b` are the same as `b'` and then `r'`. None where `b` can't
-/// come there.
+/// Commutes `b` to before all of `r`: `Some((b', r'))`, where `b'` and then `r'` are equivalent to `r` and
+/// then `b`; `None` if it is blocked.
 fn comes_before(alloc: Global, r: &Seq, b: &Named) -> Result<Option<(Named, Seq)>, AllocError>
     ensures { IfOk result (FindsPair (λ b' left. PassesAll r.now (b.now ∷ []) (b' ∷ []) left)) }
 {
@@ -119,7 +123,7 @@ fn comes_before(alloc: Global, r: &Seq, b: &Named) -> Result<Option<(Named, Seq)
     Ok(Some((first, left)))
 }
 
-/// The one element of a list.
+/// Returns the only element of a list.
 fn first_of(list: &[Named]) -> Result<Named, AllocError>
     requires { length list.now ≡ 1 }
     ensures { IfOk result (λ first. list.now ≡ first ∷ []) }
@@ -127,7 +131,7 @@ fn first_of(list: &[Named]) -> Result<Named, AllocError>
     list[0].try_clone()
 }
 
-/// `[a] ([a^], {:a}, :q) <-> [q] ([q^], {:q}, :a)`
+/// Dissolves a conflict with one patch: `[a] ([a^], {:a}, :q) <-> [q] ([q^], {:q}, :a)`.
 fn conflict_dissolves(
     alloc: Global,
     a: &Named,
@@ -144,7 +148,7 @@ fn conflict_dissolves(
     Ok(Some((Catch::Plain(second), Catch::Conflictor(first))))
 }
 
-/// Whether a conflictor is `([a^], {:a}, :q)`, with `q` the patch of its identity.
+/// True if a conflictor is `([a^], {:a}, :q)`, where `q` is the patch of its identity.
 fn is_against(alloc: Global, a: &Named, k: &Conflictor) -> Result<bool, AllocError>
     ensures { IfOk result (λ told. IsTrue told ↔ (k.now ≡ against a.now k.now.identity.patch)) }
 {
@@ -152,6 +156,7 @@ fn is_against(alloc: Global, a: &Named, k: &Conflictor) -> Result<bool, AllocErr
     Ok(k.is_same(&both))
 }
 
+/// Commutes a plain catch past a conflictor that conflicts with it and with others:
 /// `[a] (s, Y, l) <-> (s', Y without a, l) ([], {l}, z)`, where `s ~ a^ s'`
 fn plain_leaves_the_set(
     alloc: Global,
@@ -172,8 +177,8 @@ fn plain_leaves_the_set(
     Ok(Some((Catch::Conflictor(second), Catch::Conflictor(first))))
 }
 
-/// `Some(rest)` where `s` is the same as the inverse of `a` and then `rest`. None where what comes
-/// to the front under that label is not that inverse.
+/// Returns the list after the inverse of `a` at its front. `None` if the primitive with that label that can
+/// be moved to the front is not that inverse.
 fn behind_inverse(a: &Named, s: &Seq) -> Result<Option<Seq>, AllocError>
     ensures { IfOk result
         (Finds (λ rest. Fronts (label_of (inverse_of a.now)) s.now (inverse_of a.now) rest)) }

@@ -1,3 +1,4 @@
+//! Commuting two conflictors.
 ghost use Rattle.std.specs.Prelude.{◌≡◌, ◌≢◌, ◌≤◌, ◌↔◌, All, IfOk, IsTrue, None, Some};
 ghost use Rattle.std.specs.FinMap.{get, len};
 ghost use Rattle.camp_base.specs.Answers.{FindsPair};
@@ -17,7 +18,7 @@ use camp_prim::{Key, Label, Named};
 use camp_seq::{Seq, ordered, past_all, split};
 use std::alloc::{AllocError, Global};
 
-/// Two conflictors: the first is not in the second's set, or it is there alone, or as one of several.
+/// Commutes two conflictors: the first is not in the second's set, or alone in it, or one of several.
 pub(crate) fn commute_conflictors(
     alloc: Global,
     j: &Conflictor,
@@ -32,6 +33,7 @@ pub(crate) fn commute_conflictors(
     }
 }
 
+/// Commutes two conflictors that are not in conflict:
 /// `(common rr, X, i) (s, Y, l) <-> (common s', Y', l') (rr', X', i')`
 fn two_conflictors_apart(
     alloc: Global,
@@ -54,6 +56,7 @@ fn two_conflictors_apart(
     Ok(Some((Catch::Conflictor(moved), Catch::Conflictor(own))))
 }
 
+/// Commutes two conflictors of which the second conflicts with the first alone:
 /// `(r, X, i) ([], {x}, l) <-> [a] (a^ r, X and l, i)`, where `r` added to `l` gives `:a`
 fn only_conflict_goes(
     alloc: Global,
@@ -81,8 +84,8 @@ fn only_conflict_goes(
     Ok(Some((Catch::Plain(second), Catch::Conflictor(first))))
 }
 
-/// `(common rr, X, i) (s, Y, l) <-> (common s', Z', l') (rr', X' and l, i')`, where `Z` is `Y`
-/// without `j`
+/// Commutes two conflictors of which the second conflicts with the first and with others:
+/// `(common rr, X, i) (s, Y, l) <-> (common s', Z', l') (rr', X' and l, i')`, where `Z` is `Y` without `j`
 fn one_of_several_conflicts(
     alloc: Global,
     j: &Conflictor,
@@ -99,7 +102,7 @@ fn one_of_several_conflicts(
     Ok(Some((Catch::Conflictor(moved), Catch::Conflictor(own))))
 }
 
-/// `(common s', Z', l')` and `rr'`, where `rr s <-> s' rr'`. None where these do not commute.
+/// Makes `(common s', Z', l')` and `rr'`, where `rr s <-> s' rr'`; `None` if these do not commute.
 fn leaves_the_others(
     alloc: Global,
     j: &Conflictor,
@@ -115,7 +118,7 @@ fn leaves_the_others(
     Ok(Some((moved, rest)))
 }
 
-/// `(s, X' and l, i')`, where `r^` added to `X` and `i` gives `X'` and `i'`
+/// Makes `(s, X' and l, i')`, where `r^` added to `X` and `i` gives `X'` and `i'`.
 fn joined_behind(r: &Seq, s: Seq, k: &Conflictor, l: &Contexted) -> Result<Conflictor, AllocError>
     ensures { IfOk result (JoinedBehind (inverse_all r.now) s k.now l.now) }
 {
@@ -123,7 +126,7 @@ fn joined_behind(r: &Seq, s: Seq, k: &Conflictor, l: &Contexted) -> Result<Confl
     joined(moved, l)
 }
 
-/// Two effects commute, but for what the first undoes of a set, which stays first.
+/// Commutes two effects, except that what the first undoes of a set stays first.
 fn effects_pass(
     alloc: Global,
     r: &Seq,
@@ -142,7 +145,7 @@ fn effects_pass(
     Ok(Some((effect, ordered(first))))
 }
 
-/// What a list undoes of a set, and the rest.
+/// Splits a list into what it undoes of a set and the rest.
 fn parted(alloc: Global, r: &Seq, ys: &CtxSet) -> Result<Option<(Seq, Seq)>, AllocError>
     ensures { IfOk result (FindsPair (Splits (labels_undone r.now ys.now) r.now)) }
 {
@@ -150,7 +153,7 @@ fn parted(alloc: Global, r: &Seq, ys: &CtxSet) -> Result<Option<(Seq, Seq)>, All
     Ok(split(r, labels.as_slice())?)
 }
 
-/// A list and the normal order of another, in normal order.
+/// Joins a list and the normal order of another, and puts the result in normal order.
 fn in_order(alloc: Global, common: &Seq, s: Seq) -> Result<Seq, AllocError>
     ensures { IfOk result (JoinsInOrder common.now s) }
 {
@@ -159,7 +162,7 @@ fn in_order(alloc: Global, common: &Seq, s: Seq) -> Result<Seq, AllocError>
     Ok(ordered(whole))
 }
 
-/// The labels of the inverses in a list whose absolute labels stand in a set.
+/// Returns the labels of the inverses in a list whose absolute labels are in a set.
 fn labels_undone(alloc: Global, r: &[Named], ys: &CtxSet) -> Result<Vec<Label>, AllocError>
     ensures { IfOk result (λ labels. labels.items ≡ labels_undone r.now ys.now) }
 {
@@ -169,7 +172,7 @@ fn labels_undone(alloc: Global, r: &[Named], ys: &CtxSet) -> Result<Vec<Label>, 
         .collect(alloc)
 }
 
-/// Whether no element of a list has an absolute label.
+/// True if no element of a list has the absolute label.
 pub(crate) fn lacks_key(s: &[Named], key: &Key) -> bool
     ensures { IsTrue result ↔ All (λ p. patch_key p ≢ key.now) s.now }
 {

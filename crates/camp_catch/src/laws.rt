@@ -1,20 +1,21 @@
+//! The laws of catches, as functions whose contracts state them.
 ghost use Rattle.camp_catch.specs.Cases.{CasesExclude, MergeCasesExclude};
 ghost use Rattle.camp_catch.specs.Laws.{CommuteIsUnique, CommuteKeepsEffects, KeepLabels, ListsKeepEffects, MergeIsSymmetric, MergeIsUnique, MergeKeepsEffects};
 ghost use Rattle.camp_catch.specs.ListLaws.{ArrangeByMembers, CatchesAreDecided, FrontsComeBehindFronts, ListsAreUnique, ListsSucceedOrStick, WhatStopsComesAlong};
 
-/// Where two catches fit a tree one after the other, so do those that they become, and both orders
-/// end in one tree.
+/// If two catches fit a tree one after the other, so do those that they commute to, and both orders lead to
+/// the same tree.
 pub fn commute_keeps_effects()
     ensures law { CommuteKeepsEffects }
 {}
 
-/// Where two catches fit one tree, each of those that they become fits after the other, and both
-/// orders end in one tree.
+/// If two catches fit the same tree, each of those that they merge to fits after the other, and both orders
+/// lead to the same tree.
 pub fn merge_keeps_effects()
     ensures law { MergeKeepsEffects }
 {}
 
-/// What two catches become by merging does not depend on which comes first.
+/// The merge of two catches does not depend on which comes first.
 #[tactic(auto, using(crate::proofs::MergeEffects::merging_is_symmetric))]
 pub fn merge_is_symmetric()
     ensures law { MergeIsSymmetric }
@@ -26,7 +27,7 @@ pub fn cases_exclude_one_another()
     ensures law { CasesExclude }
 {}
 
-/// What two catches become by changing places is determined, whichever of the cases gives it.
+/// Two catches commute to at most one pair, whichever case gives it.
 pub fn commute_is_unique()
     ensures law { CommuteIsUnique }
 {}
@@ -37,56 +38,56 @@ pub fn merge_cases_exclude()
     ensures law { MergeCasesExclude }
 {}
 
-/// What two catches become by merging is determined, whichever of the cases gives it.
+/// Two catches merge to at most one pair, whichever case gives it.
 pub fn merge_is_unique()
     ensures law { MergeIsUnique }
 {}
 
-/// What is arranged, aligned or merged keeps fitting, and ends in the same tree.
+/// A list that is arranged, aligned or merged still fits its tree, and leads to the same tree.
 #[tactic(auto, using(crate::proofs::ListEffects::lists_keep_effects))]
 pub fn lists_keep_effects()
     ensures law { ListsKeepEffects }
 {}
 
-/// Commuting and merging keep labels, and so do arranging, aligning and merging lists.
+/// Commuting, merging, arranging, aligning and merging lists keep labels.
 #[tactic(auto, using(crate::proofs::KeptLabels::keep_labels))]
 pub fn labels_are_kept()
     ensures law { KeepLabels }
 {}
 
-/// What a list becomes by arranging, aligning and merging is determined, and so are the labels where
-/// there is nothing that it becomes.
+/// Arranging, aligning and merging a list have at most one result, and at most one pair of labels if they are
+/// blocked.
 #[tactic(auto, using(crate::proofs::ListResults::lists_are_unique))]
 pub fn lists_are_unique()
     ensures law { ListsAreUnique }
 {}
 
-/// Of any two catches it is decided whether they commute, and whether they merge.
+/// It is decidable whether two catches commute, and whether they merge.
 #[tactic(auto, using(crate::proofs::ListResults::are_decided))]
 pub fn catches_are_decided()
     ensures law { CatchesAreDecided }
 {}
 
-/// Each list either can be arranged, aligned or merged, or sticks at some labels; never both.
+/// Each list either can be arranged, aligned or merged, or is blocked at some labels; never both.
 #[tactic(auto, using(crate::proofs::ListResults::lists_succeed_or_stick))]
 pub fn lists_succeed_or_stick()
     ensures law { ListsSucceedOrStick }
 {}
 
-/// What is arranged by names depends on which names there are, and not on their order.
+/// Arranging by names depends on which names there are, not on their order.
 #[tactic(auto, using(crate::proofs::ListResults::arrange_by_members))]
 pub fn arrange_goes_by_members()
     ensures law { ArrangeByMembers }
 {}
 
-/// Of plain catches with room: what stops those of some names on their way to the front comes along
-/// wherever these come there with others.
+/// Of plain catches with headroom: a patch that blocks some patches on their way to the front is among the
+/// names of every larger arrangement that succeeds.
 pub fn what_stops_comes_along()
     ensures law { WhatStopsComesAlong }
 {}
 
-/// Of plain catches with room: those of some names that come to the front come there behind those of
-/// others too.
+/// Of plain catches with headroom: if the patches of two lists of names can each be moved to the front, those
+/// of the first can be moved there after those of the second.
 pub fn fronts_come_behind_fronts()
     ensures law { FrontsComeBehindFronts }
 {}

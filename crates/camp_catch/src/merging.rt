@@ -1,3 +1,4 @@
+//! Merging two catches.
 ghost use Rattle.std.specs.Prelude.{◌≡◌, IfOk};
 ghost use Rattle.camp_base.specs.Answers.{FindsPair};
 ghost use Rattle.camp_prim.specs.Commuting.{Commute};
@@ -20,9 +21,9 @@ use camp_prim::{Named, commute};
 use camp_seq::{Seq, invert_all, ordered, past};
 use std::alloc::{AllocError, Global};
 
-/// What two catches that begin in one state become one after the other: `Some((k', j'))`, where `k'`
-/// stands after `j`, and `j'` after `k`. None where they do not merge: two plain catches always do; a
-/// conflictor may neither conflict with a catch nor merge cleanly with it.
+/// Merges two catches that begin in the same state: `Some((k', j'))`, where `k'` comes after `j`, and `j'`
+/// after `k`. Two plain catches always merge. `None` if a conflictor neither conflicts with a catch nor
+/// merges cleanly with it.
 pub fn merge(alloc: Global, j: &Catch, k: &Catch) -> Result<Option<(Catch, Catch)>, AllocError>
     ensures exact { IfOk result (FindsPair (MergeCatch j.now k.now)) }
 {
@@ -34,7 +35,7 @@ pub fn merge(alloc: Global, j: &Catch, k: &Catch) -> Result<Option<(Catch, Catch
     }
 }
 
-/// Two plain catches: they merge cleanly, or this is the first conflict of each.
+/// Merges two plain catches: cleanly, or as the first conflict of each.
 fn both_plain(alloc: Global, a: &Named, b: &Named) -> Result<Option<(Catch, Catch)>, AllocError>
     ensures exact { IfOk result (FindsPair (MergeCatch (Plain a.now) (Plain b.now))) }
 {
@@ -44,7 +45,7 @@ fn both_plain(alloc: Global, a: &Named, b: &Named) -> Result<Option<(Catch, Catc
     }
 }
 
-/// `[a] | [b] -> ([a^], {:a}, :b) | ([b^], {:b}, :a)`
+/// Makes the first conflict of two plain catches: `[a] | [b] -> ([a^], {:a}, :b) | ([b^], {:b}, :a)`.
 fn first_conflict(alloc: Global, a: &Named, b: &Named) -> Result<(Catch, Catch), AllocError>
     requires { (b' a' : Named) → ¬ (Merges a.now b.now b' a') }
     ensures { IfOk result (λ pair. FirstConflict a.now b.now pair.0 pair.1) }
@@ -54,7 +55,7 @@ fn first_conflict(alloc: Global, a: &Named, b: &Named) -> Result<(Catch, Catch),
     Ok((Catch::Conflictor(after), Catch::Conflictor(beside)))
 }
 
-/// `[a] | [b] -> [b'] | [a']`
+/// Merges two plain catches cleanly: `[a] | [b] -> [b'] | [a']`.
 fn clean(a: &Named, b: &Named) -> Result<Option<(Catch, Catch)>, AllocError>
     ensures exact { IfOk result (FindsPair (Clean a.now b.now)) }
 {
@@ -64,7 +65,7 @@ fn clean(a: &Named, b: &Named) -> Result<Option<(Catch, Catch)>, AllocError>
     Ok(Some((Catch::Plain(b), Catch::Plain(back.invert()))))
 }
 
-/// `a^ b <-> b' back`. None where they do not commute.
+/// Commutes the inverse of `a` past `b`: `a^ b <-> b' back`; `None` if they do not commute.
 fn before_inverse(a: &Named, b: &Named) -> Result<Option<(Named, Named)>, AllocError>
     ensures { IfOk result (FindsPair (Commute (inverse_of a.now) b.now)) }
 {
@@ -72,8 +73,8 @@ fn before_inverse(a: &Named, b: &Named) -> Result<Option<(Named, Named)>, AllocE
     commute(&back, b)
 }
 
-/// A plain catch and a conflictor: the plain one joins the conflictor's set where it conflicts with
-/// the conflictor's identity, as that is seen from before the effect.
+/// Merges a plain catch and a conflictor: the plain one joins the conflictor's set if it conflicts with the
+/// conflictor's identity as seen before the effect.
 fn plain_and_conflictor(
     alloc: Global,
     a: &Named,
@@ -88,8 +89,7 @@ fn plain_and_conflictor(
     Ok(plain_beside_conflictor(a, k)?)
 }
 
-/// Whether a patch conflicts with the identity of a conflictor, as that is seen from before the
-/// conflictor's effect.
+/// True if a patch conflicts with the identity of a conflictor as seen before the conflictor's effect.
 pub(crate) fn conflicts_with(alloc: Global, a: &Named, k: &Conflictor) -> Result<bool, AllocError>
     ensures { IfOk result (TellsPlainConflict a.now k.now) }
 {
@@ -101,6 +101,7 @@ pub(crate) fn conflicts_with(alloc: Global, a: &Named, k: &Conflictor) -> Result
     conflict(&own, &seen)
 }
 
+/// Merges a plain catch and a conflictor that are not in conflict:
 /// `[a] | (s, Y, l) -> (s', Y', l') | [a']`, where `a'^` added to `Y` and `l` gives `Y'` and `l'`
 fn plain_beside_conflictor(a: &Named, k: &Conflictor) -> Result<Option<(Catch, Catch)>, AllocError>
     requires { (seen : ContextedPatch) × AddsAll k.now.effect k.now.identity seen × (¬ (Conflict (bare a.now) seen)) }
@@ -113,7 +114,8 @@ fn plain_beside_conflictor(a: &Named, k: &Conflictor) -> Result<Option<(Catch, C
     Ok(Some((Catch::Conflictor(moved), Catch::Plain(back.invert()))))
 }
 
-/// `[a] | (s, Y, l) -> (a^ s, Y and z, l) | ([], {l}, z)`, where `z` is `:a` as seen behind `s`
+/// Merges a plain catch and a conflictor that are in conflict:
+/// `[a] | (s, Y, l) -> (a^ s, Y and z, l) | ([], {l}, z)`, where `z` is `:a` as seen after `s`
 fn plain_joins_conflictor(
     alloc: Global,
     a: &Named,
@@ -128,7 +130,7 @@ fn plain_joins_conflictor(
     Ok((Catch::Conflictor(taken), Catch::Conflictor(beside)))
 }
 
-/// `(r, X, i) | [b]`, as `[b] | (r, X, i)` with the two results exchanged
+/// Merges `(r, X, i) | [b]` as `[b] | (r, X, i)` with the two results exchanged.
 fn mirror(alloc: Global, j: &Conflictor, b: &Named) -> Result<Option<(Catch, Catch)>, AllocError>
     ensures exact { IfOk result (FindsPair (Mirror j.now b.now)) }
 {
@@ -138,8 +140,9 @@ fn mirror(alloc: Global, j: &Conflictor, b: &Named) -> Result<Option<(Catch, Cat
     }
 }
 
-/// `(r, X, i) | (s, Y, l) -> (s2, Y', l') | (r2, X', i')`, where `r2^` added to `Y` and `l` gives
-/// `Y'` and `l'`, and `s2^` to `X` and `i` gives `X'` and `i'`
+/// Merges two conflictors:
+/// `(r, X, i) | (s, Y, l) -> (s2, Y', l') | (r2, X', i')`, where `r2^` added to `Y` and `l` gives `Y'` and `l'`, and
+/// `s2^` to `X` and `i` gives `X'` and `i'`
 fn two_conflictors(
     alloc: Global,
     j: &Conflictor,
@@ -157,7 +160,7 @@ fn two_conflictors(
     Ok(Some(pair))
 }
 
-/// `r | s -> s2 | r2`: two effects merged behind what they have in common, in normal order.
+/// Merges two effects behind what they have in common, in normal order: `r | s -> s2 | r2`.
 pub(crate) fn merged_effects(
     alloc: Global,
     r: &Seq,
@@ -171,7 +174,7 @@ pub(crate) fn merged_effects(
     Ok(Some((ordered(merged), ordered(left))))
 }
 
-/// Whether two conflictors conflict: their identities do, as seen before the effects.
+/// True if two conflictors conflict: if their identities do, as seen before the effects.
 pub(crate) fn conflict_before(j: &Conflictor, k: &Conflictor) -> Result<bool, AllocError>
     ensures { IfOk result (TellsConflict j.now k.now) }
 {
@@ -180,7 +183,7 @@ pub(crate) fn conflict_before(j: &Conflictor, k: &Conflictor) -> Result<bool, Al
     conflict(&x, &y)
 }
 
-/// What is seen before a list, as it is seen behind the list.
+/// Turns what is seen before a list into what is seen after it.
 pub(crate) fn seen_behind(list: &Seq, x: &Contexted) -> Result<Contexted, AllocError>
     ensures { IfOk result (AddsAll (inverse_all list.now) x.now) }
 {
@@ -188,7 +191,7 @@ pub(crate) fn seen_behind(list: &Seq, x: &Contexted) -> Result<Contexted, AllocE
     Contexted::add_given(back, x)
 }
 
-/// `:a` as it is seen behind a list that it stands before.
+/// Returns `:a`, which is seen before a list, as it is seen after the list.
 fn patch_behind(alloc: Global, list: &Seq, a: &Named) -> Result<Contexted, AllocError>
     ensures { IfOk result (AddsAll (inverse_all list.now) (bare a.now)) }
 {
@@ -196,7 +199,7 @@ fn patch_behind(alloc: Global, list: &Seq, a: &Named) -> Result<Contexted, Alloc
     seen_behind(list, &own)
 }
 
-/// Two conflictors, each in conflict with the other's identity too where they are in conflict.
+/// Adds the identity of each of two conflictors to the set of the other if the two conflict.
 fn joined_where(
     in_conflict: bool,
     moved: Conflictor,

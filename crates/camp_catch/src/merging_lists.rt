@@ -1,3 +1,4 @@
+//! Merging two lists of catches.
 ghost use Rattle.std.specs.Prelude.{◌≡◌, List, IfOk};
 ghost use Rattle.std.specs.Result.{MatchResult};
 ghost use Rattle.camp_base.specs.Answers.{Changes};
@@ -14,15 +15,15 @@ use camp_prim::Key;
 use camp_share::{Share, Shared};
 use std::alloc::{AllocError, Global};
 
-/// Two catches of one state that don't merge.
+/// Two catches of the same state that do not merge.
 #[derive(Clone, Copy, Debug, PartialEq, Eq)]
 pub struct NoMerge {
     pub left: Key,
     pub right: Key,
 }
 
-/// `p`, which begins in one state with `q`, as it is after `q`. Blocked by the first pair that does
-/// not merge, the left one from `q` and the right one from `p`.
+/// Merges `p` with the `q` of the same state to what it is after `q`. Blocked by the first pair that does not
+/// merge: the left one from `q` and the right one from `p`.
 pub fn merge_lists(
     alloc: Global,
     p: &[Shared<Catch>],
@@ -46,7 +47,8 @@ pub fn merge_lists(
     Ok(merged)
 }
 
-/// One catch as it is after a list, and the list as it is after the catch, each in its place.
+/// Merges one catch with a list, in place: the catch becomes what it is after the list, and the list what it
+/// is after the catch.
 fn merge_with_all(
     alloc: Global,
     q: &mut [Gaining],
@@ -66,7 +68,7 @@ fn merge_with_all(
     Ok(settled)
 }
 
-/// Merges `j` and the `k` of the same state, where each stays in its place in memory.
+/// Merges `j` and the `k` of the same state, in place.
 pub(crate) fn merge_one(
     alloc: Global,
     j: &mut Shared<Catch>,

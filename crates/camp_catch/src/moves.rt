@@ -1,3 +1,4 @@
+//! Moving a catch within a list.
 ghost use Rattle.std.specs.Prelude.{◌≡◌, IfOk, MatchOption};
 ghost use Rattle.camp_base.specs.Answers.{Changes};
 ghost use Rattle.camp_catch.specs.Arranging.{ComesBefore, StopsAt};
@@ -9,8 +10,8 @@ use camp_prim::Key;
 use camp_share::Shared;
 use std::alloc::{AllocError, Global};
 
-/// Commutes a catch, which stands behind a list, to before all of the list. `Some` with the absolute
-/// label of the one that it can't pass, if there is one; both are then left as they are.
+/// Commutes a catch, which is after a list, to before all of it, in place. `Some` with the absolute label of
+/// the catch that blocks it, if there is one; both are then partly commuted.
 pub(crate) fn come_before(
     list: &mut [Gaining],
     coming: &mut Shared<Catch>,
@@ -27,7 +28,7 @@ pub(crate) fn come_before(
     Ok(None)
 }
 
-/// Commutes `j` and the `k` behind it, where each stays in its place in memory.
+/// Commutes `j` and the `k` after it, in place.
 pub(crate) fn commute_in_place(
     alloc: Global,
     j: &mut Shared<Catch>,
@@ -45,7 +46,7 @@ pub(crate) fn commute_in_place(
     Ok(true)
 }
 
-/// Puts the two of a pair in the places of `k` and `j`.
+/// Writes the two of a pair to `k` and `j`.
 pub(crate) fn put_both(
     alloc: Global,
     pair: (Catch, Catch),

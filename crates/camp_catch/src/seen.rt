@@ -1,3 +1,4 @@
+//! Conflictors made from others: with another effect, other conflicts, another identity.
 ghost use Rattle.std.specs.Prelude.{◌≡◌, ◌↔◌, IfOk, IsTrue};
 ghost use Rattle.camp_base.specs.Answers.{Finds};
 ghost use Rattle.camp_seq.specs.NormalOrder.{Norm};
@@ -14,7 +15,7 @@ use camp_prim::{Key, Named};
 use camp_seq::{Seq, invert_all, ordered};
 use std::alloc::{AllocError, Global};
 
-/// `(s', X', i)`, where `s'` is `s` in normal order, and `a` added to `X` gives `X'`
+/// Makes `(s', X', i)`, where `s'` is `s` in normal order, and `a` added to `X` gives `X'`.
 fn set_before(a: &Named, s: Seq, k: &Conflictor, i: Contexted) -> Result<Conflictor, AllocError>
     ensures { IfOk result (Becomes (Norm s) (Adds a.now) (λ old new. new ≡ i) k.now) }
 {
@@ -27,8 +28,8 @@ fn set_before(a: &Named, s: Seq, k: &Conflictor, i: Contexted) -> Result<Conflic
     })
 }
 
-/// `Some((s', X', i'))`, where `s'` is `s` in normal order, `a` added to `X` gives `X'`, and `a`
-/// passes by `i`. None where it can't.
+/// Makes `(s', X', i')`, where `s'` is `s` in normal order, `a` added to `X` gives `X'`, and `i'` is `i` as
+/// `a` has passed it; `None` if `a` cannot pass `i`.
 pub(crate) fn passes_before(
     a: &Named,
     s: Seq,
@@ -43,7 +44,7 @@ pub(crate) fn passes_before(
     Ok(Some(made))
 }
 
-/// `(s', X', i')`, where `s'` is `s` in normal order, and `a` added to `X` and `i` gives `X'` and `i'`
+/// Makes `(s', X', i')`, where `s'` is `s` in normal order, and `a` added to `X` and `i` gives `X'` and `i'`.
 pub(crate) fn one_before(a: &Named, s: Seq, k: &Conflictor) -> Result<Conflictor, AllocError>
     ensures { IfOk result (Becomes (Norm s) (Adds a.now) (Adds a.now) k.now) }
 {
@@ -51,7 +52,7 @@ pub(crate) fn one_before(a: &Named, s: Seq, k: &Conflictor) -> Result<Conflictor
     set_before(a, s, k, identity)
 }
 
-/// `(s, Z', i')`, where `r` added to `Z`, other conflicts than the conflictor has, and to `i` gives `Z'` and `i'`
+/// Makes `(s, Z', i')`, where `r` added to the given conflicts `Z` and to `i` gives `Z'` and `i'`.
 pub(crate) fn others_before(
     r: &Seq,
     s: Seq,
@@ -69,7 +70,7 @@ pub(crate) fn others_before(
     })
 }
 
-/// `(s, X', i')`, where `r^` added to `X` and `i` gives `X'` and `i'`
+/// Makes `(s, X', i')`, where `r^` added to `X` and `i` gives `X'` and `i'`.
 pub(crate) fn both_behind(r: &Seq, s: Seq, k: &Conflictor) -> Result<Conflictor, AllocError>
     ensures { IfOk result (Becomes (λ t. t ≡ s) (AddsAll (inverse_all r.now)) (AddsAll (inverse_all r.now)) k.now) }
 {
@@ -77,7 +78,8 @@ pub(crate) fn both_behind(r: &Seq, s: Seq, k: &Conflictor) -> Result<Conflictor,
     others_before(&back, s, k, &k.conflicts)
 }
 
-/// `Some((s, X', i'))`, where `r` added to `X` gives `X'`, and `r` passes by `i`. None where it can't.
+/// Makes `(s, X', i')`, where `r` added to `X` gives `X'`, and `i'` is `i` as `r` has passed it; `None` if
+/// `r` cannot pass `i`.
 pub(crate) fn all_pass_before(
     r: &Seq,
     s: Seq,
@@ -96,7 +98,7 @@ pub(crate) fn all_pass_before(
     }))
 }
 
-/// `(r, X and l, i)`
+/// Makes `(r, X and l, i)`.
 pub(crate) fn joined(k: Conflictor, l: &Contexted) -> Result<Conflictor, AllocError>
     ensures { IfOk result (λ made. made ≡ joined_by l.now k) }
 {
@@ -108,7 +110,7 @@ pub(crate) fn joined(k: Conflictor, l: &Contexted) -> Result<Conflictor, AllocEr
     })
 }
 
-/// `(s', X and l, i)`, where `s'` is `a^ r` in normal order
+/// Makes `(s', X and l, i)`, where `s'` is `a^ r` in normal order.
 pub(crate) fn takes_back(
     alloc: Global,
     a: &Named,
@@ -127,7 +129,7 @@ pub(crate) fn takes_back(
     })
 }
 
-/// `(s', X without a label, i)`, where `s'` is `s` in normal order
+/// Makes `(s', X without a label, i)`, where `s'` is `s` in normal order.
 pub(crate) fn without_member(key: &Key, s: Seq, k: &Conflictor) -> Result<Conflictor, AllocError>
     ensures { IfOk result (LeavesSet key.now s k.now) }
 {
@@ -141,7 +143,7 @@ pub(crate) fn without_member(key: &Key, s: Seq, k: &Conflictor) -> Result<Confli
     })
 }
 
-/// `([a^], {:a}, :b)`
+/// Makes `([a^], {:a}, :b)`: the first conflict of `b`, with `a` alone.
 pub(crate) fn against(alloc: Global, a: &Named, b: &Named) -> Result<Conflictor, AllocError>
     ensures { IfOk result (λ made. made ≡ against a.now b.now) }
 {
@@ -155,7 +157,7 @@ pub(crate) fn against(alloc: Global, a: &Named, b: &Named) -> Result<Conflictor,
     })
 }
 
-/// `([], {l}, i)`
+/// Makes `([], {l}, i)`: a conflict with `l` alone, without an effect.
 pub(crate) fn in_conflict_with(
     alloc: Global,
     l: &Contexted,
@@ -172,7 +174,7 @@ pub(crate) fn in_conflict_with(
     })
 }
 
-/// Whether a contexted patch is seen from the state where it stands.
+/// True if a contexted patch has an empty context.
 pub(crate) fn has_no_context(x: &Contexted) -> bool
     ensures { IsTrue result ↔ (x.now ≡ bare x.now.patch) }
 {

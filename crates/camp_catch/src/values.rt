@@ -1,3 +1,4 @@
+//! Small lists, contexted patches and sets.
 ghost use Rattle.std.specs.Prelude.{◌≡◌, ◌&&◌, [], ◌∷◌, IfOk};
 ghost use Rattle.std.specs.FinMap.{contains_key};
 ghost use Rattle.camp_prim.specs.Effect.{inverse_of};
@@ -9,14 +10,14 @@ use camp_seq::Seq;
 use std::alloc::{AllocError, Global};
 use std::slice;
 
-/// The list of one primitive.
+/// Makes the list of one primitive.
 pub(crate) fn one(alloc: Global, p: &Named) -> Result<Seq, AllocError>
     ensures { IfOk result (λ list. list ≡ p.now ∷ []) }
 {
     join(alloc, slice::from_ref(p), &[])
 }
 
-/// `p^`
+/// Makes `p^`.
 pub(crate) fn inverse(p: &Named) -> Result<Named, AllocError>
     ensures { IfOk result (λ back. back ≡ inverse_of p.now) }
 {
@@ -24,7 +25,7 @@ pub(crate) fn inverse(p: &Named) -> Result<Named, AllocError>
     Ok(copy.invert())
 }
 
-/// `p^` before a list
+/// Makes the list of `p^` followed by `s`.
 pub(crate) fn inverse_before(alloc: Global, p: &Named, s: &[Named]) -> Result<Seq, AllocError>
     ensures { IfOk result (λ list. list ≡ inverse_of p.now ∷ s.now) }
 {
@@ -32,7 +33,7 @@ pub(crate) fn inverse_before(alloc: Global, p: &Named, s: &[Named]) -> Result<Se
     join(alloc, slice::from_ref(&back), s)
 }
 
-/// `:p`
+/// Makes `:p`.
 pub(crate) fn bare(alloc: Global, p: &Named) -> Result<Contexted, AllocError>
     ensures { IfOk result (λ x. x ≡ bare p.now) }
 {
@@ -40,14 +41,14 @@ pub(crate) fn bare(alloc: Global, p: &Named) -> Result<Contexted, AllocError>
     Contexted::new(alloc, Seq::empty(alloc), p)
 }
 
-/// `{x}`
+/// Makes `{x}`.
 pub(crate) fn alone(alloc: Global, x: &Contexted) -> Result<CtxSet, AllocError>
     ensures { IfOk result (λ set. set ≡ only x.now) }
 {
     CtxSet::empty(alloc).insert(x)
 }
 
-/// `{:p}`
+/// Makes `{:p}`.
 pub(crate) fn alone_bare(alloc: Global, p: &Named) -> Result<CtxSet, AllocError>
     ensures { IfOk result (λ set. set ≡ only (bare p.now)) }
 {
@@ -55,7 +56,7 @@ pub(crate) fn alone_bare(alloc: Global, p: &Named) -> Result<CtxSet, AllocError>
     alone(alloc, &x)
 }
 
-/// Whether an element is an inverse whose absolute label stands in a set.
+/// True if a primitive is an inverse whose absolute label is in a set.
 pub(crate) fn is_undone(p: &Named, ys: &CtxSet) -> bool
     ensures { result ≡ (p.now.inverse && contains_key ys.now (patch_key p.now)) }
 {

@@ -1,4 +1,4 @@
--- What moving catches inside a list answers and leaves.
+-- The results of moving catches inside a list.
 use Rattle.std.specs.Prelude.{◌≡◌, ◌≢◌, ℕ, List, ◌∷◌, ◌++◌, length, All, fold}
 use Rattle.camp_prim.specs.declared.labels.Key.{Key}
 use Rattle.camp_ctx.specs.Contexts.{ContextedPatch, with_member}
@@ -10,11 +10,11 @@ use Rattle.camp_catch.specs.Merging.{MergeCatch}
 use Rattle.camp_catch.specs.declared.catches.Catch.{Catch}
 use Rattle.camp_catch.specs.declared.catches.Catch.TheVariants.{Plain}
 
--- j and the k behind it commute, each in its own place: j becomes j', and k becomes k'
+-- j and the k after it commute in place: j becomes j', and k becomes k'
 abbrev pub CommutesInPlace : Catch × Catch → Catch × Catch → Type 0
 CommutesInPlace old new = CommuteCatch old.0 old.1 new.1 new.0
 
--- j and the k of the same state merge, each in its own place
+-- j and the k of the same state merge in place
 abbrev pub MergesInPlace : Catch × Catch → Catch × Catch → Type 0
 MergesInPlace old new = MergeCatch old.0 old.1 new.1 new.0
 
@@ -22,7 +22,7 @@ MergesInPlace old new = MergeCatch old.0 old.1 new.1 new.0
 abbrev pub MergesBehind : Catch → Catch → Catch → Type 0
 MergesBehind j k k' = (j' : Catch) × MergeCatch j k k' j'
 
--- the catch in conflict with these too, where it is a conflictor
+-- the catch with more conflicts; a plain one is unchanged
 abbrev pub with_gained : List ContextedPatch → Catch → Catch
 with_gained gained (Plain a) = Plain a
 with_gained gained (Catch.Conflictor k) = Catch.Conflictor (with_conflicts (fold with_member k.conflicts gained) k)
@@ -41,6 +41,6 @@ pub record FirstWith (key : Key) (list : List Catch) (at : ℕ) : Type 0 where
   pub labelled : catch_key first ≡ key
   pub lacks : Lacks key before
 
--- the first catch with this absolute label comes to the front
+-- the first catch with this absolute label is moved to the front
 abbrev pub ComesFirstInPlace : Key → List Catch → List Catch → Type 0
 ComesFirstInPlace key list t = (k' : Catch) × (others : List Catch) × ComesFirst key list k' others × (t ≡ k' ∷ others)

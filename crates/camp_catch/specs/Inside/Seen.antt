@@ -1,4 +1,4 @@
--- Conflictors that bodies make of others.
+-- Conflictors that functions make from others.
 use Rattle.std.specs.Prelude.{◌≡◌, List, ◌∷◌, ◌++◌}
 use Rattle.std.specs.FinMap.{remove}
 use Rattle.camp_prim.specs.Effect.{inverse_of}

@@ -1,4 +1,4 @@
--- The parts of a merge with a conflictor.
+-- The steps of a merge with a conflictor.
 use Rattle.std.specs.Prelude.{◌≡◌, Bool, List, IsTrue, ◌↔◌}
 use Rattle.camp_prim.specs.declared.named.Named.{Named}
 use Rattle.camp_seq.specs.NormalOrder.{Norm}
@@ -9,7 +9,7 @@ use Rattle.camp_catch.specs.Merging.{JoinsWhere}
 use Rattle.camp_catch.specs.declared.catches.Catch.{Catch}
 use Rattle.camp_catch.specs.declared.catches.Conflictor.{Conflictor}
 
--- r | s -> s2 | r2: two effects merge behind what they have in common, and each is put in normal order
+-- r | s -> s2 | r2: two effects merge behind what they have in common, each in normal order
 pub record EffectsMerge (r s s2 r2 : List Named) : Type 0 where
   pub merged : List Named
   pub left : List Named
@@ -17,13 +17,13 @@ pub record EffectsMerge (r s s2 r2 : List Named) : Type 0 where
   pub effect : Norm merged s2
   pub own_effect : Norm left r2
 
--- whether a patch conflicts with the identity of a conflictor, as seen before its effect
+-- `found` says whether a patch conflicts with the identity of a conflictor, as seen before its effect
 pub record TellsPlainConflict (a : Named) (k : Conflictor) (found : Bool) : Type 0 where
   pub seen : ContextedPatch
   pub sees : AddsAll k.effect k.identity seen
   pub tells : IsTrue found ↔ Conflict (bare a) seen
 
--- whether two identities conflict, as seen before the effects
+-- `found` says whether two identities conflict, as seen before the effects
 pub record TellsConflict (j k : Conflictor) (found : Bool) : Type 0 where
   pub x : ContextedPatch
   pub y : ContextedPatch
@@ -31,7 +31,7 @@ pub record TellsConflict (j k : Conflictor) (found : Bool) : Type 0 where
   pub sees : AddsAll k.effect k.identity y
   pub tells : IsTrue found ↔ Conflict x y
 
--- each of two conflictors in conflict with the other's identity too, where the two are in conflict
+-- the identity of each of two conflictors joins the set of the other, if the two conflict
 pub record JoinEachOther (in_conflict : Bool) (moved own : Conflictor) (k' j' : Catch) : Type 0 where
   pub joined : Conflictor
   pub own_joined : Conflictor

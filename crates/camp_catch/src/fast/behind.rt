@@ -1,4 +1,4 @@
-//! Merges of which the other side is not made.
+//! Merges of which only one result is made.
 ghost use Rattle.std.specs.Prelude.{List, IfOk};
 ghost use Rattle.std.specs.Result.{MatchResult};
 ghost use Rattle.camp_base.specs.Answers.{Finds};
@@ -19,7 +19,7 @@ use camp_ctx::Contexted;
 use camp_share::{Share, Shared};
 use std::alloc::{AllocError, Global};
 
-/// One catch as it is after a list, where nobody reads what the list becomes.
+/// Merges one catch with a list to what it is after the list. What the list becomes is not made.
 pub(crate) fn merge_behind_all(
     alloc: Global,
     q: &[Gaining],
@@ -39,7 +39,7 @@ pub(crate) fn merge_behind_all(
     Ok(settled)
 }
 
-/// `k` as it is after the `j` of the same state.
+/// Merges `k` with the `j` of the same state to what it is after `j`.
 pub(crate) fn merge_behind(
     alloc: Global,
     j: &Catch,
@@ -56,7 +56,7 @@ pub(crate) fn merge_behind(
     }
 }
 
-/// What the `k` of the same state becomes after `j`, where nobody reads what `j` becomes.
+/// Returns what the `k` of the same state becomes after `j`; what `j` becomes is not made.
 fn behind(alloc: Global, j: &Catch, k: &Catch) -> Result<Option<Catch>, AllocError>
     ensures exact { IfOk result (Finds (MergesBehind j.now k.now)) }
 {
@@ -69,8 +69,8 @@ fn behind(alloc: Global, j: &Catch, k: &Catch) -> Result<Option<Catch>, AllocErr
     }
 }
 
-/// `(r, X, i) | (s, Y, l) -> (s2, Y', l')`, where `r2^` added to `Y` and `l` gives `Y'` and `l'`. Of the
-/// other one its identity alone is made.
+/// Makes the first result of `(r, X, i) | (s, Y, l) -> (s2, Y', l')`, where `r2^` added to `Y` and `l` gives
+/// `Y'` and `l'`. Of the other result only the identity is made.
 fn conflictor_behind(
     alloc: Global,
     j: &Conflictor,
@@ -90,7 +90,7 @@ fn conflictor_behind(
     Ok(Some(Catch::Conflictor(joined)))
 }
 
-/// `(s, Y and i', l)`, where `s^` added to `i` gives `i'`
+/// Makes `(s, Y and i', l)`, where `s^` added to `i` gives `i'`.
 fn joined_by_seen(k: Conflictor, i: &Contexted) -> Result<Conflictor, AllocError>
     ensures { IfOk result (JoinedBySeen (inverse_all k.effect) i.now k) }
 {

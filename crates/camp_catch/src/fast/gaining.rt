@@ -1,4 +1,4 @@
-//! Catches that go behind others one by one, or let others pass, and gain conflicts on the way.
+//! Catches that merge with or commute past others one by one, and gain conflicts on the way.
 ghost use Rattle.std.specs.Prelude.{◌≡◌, IfOk};
 ghost use Rattle.camp_base.specs.Answers.{Changes};
 ghost use Rattle.camp_catch.specs.Catches.{catch_key};
@@ -17,8 +17,8 @@ use camp_share::{Share, Shared};
 use std::alloc::{AllocError, Global};
 use std::marker::Model;
 
-/// A catch, and the conflicts that it has gained since its set was made. The set is made anew once
-/// for all of them.
+/// A catch, and the conflicts that it has gained since its set was made. The set is made anew once for all of
+/// them.
 #[derive(Drop)]
 pub(crate) struct Gaining {
     catch: Shared<Catch>,
@@ -38,19 +38,19 @@ impl Model for Gaining {
     ghost view = { λ gaining. with_gained gaining.gained.items gaining.catch };
 }
 
-/// How two catches of one state meet, as far as a look tells.
+/// The result of a quick check of how two catches of the same state merge.
 #[derive(Drop)]
 pub(crate) enum Meeting {
-    /// Both stay as they are.
+    /// Both stay unchanged.
     Aside,
-    /// The second gains this of the first, and the first that of the second, and nothing else changes.
+    /// The second gains the first value as a conflict, and the first the second value; nothing else changes.
     Conflict(Contexted, Contexted),
-    /// A look does not tell.
+    /// The quick check does not decide.
     Unknown,
 }
 
 impl Gaining {
-    /// A catch that has gained nothing.
+    /// Wraps a catch that has gained nothing.
     pub(crate) fn new(alloc: Global, catch: Shared<Catch>) -> Gaining
         ensures { result ≡ catch }
     {
@@ -60,14 +60,14 @@ impl Gaining {
         }
     }
 
-    /// The absolute label.
+    /// Returns the absolute label.
     pub(crate) fn key(&self) -> Key
         ensures { result ≡ catch_key self.now }
     {
         self.catch.key()
     }
 
-    /// The catch as it is by now.
+    /// Returns the catch with the conflicts that it has gained.
     pub(crate) fn settled(&self) -> Result<Shared<Catch>, AllocError>
         ensures { IfOk result (λ catch. catch ≡ self.now) }
     {
@@ -79,7 +79,7 @@ impl Gaining {
         Shared::new(alloc, catch)
     }
 
-    /// The same of a catch that is given away. It is not shared where it has gained nothing.
+    /// The same, and consumes the catch; it is not copied if it has gained nothing.
     fn into_settled(self) -> Result<Shared<Catch>, AllocError>
         ensures { IfOk result (λ catch. catch ≡ self) }
     {
@@ -89,7 +89,7 @@ impl Gaining {
         Ok(self.catch)
     }
 
-    /// Merges with the `k` of the same state, where each stays in its place in memory.
+    /// Merges with the `k` of the same state, in place. False if they do not merge.
     pub(crate) fn meet(&mut self, k: &mut Gaining) -> Result<bool, AllocError>
         ensures exact { IfOk result (λ done. Changes MergesInPlace (self.old, k.old) done (self.new, k.new)) }
     {
@@ -104,7 +104,7 @@ impl Gaining {
         }
     }
 
-    /// Commutes with the `k` behind it, where each stays in its place in memory.
+    /// Commutes with the `k` after it, in place. False if they do not commute.
     pub(crate) fn let_pass(&mut self, k: &mut Shared<Catch>) -> Result<bool, AllocError>
         ensures exact { IfOk result (λ done. Changes CommutesInPlace (self.old, k.old) done (self.new, k.new)) }
     {
@@ -126,8 +126,8 @@ impl Gaining {
         }
     }
 
-    /// Merges with the `j` of the same state, and becomes what it is behind `j`. What `j` becomes
-    /// is not made, since nobody reads it.
+    /// Merges with the `j` of the same state, and becomes what it is after `j`. What `j` becomes is not made,
+    /// since nobody reads it.
     pub(crate) fn go_behind(&mut self, j: &Gaining) -> Result<bool, AllocError>
         ensures exact { IfOk result (λ done. Changes (MergesBehind j.now) self.old done self.new) }
     {
@@ -142,7 +142,7 @@ impl Gaining {
     }
 }
 
-/// These catches, each of which has gained nothing.
+/// Wraps catches that have gained nothing.
 pub(crate) fn all_gaining(alloc: Global, list: &[Shared<Catch>]) -> Result<Vec<Gaining>, AllocError>
     ensures { IfOk result (λ copy. copy.items ≡ list.now) }
 {
@@ -153,7 +153,7 @@ pub(crate) fn all_gaining(alloc: Global, list: &[Shared<Catch>]) -> Result<Vec<G
     Ok(copy)
 }
 
-/// These catches as they are by now.
+/// Returns the catches with the conflicts that they have gained.
 pub(crate) fn all_settled(
     alloc: Global,
     list: Vec<Gaining>,
@@ -167,7 +167,7 @@ pub(crate) fn all_settled(
     Ok(settled)
 }
 
-/// Merges two catches of one state, whose sets are made first.
+/// Merges two catches of the same state; makes their sets first.
 fn merge_settled(j: &mut Gaining, k: &mut Gaining) -> Result<bool, AllocError>
     ensures exact { IfOk result (λ done. Changes MergesInPlace (j.old, k.old) done (j.new, k.new)) }
 {
@@ -182,7 +182,7 @@ fn merge_settled(j: &mut Gaining, k: &mut Gaining) -> Result<bool, AllocError>
     Ok(true)
 }
 
-/// Commutes `j`, whose set is made first, and the `k` behind it.
+/// Commutes `j` and the `k` after it; makes the set of `j` first.
 fn pass_settled(j: &mut Gaining, k: &mut Shared<Catch>) -> Result<bool, AllocError>
     ensures exact { IfOk result (λ done. Changes CommutesInPlace (j.old, k.old) done (j.new, k.new)) }
 {
@@ -195,7 +195,7 @@ fn pass_settled(j: &mut Gaining, k: &mut Shared<Catch>) -> Result<bool, AllocErr
     Ok(true)
 }
 
-/// Lets `k` go behind the `j` of the same state. Their sets are made first.
+/// Merges `k` with the `j` of the same state, to what it is after `j`; makes their sets first.
 fn settle_behind(j: &Gaining, k: &mut Gaining) -> Result<bool, AllocError>
     ensures exact { IfOk result (λ done. Changes (MergesBehind j.now) k.old done k.new) }
 {
@@ -209,7 +209,7 @@ fn settle_behind(j: &Gaining, k: &mut Gaining) -> Result<bool, AllocError>
     Ok(true)
 }
 
-/// How two catches of one state meet, whatever they have gained.
+/// Checks how two catches of the same state merge, whatever they have gained.
 fn meeting_of(j: &Catch, k: &Catch) -> Result<Meeting, AllocError>
     ensures { IfOk result (MeetAs j.now k.now) }
 {
@@ -220,7 +220,7 @@ fn meeting_of(j: &Catch, k: &Catch) -> Result<Meeting, AllocError>
     }
 }
 
-/// How two conflictors of one state meet: where they have no effect, each gains the other's identity if
+/// Checks how two conflictors of the same state merge: without effects, each gains the other's identity if
 /// they conflict.
 fn meeting_of_two(j: &Conflictor, k: &Conflictor) -> Result<Meeting, AllocError>
     ensures { IfOk result (MeetAs (AnyCatch.Conflictor j.now) (AnyCatch.Conflictor k.now)) }
@@ -240,7 +240,7 @@ fn meeting_of_two(j: &Conflictor, k: &Conflictor) -> Result<Meeting, AllocError>
     Ok(Meeting::Conflict(first, second))
 }
 
-/// A catch in conflict with these too, where it is a conflictor.
+/// Returns a catch with more conflicts; a plain one is unchanged.
 fn with_gained(gained: &[Contexted], catch: &Catch) -> Result<Catch, AllocError>
     ensures { IfOk result (λ made. made ≡ with_gained gained.now catch.now) }
 {

@@ -1,4 +1,4 @@
-//! Conflictors without an effect that pass one another.
+//! Conflictors without an effect that commute past one another.
 ghost use Rattle.std.specs.Prelude.{◌≡◌, ◌↔◌, [], IfOk, IsTrue, Some};
 ghost use Rattle.std.specs.FinMap.{get};
 ghost use Rattle.camp_ctx.specs.Contexts.{context_key, ContextedPatch};
@@ -10,18 +10,19 @@ use crate::{Catch, Conflictor};
 use camp_ctx::Contexted;
 use std::alloc::AllocError;
 
-/// How a catch passes the one before it, as far as a look tells.
+/// The result of a quick check of how a catch commutes past the one before it.
 #[derive(Drop)]
 pub(crate) enum Passing {
-    /// Both stay as they are.
+    /// Both stay unchanged.
     Aside,
-    /// It becomes this, and the one before it gains that, and nothing else changes.
+    /// The catch becomes the first value, and the one before it gains the second as a conflict; nothing else
+    /// changes.
     Leaves(Catch, Contexted),
-    /// A look does not tell.
+    /// The quick check does not decide.
     Unknown,
 }
 
-/// How `k` passes the `j` before it, whatever that has gained.
+/// Checks how `k` commutes past the `j` before it, whatever conflicts `j` has gained.
 pub(crate) fn passing_of(j: &Catch, k: &Catch) -> Result<Passing, AllocError>
     ensures { IfOk result (PassAs j.now k.now) }
 {
@@ -31,8 +32,8 @@ pub(crate) fn passing_of(j: &Catch, k: &Catch) -> Result<Passing, AllocError>
     }
 }
 
-/// How a conflictor passes another one where neither has an effect: where it has that in its set, that leaves
-/// it; else both stay.
+/// Checks how one conflictor commutes past another if neither has an effect: a conflict with it is removed
+/// from its set, else both stay unchanged.
 fn passing_of_two(j: &Conflictor, k: &Conflictor) -> Result<Passing, AllocError>
     ensures { IfOk result (PassAs (AnyCatch.Conflictor j.now) (AnyCatch.Conflictor k.now)) }
 {
@@ -51,7 +52,8 @@ fn passing_of_two(j: &Conflictor, k: &Conflictor) -> Result<Passing, AllocError>
     }
 }
 
-/// `([], X, i) ([], Y, l) <-> ([], Y without j, l) ([], X and l, i)`, unless `j` is alone in `Y`
+/// Checks the case `([], X, i) ([], Y, l) <-> ([], Y without j, l) ([], X and l, i)`, which needs more than
+/// `j` in `Y`.
 fn passing_out(j: &Conflictor, k: &Conflictor) -> Result<Passing, AllocError>
     requires first { j.now.effect ≡ [] }
     requires second { k.now.effect ≡ [] }
@@ -73,7 +75,7 @@ fn passing_out(j: &Conflictor, k: &Conflictor) -> Result<Passing, AllocError>
     Ok(Passing::Leaves(Catch::Conflictor(left), gained))
 }
 
-/// Whether a conflictor has no effect.
+/// True if a conflictor has an empty effect.
 pub(crate) fn has_no_effect(k: &Conflictor) -> bool
     ensures { IsTrue result ↔ (k.now.effect ≡ []) }
 {

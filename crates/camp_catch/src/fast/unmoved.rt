@@ -1,4 +1,4 @@
-//! Catches that commute, or merge, as they are.
+//! Quick checks for catches that commute or merge unchanged.
 ghost use Rattle.std.specs.Prelude.{IfOk, IsTrue};
 ghost use Rattle.camp_ctx.specs.Adding.{Adds, PassesBy};
 ghost use Rattle.camp_seq.specs.NormalOrder.{Norm};
@@ -16,8 +16,7 @@ use camp_prim::{Named, stay};
 use camp_seq::{is_own_order, stays_past};
 use std::alloc::{AllocError, Global};
 
-/// Whether two catches, one after the other, commute as they are. Where it says no, they may
-/// still do.
+/// True only if two catches, one after the other, commute unchanged. False decides nothing.
 pub(crate) fn commute_as_they_are(j: &Catch, k: &Catch) -> Result<bool, AllocError>
     ensures { IfOk result (λ yes. IsTrue yes → CommuteCatch j.now k.now k.now j.now) }
 {
@@ -29,7 +28,7 @@ pub(crate) fn commute_as_they_are(j: &Catch, k: &Catch) -> Result<bool, AllocErr
     }
 }
 
-/// `[a] (s, Y, l) <-> (s, Y, l) [a]`
+/// True only if `[a] (s, Y, l) <-> (s, Y, l) [a]`.
 fn passes_as_it_is(a: &Named, k: &Conflictor) -> bool
     ensures { IsTrue result → PlainPastConflictor a.now k.now (AnyCatch.Conflictor k.now) (Plain a.now) }
 {
@@ -39,7 +38,7 @@ fn passes_as_it_is(a: &Named, k: &Conflictor) -> bool
     }
 }
 
-/// `(r, X, i) [b] <-> [b] (r, X, i)`
+/// True only if `(r, X, i) [b] <-> [b] (r, X, i)`.
 fn comes_before_as_it_is(j: &Conflictor, b: &Named) -> Result<bool, AllocError>
     ensures { IfOk result (λ yes. IsTrue yes → ConflictorPastPlain j.now b.now (Plain b.now) (AnyCatch.Conflictor j.now)) }
 {
@@ -47,8 +46,7 @@ fn comes_before_as_it_is(j: &Conflictor, b: &Named) -> Result<bool, AllocError>
     Ok(stays_behind(&back, j))
 }
 
-/// Whether a plain catch and a conflictor of one state stand behind one another as they are. Where it
-/// says no, they may still do.
+/// True only if a plain catch and a conflictor of the same state merge unchanged. False decides nothing.
 pub(crate) fn merge_as_they_are(alloc: Global, j: &Catch, k: &Catch) -> Result<bool, AllocError>
     ensures { IfOk result (λ yes. IsTrue yes → MergeCatch j.now k.now k.now j.now) }
 {
@@ -59,7 +57,7 @@ pub(crate) fn merge_as_they_are(alloc: Global, j: &Catch, k: &Catch) -> Result<b
     }
 }
 
-/// `[a] | (s, Y, l) -> (s, Y, l) | [a]`
+/// True only if `[a] | (s, Y, l) -> (s, Y, l) | [a]`.
 fn stand_aside(alloc: Global, a: &Named, k: &Conflictor) -> Result<bool, AllocError>
     ensures { IfOk result (λ yes. IsTrue yes → MergePlainConflictor a.now k.now (AnyCatch.Conflictor k.now) (Plain a.now)) }
 {
@@ -71,8 +69,8 @@ fn stand_aside(alloc: Global, a: &Named, k: &Conflictor) -> Result<bool, AllocEr
     Ok(!in_conflict)
 }
 
-/// Whether a conflictor is as it was where `a` passes its effect, is added to its conflicts, and is added to
-/// its identity or passes by it.
+/// True only if a conflictor is unchanged when `a` passes its effect, is added to its conflicts, and is added
+/// to its identity or passes it.
 fn stays_behind(a: &Named, k: &Conflictor) -> bool
     ensures passes { IsTrue result → Passes a.now k.now.effect k.now.effect a.now }
     ensures becomes { IsTrue result → Becomes (Norm k.now.effect) (Adds a.now) (Adds a.now) k.now k.now }
