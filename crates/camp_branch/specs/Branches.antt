@@ -1,4 +1,4 @@
--- A branch as a list of catches: the patches that it has, and when it is lawful.
+-- A branch as a list of catches: its patches, and when it is lawful.
 use Rattle.std.specs.Prelude.{◌≡◌, ◌≤◌, ℕ, zero, suc, ◌+◌, Bool, false, not, if◌then◌else◌, List, [], ◌∷◌, ◌++◌, map, filter, bytes_eq}
 use Rattle.std.specs.Prelude.{Option, None, Some}
 use Rattle.std.specs.List.{AllByRecursion, flat_map, list_any}
@@ -13,15 +13,15 @@ use Rattle.camp_catch.specs.Laws.{keys_of}
 use Rattle.camp_catch.specs.declared.catches.Catch.{Catch}
 use Rattle.camp_catch.specs.declared.catches.Catch.TheVariants.{Plain}
 
--- the name of the patch that a catch is of
+-- the name of the patch of a catch
 abbrev pub name_of : Catch → List ℕ
 name_of k = (catch_key k).name
 
--- whether a name is among these
+-- a name is one of these
 abbrev pub is_among : List (List ℕ) → List ℕ → Bool
 is_among names name = list_any (bytes_eq name) names
 
--- names, each once, in the order in which they come first
+-- the names, each once, in the order of their first occurrences
 abbrev pub each_once : List (List ℕ) → List (List ℕ)
 each_once [] = []
 each_once (name ∷ names) = name ∷ filter (λ other. not (bytes_eq name other)) (each_once names)
@@ -30,7 +30,7 @@ each_once (name ∷ names) = name ∷ filter (λ other. not (bytes_eq name other
 abbrev pub names_of : List Catch → List (List ℕ)
 names_of branch = each_once (map name_of branch)
 
--- whether a branch has a patch of this name
+-- a branch has a patch of this name
 abbrev pub has_patch : List Catch → List ℕ → Bool
 has_patch branch name = is_among (map name_of branch) name
 
@@ -47,7 +47,7 @@ LeadsTo branch tree = FitsAll branch empty tree
 abbrev pub IsTreeOf : List Catch → Files → Type 0
 IsTreeOf branch tree = AppliesAll (flat_map effect_of branch) empty tree
 
--- the catches that a record of these changes makes, from a place on
+-- the catches that a record of these changes makes, at positions from `place` on
 abbrev pub recorded : List ℕ → ℕ → List Primitive → List Catch
 recorded name place [] = []
 recorded name place (change ∷ changes) =
@@ -58,12 +58,12 @@ pub record Patch : Type 0 where
   pub name : List ℕ
   pub changes : ℕ
 
--- the absolute labels of some changes of one name, from a place on
+-- the absolute labels of changes of a patch, at positions from `place` on
 abbrev pub labels_from : List ℕ → ℕ → ℕ → List Key
 labels_from name place zero = []
 labels_from name place (suc changes) = record { name = name; place = place } ∷ labels_from name (place + 1) changes
 
--- the absolute labels of patches: those of each patch stand together, in ascending place from 1
+-- the absolute labels of patches: those of each patch together, at positions from 1
 abbrev pub labels_of : List Patch → List Key
 labels_of [] = []
 labels_of (patch ∷ patches) = labels_from patch.name 1 patch.changes ++ labels_of patches
@@ -72,7 +72,7 @@ labels_of (patch ∷ patches) = labels_from patch.name 1 patch.changes ++ labels
 abbrev pub patch_names : List Patch → List (List ℕ)
 patch_names patches = map (λ p. p.name) patches
 
--- no name is there twice
+-- no name occurs twice
 abbrev pub AreDistinct : List (List ℕ) → Type 0
 AreDistinct [] = Unit {0}
 AreDistinct (name ∷ names) = (is_among names name ≡ false) × AreDistinct names
@@ -87,7 +87,7 @@ pub record HasPatches (branch : List Catch) (patches : List Patch) : Type 0 wher
   pub sized : AllByRecursion IsSized patches
   pub labels : keys_of branch ≡ labels_of patches
 
--- a branch is lawful: its labels are those of some patches, or of none, and it leads to a tree
+-- a branch is lawful: its labels are those of some patches, and it leads to a tree
 pub record IsLawfulBranch (branch : List Catch) : Type 0 where
   pub patches : List Patch
   pub has : HasPatches branch patches

@@ -25,7 +25,7 @@ IsBetween first second k =
 abbrev pub AreInConflict : List Catch → List ℕ → List ℕ → Type 0
 AreInConflict branch first second = (k : Catch) × Contains branch k × IsBetween first second k
 
--- one pair of names stands before another: by the first names, then by the second
+-- the order of pairs of names: by the first names, then by the second
 abbrev pub IsBefore : (List ℕ × List ℕ) → (List ℕ × List ℕ) → Type 0
 IsBefore p q =
     (slice_cmp nat_cmp p.0 q.0 ≡ Less) ⊎ ((p.0 ≡ q.0) × (slice_cmp nat_cmp p.1 q.1 ≡ Less))

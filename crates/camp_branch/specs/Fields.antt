@@ -1,4 +1,4 @@
--- How a branch lies in its fields.
+-- The representation of a branch.
 use Rattle.std.specs.Prelude.{◌≡◌, ℕ, Bool, List}
 use Rattle.std.specs.Ordering.{nat_cmp}
 use Rattle.std.specs.Cmp.Lexicographic.{slice_cmp}
@@ -11,11 +11,12 @@ use Rattle.camp_branch.specs.declared.branches.Branch.TheInside.{Inside}
 abbrev pub names_in : List (List ℕ × Unit {0}) → List (List ℕ)
 names_in set = keys (map_of (slice_cmp nat_cmp) set)
 
--- whether a set has a name
+-- a set has a name
 abbrev pub has_name : List (List ℕ × Unit {0}) → List ℕ → Bool
 has_name set name = contains_key (map_of (slice_cmp nat_cmp) set) name
 
--- the catches are lawful, the index has the names of their patches, and the kept tree is the one that they lead to
+-- the catches are lawful, the index has the names of their patches, and the stored tree is the one that they
+-- lead to
 pub record IsBranch (branch : Inside) : Type 0 where
   pub lawful : IsLawfulBranch branch.catches
   pub named :

@@ -12,7 +12,7 @@ use Rattle.camp_branch.specs.Conflicting.{AreConflicts}
 use Rattle.camp_branch.specs.Obliterating.{ObliterateGives, other_names}
 use Rattle.camp_branch.specs.Pulling.{PullGives}
 
--- a branch leads to one tree at most, which is the tree of its effects
+-- a branch leads to at most one tree, the tree of its effects
 pub record TreesAreDetermined : Type 0 where
   pub one : (branch : List Catch) (tree other : Files) → LeadsTo branch tree → LeadsTo branch other → tree ≡ other
   pub effects : (branch : List Catch) (tree : Files) → LeadsTo branch tree → IsTreeOf branch tree
@@ -26,12 +26,12 @@ NamesAreOfPatches =
 abbrev pub ExactlyOne : {A : Type 0} → (A → Type 0) → Type 0
 ExactlyOne {A} Has = (one : A) × Has one × ((other : A) → Has other → other ≡ one)
 
--- a pull comes to one outcome, and so does an obliteration
+-- a pull has exactly one outcome, and so has an obliteration
 pub record OutcomesAreDetermined : Type 0 where
   pub pulls : (from to : List Catch) (wanted : List (List ℕ)) → ExactlyOne (PullGives from to wanted)
   pub obliterates : (branch : List Catch) (names : List (List ℕ)) → ExactlyOne (ObliterateGives branch names)
 
--- the conflicts of a branch are one list of pairs
+-- the conflicts of a branch are exactly one list of pairs
 abbrev pub ConflictsAreDetermined : Type 0
 ConflictsAreDetermined = (branch : List Catch) → ExactlyOne (AreConflicts branch)
 
@@ -47,14 +47,14 @@ others_of names patches = filter (λ p. not (is_among names p.name)) patches
 abbrev pub AreLacked : List Catch → List (List ℕ) → Type 0
 AreLacked to wanted = (name : List ℕ) → is_among wanted name ≡ true → has_patch to name ≡ false
 
--- what a pull gives begins with `to`
+-- the result of a pull begins with `to`
 abbrev pub PullsBeginWithOwn : Type 0
 PullsBeginWithOwn =
     (from to pulled : List Catch) (wanted : List (List ℕ)) → PullGives from to wanted (Ok pulled) →
     (taken : List Catch) × (pulled ≡ to ++ taken)
 
--- what a pull gives has the patches of `to`, and then the wanted ones of `from`, in their order there; it is lawful
--- where both branches are
+-- the result of a pull has the patches of `to`, and then the wanted ones of `from`, in their order there; it
+-- is lawful if both branches are
 pub record PullsKeepLawful : Type 0 where
   pub patches :
       (from to pulled : List Catch) (wanted : List (List ℕ)) (theirs ours : List Patch) →
@@ -68,7 +68,7 @@ pub record PullsKeepLawful : Type 0 where
       (from to pulled : List Catch) (wanted : List (List ℕ)) → PullGives from to wanted (Ok pulled) →
       IsLawfulBranch from → IsLawfulBranch to → AreLacked to wanted → IsLawfulBranch pulled
 
--- what an obliteration leaves has the other patches, in their order; it is lawful where the branch is
+-- an obliteration keeps the other patches in their order; it is lawful if the branch is
 pub record ObliteratesKeepLawful : Type 0 where
   pub patches :
       (branch left : List Catch) (names : List (List ℕ)) (own : List Patch) →
@@ -80,14 +80,14 @@ pub record ObliteratesKeepLawful : Type 0 where
       (branch left : List Catch) (names : List (List ℕ)) → ObliterateGives branch names (Ok left) → IsLawfulBranch branch →
       IsLawfulBranch left
 
--- changes lead, one after the other, from one tree to another
+-- changes, applied in order, lead from one tree to another
 abbrev pub AppliesEach : List Primitive → Files → Files → Type 0
 AppliesEach [] old new = new ≡ old
 AppliesEach (change ∷ changes) old new =
     (between : Files) × Applies change old between × AppliesEach changes between new
 
--- the branch of a new repository is lawful, and stays so where 1 to 64 changes are recorded under a new name that lead
--- from its tree to another
+-- the branch of a new repository is lawful, and stays so if 1 to 64 changes that lead from its tree to
+-- another are recorded under a new name
 pub record RecordsKeepLawful : Type 0 where
   pub empty : HasPatches [] [] × LeadsTo [] no_files
   pub patches :

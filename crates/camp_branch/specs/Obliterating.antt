@@ -1,4 +1,4 @@
--- Taking patches out of a branch: all others are brought to its front, and the rest is dropped.
+-- Taking patches out of a branch: all others are moved to its front, and the rest is dropped.
 use Rattle.std.specs.Prelude.{◌≡◌, ℕ, not, List, filter, Ok}
 use Rattle.camp_catch.specs.declared.catches.Catch.{Catch}
 use Rattle.camp_branch.specs.Branches.{is_among, names_of}
@@ -8,7 +8,8 @@ use Rattle.camp_branch.specs.Pulling.{Outcome, WantedNext}
 abbrev pub other_names : List Catch → List (List ℕ) → List (List ℕ)
 other_names branch names = filter (λ name. not (is_among names name)) (names_of branch)
 
--- an obliteration comes to this: the patches that stay, where each can come before those that go
+-- the outcome of an obliteration: the patches that stay, if each can be moved in front of those that are
+-- taken out
 -- branch <-> staying gone
 abbrev pub ObliterateGives : List Catch → List (List ℕ) → Outcome → Type 0
 ObliterateGives branch names =

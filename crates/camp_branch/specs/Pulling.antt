@@ -1,5 +1,5 @@
--- Pulling patches from one branch into another: what both have is brought to the front of both, and into one order;
--- what is wanted comes behind it, and is merged with what the other branch has alone.
+-- Pulling patches from one branch into another: the common patches are moved to the front of both and put in
+-- the same order; the wanted ones come next, and are merged with those that only the other branch has.
 use Rattle.std.specs.Prelude.{◌≡◌, ◌≢◌, ◌⊎◌, ℕ, List, [], ◌∷◌, ◌++◌, filter, Result, Ok, Err}
 use Rattle.camp_prim.specs.declared.labels.Key.{Key}
 use Rattle.camp_catch.specs.Arranging.{Arrange, ArrangeSticks, Align, AlignSticks}
@@ -10,11 +10,12 @@ use Rattle.camp_branch.specs.Branches.{has_patch, name_of, names_of}
 use Rattle.camp_branch.specs.declared.faults.Blocked.{Blocked}
 use Rattle.camp_branch.specs.declared.faults.Blocked.TheVariants.{Depends, Diverged, NoMerge}
 
--- what a change of a branch comes to: the branch that it makes, or why it can't be made
+-- the outcome of a change of a branch: the new branch, or why it is blocked
 abbrev pub Outcome : Type 0
 Outcome = Result (List Catch) Blocked
 
--- a step that gives two lists, with which it goes on, or sticks at two labels, which tell why all of it is blocked
+-- a step that gives two lists, from which the next step starts, or is blocked at two labels, which say why
+-- the whole is blocked
 abbrev pub StepThen :
     (List Catch → List Catch → Type 0) → (Key → Key → Type 0) → (Key → Key → Blocked)
     → (List Catch → List Catch → Outcome → Type 0) → Outcome → Type 0
@@ -22,7 +23,8 @@ StepThen Gives Sticks why Next outcome =
     ((x : List Catch) × (y : List Catch) × Gives x y × Next x y outcome)
     ⊎ ((stuck : Key) × (on : Key) × Sticks stuck on × (outcome ≡ Err (why stuck on)))
 
--- two lists of catches differ first at a catch of this name: that of the first list, where both have a catch there
+-- two lists of catches first differ at a catch of this name: that of the first list, if both have a catch
+-- there
 abbrev pub DiffersAt : List Catch → List Catch → List ℕ → Type 0
 DiffersAt [] [] name = ⊥
 DiffersAt [] (k ∷ list) name = name ≡ name_of k
@@ -30,8 +32,9 @@ DiffersAt (j ∷ list) [] name = name ≡ name_of j
 DiffersAt (j ∷ list) (k ∷ others) name =
     ((j ≢ k) × (name ≡ name_of j)) ⊎ ((j ≡ k) × DiffersAt list others name)
 
--- the common patches in the order of those of `to` are the same, and it goes on; or else the branches have diverged, at
--- the one that does not come into this order, or at the first one that is not the same
+-- the common patches in the order of those of `to` are the same, and the next step starts; or else the
+-- branches have diverged, at the patch that is blocked in this order, or at the first one that is not the
+-- same
 abbrev pub SameThen : List Catch → List Catch → (Outcome → Type 0) → Outcome → Type 0
 SameThen from_common to_common Next outcome =
     (Align (keys_of to_common) from_common to_common × Next outcome)
@@ -43,14 +46,14 @@ SameThen from_common to_common Next outcome =
 abbrev pub common_names : List Catch → List Catch → List (List ℕ)
 common_names from to = filter (has_patch to) (names_of from)
 
--- the common patches come to the front of a branch, or the branches have diverged at one
+-- the common patches are moved to the front of a branch, or the branches have diverged at one
 -- branch <-> common others
 abbrev pub CommonFirst :
     List (List ℕ) → List Catch → (List Catch → List Catch → Outcome → Type 0) → Outcome → Type 0
 CommonFirst names branch =
     StepThen (Arrange names branch) (ArrangeSticks names branch) (λ stuck on. Diverged stuck.name)
 
--- the wanted patches come before those that are not, or one depends on another
+-- the wanted patches are moved in front of those that are not, or one depends on another
 -- list <-> wanted others
 abbrev pub WantedNext :
     List (List ℕ) → List Catch → (List Catch → List Catch → Outcome → Type 0) → Outcome → Type 0
@@ -63,20 +66,20 @@ abbrev pub MergedLast :
 MergedLast wanted others =
     StepThen (MergeLists wanted others) (MergeSticks wanted others) (λ left right. NoMerge left.name right.name)
 
--- with the common patches before them, the wanted ones are merged with what the other branch has alone; the new branch
--- is `to`, and behind it what they become
+-- with the common patches before them, the wanted ones are merged with those that only the other branch has;
+-- the new branch is `to` followed by what they become
 abbrev pub MergesBehind : List (List ℕ) → List Catch → List Catch → List Catch → Outcome → Type 0
 MergesBehind common from_common chosen to =
     CommonFirst common to (λ to_common others.
     SameThen from_common to_common (
     MergedLast chosen others (λ taken beside outcome. outcome ≡ Ok (to ++ taken))))
 
--- a pull by the names of the common patches: its steps in order, of which the first that fails decides
+-- a pull, given the names of the common patches: its steps in order, of which the first that fails decides
 abbrev pub PullBy : List (List ℕ) → List Catch → List Catch → List (List ℕ) → Outcome → Type 0
 PullBy common from to wanted =
     CommonFirst common from (λ from_common behind.
     WantedNext wanted behind (λ chosen left. MergesBehind common from_common chosen to))
 
--- a pull comes to this: the common patches are those of the names that both branches have
+-- the outcome of a pull: the common patches are those of the names that both branches have
 abbrev pub PullGives : List Catch → List Catch → List (List ℕ) → Outcome → Type 0
 PullGives from to wanted = PullBy (common_names from to) from to wanted

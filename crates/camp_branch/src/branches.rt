@@ -1,3 +1,4 @@
+//! The branch.
 ghost use Rattle.std.specs.Prelude.{◌≡◌, ◌≤◌, ◌++◌, ℕ, List, [], false, length, take, drop, IfOk};
 ghost use Rattle.std.specs.Cow.{cow_slice_items};
 ghost use Rattle.camp_base.specs.Limits.{most_changes};
@@ -25,7 +26,7 @@ use std::alloc::{AllocError, Global};
 use std::borrow::CowSlice;
 use std::marker::Model;
 
-/// A branch: its catches in the order in which they came, and the tree that they lead to. A branch
+/// A branch: its catches in the order in which they were added, and the tree that they lead to. A branch
 /// shares its catches and its files with those that it was made from.
 #[derive(Drop)]
 pub struct Branch {
@@ -52,7 +53,7 @@ impl Model for Branch {
 }
 
 impl Branch {
-    /// The branch without a patch. It takes no memory.
+    /// Makes a branch without patches; does not allocate.
     pub fn empty(alloc: Global) -> Branch
         ensures exact { result ≡ [] }
     {
@@ -63,7 +64,7 @@ impl Branch {
         }
     }
 
-    /// The catches, in the order in which they came.
+    /// Returns the catches in the order in which they were added.
     pub fn catches(&self) -> &SharedList<Shared<Catch>>
         ensures value { result.now ≡ self.now }
         ensures lawful { IsLawfulBranch self.now }
@@ -71,7 +72,7 @@ impl Branch {
         &self.catches
     }
 
-    /// The tree that the catches lead to from the empty tree.
+    /// Returns the tree that the catches lead to from the empty tree.
     pub fn tree(&self) -> &Tree
         ensures exact { LeadsTo self.now result.now }
     {
@@ -91,14 +92,14 @@ impl Branch {
         })
     }
 
-    /// Whether a patch of this name is in the branch.
+    /// True if the branch has a patch of this name.
     pub fn has_patch(&self, name: &Name) -> bool
         ensures exact { result ≡ has_patch self.now name.now }
     {
         self.names.contains_key(name)
     }
 
-    /// The first of some names of which the branch has no patch.
+    /// Returns the first of some names of which the branch has no patch, or `None`.
     pub fn first_lacked(&self, names: &[Name]) -> Option<Name>
         ensures exact { result ≡ first_lacked self.now names.now }
     {
@@ -110,7 +111,7 @@ impl Branch {
         None
     }
 
-    /// The names of the patches, each once, in the order of their first catches.
+    /// Returns the names of the patches, each once, in the order of their first catches.
     pub fn names(&self) -> Result<Vec<Name>, AllocError>
         ensures exact { IfOk result (λ names. names.items ≡ names_of self.now) }
     {
@@ -121,7 +122,7 @@ impl Branch {
             .collect(self.catches.allocator())
     }
 
-    /// The pairs of patches that are in conflict, each once, the lesser name first, in ascending
+    /// Returns the pairs of patches that are in conflict, each once, the lesser name first, in ascending
     /// order.
     pub fn conflicts(&self) -> Result<Vec<(Name, Name)>, AllocError>
         ensures exact { IfOk result (λ pairs. AreConflicts self.now pairs.items) }
@@ -129,7 +130,7 @@ impl Branch {
         conflicts_of(&self.catches)
     }
 
-    /// The branch with a further patch at its end, of these changes, which lead to this tree.
+    /// Returns the branch with a patch of these changes appended; `tree` is the tree that they lead to.
     pub fn recorded(
         &self,
         name: &Name,
@@ -151,9 +152,9 @@ impl Branch {
         })
     }
 
-    /// How long the beginnings of another branch and of this one are that agree. `known` is a
-    /// length for which they do. Behind that the answer takes in all catches that are the same in
-    /// both, and further ones where these are the same patches in other orders.
+    /// Computes a length for which the prefixes of another branch and of this one agree: the same patches in
+    /// the same state. `known` is such a length. The result includes all catches after it that are the same
+    /// in both, and further ones that are the same patches in other orders.
     pub fn agreed(&self, from: &Branch, known: usize) -> Result<usize, AllocError>
         requires { Agree from.now self.now known }
         ensures agree { IfOk result (Agree from.now self.now) }
@@ -167,8 +168,8 @@ impl Branch {
         )
     }
 
-    /// The branch with the wanted patches of another one pulled behind its own, or why they can't
-    /// be pulled.
+    /// Pulls the wanted patches of another branch: the branch with them appended, or why they cannot be
+    /// pulled.
     pub fn pulled(&self, from: &Branch, wanted: &NameSet) -> Result<Branch, Unmade<Blocked>>
         requires lacked { AreLacked self.now (names_in wanted.now) }
         ensures exact { ComesTo (PullGives from.now self.now (names_in wanted.now)) result }
@@ -177,8 +178,7 @@ impl Branch {
         self.pulled_behind(from, wanted, known)
     }
 
-    /// The same, where beginnings of the two branches are known to agree. It looks only at what
-    /// stands behind them.
+    /// The same, for branches whose prefixes of length `known` agree. Reads only what comes after them.
     pub fn pulled_behind(
         &self,
         from: &Branch,
@@ -196,8 +196,8 @@ impl Branch {
         Ok(self.with_taken(&taken)?)
     }
 
-    /// The branch without the patches of some names, or the first of the others that depends on one
-    /// of them.
+    /// Takes the patches of some names out: the branch without them, or the first other patch that depends on
+    /// one of them.
     pub fn without(&self, names: &NameSet) -> Result<Branch, Unmade<Blocked>>
         ensures exact { ComesTo (ObliterateGives self.now (names_in names.now)) result }
     {
@@ -208,8 +208,8 @@ impl Branch {
         Ok(self.with_end(start, &arranged.first, &arranged.rest, staying)?)
     }
 
-    /// The branch whose catches from a place on are brought into another order, and then cut off
-    /// before those that go. It gets the names of the patches that it has left.
+    /// Returns the branch with the catches from an index on in another order, cut off before those that are
+    /// taken out. `names` are the names of the patches that remain.
     fn with_end(
         &self,
         start: usize,
@@ -232,7 +232,7 @@ impl Branch {
         })
     }
 
-    /// The branch with further catches behind it.
+    /// Returns the branch with further catches appended.
     fn with_taken(&self, taken: &[Shared<Catch>]) -> Result<Branch, AllocError>
         requires { IsLawfulBranch (self.now ++ taken.now) }
         ensures { IfOk result (λ branch. branch ≡ self.now ++ taken.now) }
@@ -249,7 +249,7 @@ impl Branch {
     }
 }
 
-/// The catches from a place on.
+/// Returns the catches from an index on.
 fn behind(
     catches: &SharedList<Shared<Catch>>,
     start: usize,
@@ -260,7 +260,7 @@ fn behind(
     catches.range(start, catches.len())
 }
 
-/// The list with a plain catch behind it for each change, at places from 1.
+/// Appends a plain catch for each change, at positions from 1.
 fn with_recorded(
     catches: &SharedList<Shared<Catch>>,
     name: &Name,

@@ -1,3 +1,4 @@
+//! The conflicts of a branch.
 ghost use Rattle.std.specs.Prelude.{◌≡◌, ◌++◌, IfOk, OnOk};
 ghost use Rattle.std.specs.List.{flat_map};
 ghost use Rattle.camp_branch.specs.Conflicting.{AreConflicts};
@@ -10,7 +11,7 @@ use camp_share::{Shared, SharedList};
 use std::alloc::AllocError;
 use std::cmp::Ordering;
 
-/// The pairs of patches in conflict, each once, the lesser name first, in ascending order.
+/// Returns the pairs of patches in conflict, each once, the lesser name first, in ascending order.
 pub(crate) fn conflicts_of(
     catches: &SharedList<Shared<Catch>>,
 ) -> Result<Vec<(Name, Name)>, AllocError>
@@ -22,7 +23,7 @@ pub(crate) fn conflicts_of(
     Ok(pairs)
 }
 
-/// The pairs as the catches have them.
+/// Returns the pairs as the catches have them: in no order, and possibly more than once.
 fn collected(catches: &SharedList<Shared<Catch>>) -> Result<Vec<(Name, Name)>, AllocError>
     ensures { IfOk result (λ pairs. pairs.items ≡ pairs_in catches.now) }
 {
@@ -57,7 +58,7 @@ fn pair_with_each(
     Ok(())
 }
 
-/// The two names, the lesser first, unless they are one.
+/// Appends the pair of two names, the lesser first, unless they are the same.
 fn push_pair(name: &Name, other: &Name, pairs: &mut Vec<(Name, Name)>) -> Result<(), AllocError>
     ensures { OnOk result (pairs.new.items ≡ pairs.old.items ++ pair_of name.now other.now) }
 {

@@ -1,3 +1,4 @@
+//! The effects of catches on trees.
 ghost use Rattle.std.specs.Prelude.{IfOk, OnOk};
 ghost use Rattle.std.specs.List.{flat_map};
 ghost use Rattle.camp_base.specs.Answers.{AnswersByTrial};
@@ -12,7 +13,7 @@ use camp_prim::Named;
 use camp_share::Shared;
 use std::alloc::AllocError;
 
-/// The tree that catches which fit a tree lead to from it.
+/// Applies the effects of catches that fit the tree.
 pub(crate) fn tree_after(tree: &Tree, catches: &[Shared<Catch>]) -> Result<Tree, AllocError>
     requires fits { (after : Files) × FitsAll catches.now tree.now after }
     ensures { IfOk result (λ after. FitsAll catches.now tree.now after) }
@@ -24,7 +25,7 @@ pub(crate) fn tree_after(tree: &Tree, catches: &[Shared<Catch>]) -> Result<Tree,
     Ok(after)
 }
 
-/// The tree before these catches; `tree` is the one after them.
+/// Undoes the effects of catches: returns the tree before them; `tree` is the one after them.
 pub(crate) fn tree_before(tree: &Tree, catches: &[Shared<Catch>]) -> Result<Tree, AllocError>
     requires led { (before : Files) × AppliesAll (flat_map effect_of catches.now) before tree.now }
     ensures { IfOk result (λ before. AppliesAll (flat_map effect_of catches.now) before tree.now) }
@@ -36,7 +37,7 @@ pub(crate) fn tree_before(tree: &Tree, catches: &[Shared<Catch>]) -> Result<Tree
     Ok(before)
 }
 
-/// Makes the changes of an effect, each of which applies where it is made.
+/// Applies an effect whose changes are known to apply.
 fn run(effect: &[Named], tree: &mut Tree) -> Result<(), AllocError>
     requires runs { (after : Files) × AppliesAll effect.now tree.old after }
     ensures { OnOk result (AppliesAll effect.now tree.old tree.new) }
@@ -51,7 +52,7 @@ fn run(effect: &[Named], tree: &mut Tree) -> Result<(), AllocError>
     Ok(())
 }
 
-/// Takes back the changes of an effect, the last of which led to this tree.
+/// Undoes an effect, the last change of which led to this tree.
 fn run_back(effect: &[Named], tree: &mut Tree) -> Result<(), AllocError>
     requires ran { (before : Files) × AppliesAll effect.now before tree.old }
     ensures { OnOk result (AppliesAll effect.now tree.new tree.old) }

@@ -1,11 +1,10 @@
-//! A pull begins behind beginnings of the two branches that agree.
+//! A pull starts after the prefixes of the two branches that agree.
 //!
-//! The first n catches of two branches agree where those of the one, brought into the order of those of the
-//! other, are the same. All their patches are common. So nothing has to pass them on its way to the front,
-//! and they come into order among themselves: arranging, aligning and comparing leave them as they are, and
-//! go on behind them. Catches that are the same in both are passed over. Sums over the labels guess how many
-//! more catches have the same labels. Where that is not none, aligning these finds out whether they agree;
-//! and where they do not, the plain pull tells why.
+//! The first n catches of two branches agree if those of one, put in the order of those of the other, are the same.
+//! All their patches are common. So nothing has to pass them on its way to the front, and they are reordered among
+//! themselves: arranging, aligning and comparing leave them unchanged, and continue after them. Catches that are the
+//! same in both are skipped. Sums over the labels estimate how many more catches have the same labels. If that is not
+//! zero, aligning these finds out whether they agree; if they do not, the plain pull finds out why.
 ghost use Rattle.std.specs.Prelude.{◌+◌, ◌≤◌, drop, length, IfOk};
 ghost use Rattle.camp_branch.specs.Agreeing.{Agree, ReachesAll};
 ghost use Rattle.camp_branch.specs.Inside.Alike.{DifferBehind};
@@ -15,9 +14,9 @@ use camp_catch::{Catch, Unmade};
 use camp_share::{Shared, SharedList};
 use std::alloc::{AllocError, Global};
 
-/// How long the beginnings of two lists are that agree. `known` is a length for which they do. The
-/// answer is longer by the catches behind it that are the same in both, and by further ones that
-/// have the same labels and agree.
+/// Computes a length for which the prefixes of two lists agree. `known` is such a length. The result is
+/// longer by the catches after it that are the same in both, and by further ones that have the same labels
+/// and agree.
 pub(crate) fn agreed(
     alloc: Global,
     from: &SharedList<Shared<Catch>>,
@@ -28,7 +27,7 @@ pub(crate) fn agreed(
     ensures agree { IfOk result (Agree from.now to.now) }
     ensures as_they_are { IfOk result (λ long. ReachesAll from.now to.now known long) }
 {
-    // The proof is told that a length is a number of the machine.
+    // Tells the prover that a length is a number of the machine.
     prove!(from.len() <= usize::MAX);
     let start = known + same_behind(from, to, known);
     let more = alike_in_labels(from, to, start);
@@ -44,7 +43,7 @@ pub(crate) fn agreed(
     }
 }
 
-/// How many catches of two lists, behind the first `known`, are the same in both.
+/// Counts the catches after the first `known` that are the same in both lists, up to the first difference.
 fn same_behind(
     from: &SharedList<Shared<Catch>>,
     to: &SharedList<Shared<Catch>>,
@@ -56,7 +55,7 @@ fn same_behind(
     ensures fits_too { known + result ≤ length to.now }
     ensures most { DifferBehind (drop known from.now) (drop known to.now) result }
 {
-    // The proof is told that a length is a number of the machine.
+    // Tells the prover that a length is a number of the machine.
     prove!(from.len() <= usize::MAX);
     let mut others = to.iter_from(known);
     let mut same = 0;
@@ -72,8 +71,8 @@ fn same_behind(
     same
 }
 
-/// How many catches of two lists, behind the first `known`, seem to have the same labels: sums over
-/// the labels are equal. The labels may still differ.
+/// Estimates how many catches after the first `known` have the same labels in both lists: sums over the
+/// labels are equal. The labels may still differ.
 fn alike_in_labels(
     from: &SharedList<Shared<Catch>>,
     to: &SharedList<Shared<Catch>>,
@@ -84,7 +83,7 @@ fn alike_in_labels(
     ensures fits { known + result ≤ length from.now }
     ensures fits_too { known + result ≤ length to.now }
 {
-    // The proof is told that a length is a number of the machine.
+    // Tells the prover that a length is a number of the machine.
     prove!(from.len() <= usize::MAX);
     let mut others = to.iter_from(known);
     let mut difference: u64 = 0;
@@ -105,7 +104,7 @@ fn alike_in_labels(
     alike
 }
 
-/// A number that catches with the same label share, and others rarely.
+/// Hashes the label of a catch: catches with the same label have the same number, and others rarely have.
 fn label_sum(catch: &Catch) -> u64 {
     let mut sum = catch.place() as u64;
     for byte in catch.name().bytes() {

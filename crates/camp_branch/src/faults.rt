@@ -1,14 +1,15 @@
+//! The reasons that block a pull or an obliteration.
 use camp_base::Name;
 
-/// Why patches can't be pulled into a branch, or be taken out of it.
+/// Why patches cannot be pulled into a branch or taken out of it.
 #[derive(Clone, Copy, PartialEq, Eq, Debug)]
 pub enum Blocked {
-    /// The patch depends on `on`: it can't be moved to before that one, which is not to come along,
-    /// or not to stay.
+    /// The patch depends on `on`: it cannot be moved in front of `on`, which is not pulled with it, or which
+    /// is taken out.
     Depends { patch: Name, on: Name },
-    /// The branches share this patch, but not as one: in one branch it can't be moved to the front, or it
-    /// can't be put into the order of the other, or its catch differs.
+    /// The branches have this patch in different states: in one branch it cannot be moved to the front or put
+    /// in the order of the other branch, or its catch differs.
     Diverged(Name),
-    /// Two patches do not merge: one that only the branch has that is pulled into, and a wanted one.
+    /// Two patches do not merge: `left` is only in the branch that is pulled into, and `right` is wanted.
     NoMerge { left: Name, right: Name },
 }

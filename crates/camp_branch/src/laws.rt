@@ -1,6 +1,7 @@
+//! The laws of branches, as functions whose contracts state them.
 ghost use Rattle.camp_branch.specs.Laws.{ConflictsAreDetermined, NamesAreOfPatches, ObliteratesKeepLawful, OutcomesAreDetermined, PullsBeginWithOwn, PullsKeepLawful, RecordsKeepLawful, TreesAreDetermined};
 
-/// A branch leads to one tree at most, which is the tree of its effects.
+/// A branch leads to at most one tree, the tree of its effects.
 #[tactic(auto, using(crate::proofs::KeepLawful::trees_are_determined))]
 pub fn trees_are_determined()
     ensures law { TreesAreDetermined }
@@ -12,7 +13,7 @@ pub fn names_are_of_patches()
     ensures law { NamesAreOfPatches }
 {}
 
-/// A pull comes to one outcome, and so does an obliteration.
+/// A pull has exactly one outcome, and so has an obliteration.
 #[tactic(auto, using(crate::proofs::OutcomesDetermined::outcomes_are_determined))]
 pub fn outcomes_are_determined()
     ensures law { OutcomesAreDetermined }
@@ -28,20 +29,20 @@ pub fn pulls_begin_with_own()
     ensures law { PullsBeginWithOwn }
 {}
 
-/// A pulled branch has its own patches and then the wanted ones, in the order of the other branch, and
-/// is lawful.
+/// A pulled branch has its own patches and then the wanted ones, in the order of the other branch, and is
+/// lawful.
 #[tactic(auto, using(crate::proofs::KeepLawful::pulls_keep_lawful))]
 pub fn pulls_keep_lawful()
     ensures law { PullsKeepLawful }
 {}
 
-/// What an obliteration leaves has the other patches, in their order, and is lawful.
+/// An obliteration keeps the other patches in their order, and the branch is lawful.
 #[tactic(auto, using(crate::proofs::KeepLawful::obliterates_keep_lawful))]
 pub fn obliterates_keep_lawful()
     ensures law { ObliteratesKeepLawful }
 {}
 
-/// A new branch is lawful, and a record under a new name keeps it so.
+/// A new branch is lawful, and recording a patch under a new name keeps it so.
 #[tactic(auto, using(crate::proofs::KeepLawful::records_keep_lawful))]
 pub fn records_keep_lawful()
     ensures law { RecordsKeepLawful }

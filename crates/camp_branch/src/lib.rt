@@ -1,5 +1,5 @@
-//! Branches as lists of catches: the patches that they have, the trees that they lead to, and what
-//! pulling patches from one into another, or taking patches out, leads to.
+//! Branches as lists of catches: their patches, their trees, and the results of pulling patches from one into another
+//! and of taking patches out.
 #![tactic(auto)]
 
 mod branches;

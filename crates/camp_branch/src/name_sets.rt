@@ -1,3 +1,4 @@
+//! Sets of names of patches.
 ghost use Rattle.std.specs.Prelude.{◌≡◌, ◌&&◌, ◌||◌, ℕ, List, not, map, IfOk};
 ghost use Rattle.camp_branch.specs.Branches.{is_among, name_of};
 ghost use Rattle.camp_branch.specs.Fields.{has_name, names_in};
@@ -11,7 +12,7 @@ use std::alloc::{AllocError, Global};
 /// Names of patches, each once.
 pub type NameSet = SharedMap<Name, ()>;
 
-/// The names, each once.
+/// Makes the set of names.
 pub fn set_of(alloc: Global, names: &[Name]) -> Result<NameSet, AllocError>
     ensures exact { IfOk result (λ set. (name : List ℕ) → is_among (names_in set) name ≡ is_among names.now name) }
 {
@@ -22,7 +23,7 @@ pub fn set_of(alloc: Global, names: &[Name]) -> Result<NameSet, AllocError>
     Ok(set.into_map()?)
 }
 
-/// The names but for those that are to go.
+/// Removes names from a set.
 pub(crate) fn without(names: &NameSet, gone: &NameSet) -> Result<NameSet, AllocError>
     ensures { IfOk result (λ left. (name : List ℕ) →
         has_name left name ≡ (has_name names.now name && not (is_among (names_in gone.now) name))) }
@@ -34,8 +35,8 @@ pub(crate) fn without(names: &NameSet, gone: &NameSet) -> Result<NameSet, AllocE
     Ok(left)
 }
 
-/// The names of patches that catches of two lists are of, where both branches have the patch: the
-/// names of the one branch stand in a set, and those of the other in another.
+/// Returns the names of the patches of two lists of catches that both branches have; each branch's names are
+/// given as a set.
 pub(crate) fn common(
     list: &[Shared<Catch>],
     names: &NameSet,
@@ -59,7 +60,7 @@ pub(crate) fn common(
     Ok(set_of(alloc, &both)?)
 }
 
-/// The names, and those of the patches that catches are of.
+/// Adds the names of the patches of catches to a set.
 pub(crate) fn with_taken(names: &NameSet, taken: &[Shared<Catch>]) -> Result<NameSet, AllocError>
     ensures { IfOk result (λ all. (name : List ℕ) →
         has_name all name ≡ (has_name names.now name || is_among (map name_of taken.now) name)) }
@@ -71,11 +72,11 @@ pub(crate) fn with_taken(names: &NameSet, taken: &[Shared<Catch>]) -> Result<Nam
     Ok(all)
 }
 
-/// How many catches stand before the first that is of none of the patches.
+/// Returns the length of the longest prefix of catches whose patches are all among the names.
 pub(crate) fn front(catches: &SharedList<Shared<Catch>>, names: &NameSet) -> usize
     ensures { result ≡ front_of (names_in names.now) catches.now }
 {
-    // The proof is told that a length is a number of the machine.
+    // Tells the prover that a length is a number of the machine.
     prove!(catches.len() <= usize::MAX);
     catches
         .iter()

@@ -1,3 +1,4 @@
+//! Pulling patches from one branch into another.
 ghost use Rattle.std.specs.Prelude.{◌≡◌, ◌++◌, [], List, IfOk, MatchOption, Ok as ok, Err as err};
 ghost use Rattle.std.specs.Result.{MatchResult};
 ghost use Rattle.camp_catch.specs.Arranging.{Align, Arrange};
@@ -16,7 +17,7 @@ use camp_prim::Key;
 use camp_share::Shared;
 use std::alloc::{AllocError, Global};
 
-/// What the wanted catches of `from` become behind those of `to`, or why they can't be pulled.
+/// Pulls the wanted catches of `from`: what they become after those of `to`, or why they cannot be pulled.
 pub(crate) fn pull(
     alloc: Global,
     from: &[Shared<Catch>],
@@ -38,7 +39,7 @@ pub(crate) fn pull(
     merged_last(alloc, &chosen.first, &ours.rest)
 }
 
-/// The same by no common name: nothing has to come to the front but what is wanted.
+/// The same if the branches have no common patch: only the wanted patches have to be moved to the front.
 fn pull_of_none_common(
     alloc: Global,
     from: &[Shared<Catch>],
@@ -53,7 +54,7 @@ fn pull_of_none_common(
     merged_last(alloc, &chosen.first, to)
 }
 
-/// The common patches, and behind them the others.
+/// Moves the common patches to the front of a branch: these and the others.
 fn common_first(
     alloc: Global,
     list: &[Shared<Catch>],
@@ -70,7 +71,7 @@ fn common_first(
     }
 }
 
-/// The wanted patches, and behind them the others.
+/// Moves the wanted patches to the front: these and the others.
 pub(crate) fn wanted_next(
     alloc: Global,
     list: &[Shared<Catch>],
@@ -90,8 +91,8 @@ pub(crate) fn wanted_next(
     }
 }
 
-/// Looks whether the common patches of one branch are those of the other in the other's order. Where both lists are
-/// the same, they are: a list is in its own order.
+/// Checks that the common patches of one branch, in the order of those of the other, are the same. If both
+/// lists are the same, nothing is reordered.
 pub(crate) fn same_front(
     alloc: Global,
     from_common: &[Shared<Catch>],
@@ -121,7 +122,7 @@ fn keys(alloc: Global, list: &[Shared<Catch>]) -> Result<Vec<Key>, AllocError>
     list.iter().map(|catch| catch.key()).collect(alloc)
 }
 
-/// The name of the patch at which two lists differ first.
+/// Returns the name of the patch at which two lists first differ.
 fn first_difference(list: &[Shared<Catch>], others: &[Shared<Catch>]) -> Option<Name>
     ensures { MatchOption result (list.now ≡ others.now) (DiffersAt list.now others.now) }
 {
@@ -139,7 +140,7 @@ fn first_difference(list: &[Shared<Catch>], others: &[Shared<Catch>]) -> Option<
     None
 }
 
-/// The wanted catches behind those that only the other branch has.
+/// Merges the wanted catches with those that only the other branch has.
 fn merged_last(
     alloc: Global,
     wanted: &[Shared<Catch>],

@@ -1,2 +1,2 @@
--- Words that serve only the model of changes.
+-- Definitions that only the model of changes uses.
 pub mod ChangesFields

@@ -1,3 +1,4 @@
+//! The calls.
 ghost use Rattle.std.specs.Prelude.{◌≡◌, ◌↔◌, IfOk, IsTrue};
 ghost use Rattle.camp_call.specs.Calls.{is_writing};
 
@@ -8,7 +9,7 @@ use std::alloc::AllocError;
 /// What a caller asks of a repository.
 #[derive(Debug, Drop)]
 pub enum Call {
-    /// Makes a branch that is a copy of another.
+    /// Creates a branch as a copy of another.
     Branch {
         new: Name,
         from: Name,
@@ -19,7 +20,7 @@ pub enum Call {
         name: Name,
         changes: Changes,
     },
-    /// Brings patches of one branch into another: those of these names, or all that it lacks.
+    /// Pulls patches of one branch into another: those of these names, or all that it lacks.
     Pull {
         from: Name,
         to: Name,
@@ -30,11 +31,11 @@ pub enum Call {
         branch: Name,
         names: Names,
     },
-    /// Asks for the tree of a branch.
+    /// Returns the tree of a branch.
     Tree(Name),
-    /// Asks which patches of a branch are in conflict.
+    /// Returns which patches of a branch are in conflict.
     Conflicts(Name),
-    /// Asks for the names of the patches of a branch.
+    /// Returns the names of the patches of a branch.
     Names(Name),
 }
 
@@ -71,7 +72,7 @@ impl Call {
         }
     }
 
-    /// Whether the two ask the same. It takes no memory.
+    /// True if the two calls are equal; does not allocate.
     pub fn is_same(&self, other: &Call) -> bool
         ensures exact { IsTrue result ↔ (self.now ≡ other.now) }
     {
@@ -117,7 +118,7 @@ impl Call {
         }
     }
 
-    /// Whether the call may change the repository. Any but a question may.
+    /// True if the call may change the repository: any call but a query.
     pub fn is_writing(&self) -> bool
         ensures exact { result ≡ is_writing self.now }
     {

@@ -1,3 +1,4 @@
+//! The changes of a patch.
 ghost use Rattle.std.specs.Prelude.{◌≡◌, ◌↔◌, IfOk, IsTrue, MatchOption};
 ghost use Rattle.camp_call.specs.Patches.{IsPatchSized};
 
@@ -7,13 +8,13 @@ use std::alloc::AllocError;
 use std::marker::Model;
 use std::slice;
 
-/// The changes of a patch in the order in which they are made: 1 to 64 of them.
+/// The changes of a patch in the order in which they are applied: 1 to 64 of them.
 #[derive(Debug, Drop)]
 pub struct Changes {
     prims: Held,
 }
 
-// Most patches have one change. A copy of it takes no memory.
+// Most patches have one change; a copy of it does not allocate.
 #[derive(Debug, Drop)]
 enum Held {
     One(Primitive),
@@ -34,7 +35,7 @@ impl Model for Changes {
 }
 
 impl Changes {
-    /// The changes of a patch, or `None` for no change and for more than 64. It takes no memory.
+    /// Wraps the changes of a patch; `None` for no change and for more than 64. Does not allocate.
     pub fn new(mut prims: Vec<Primitive>) -> Option<Changes>
         ensures exact { MatchOption result
             (¬ (IsPatchSized prims.items))
@@ -64,8 +65,8 @@ impl Changes {
         }
     }
 
-    /// A copy, which shares the paths and the lines of the changes. One change takes no memory, and more
-    /// take it for their list alone.
+    /// Copies the changes, which share their paths and lines with the copy. One change does not allocate;
+    /// more allocate their list alone.
     pub fn try_clone(&self) -> Result<Changes, AllocError>
         ensures exact { IfOk result (λ copy. copy ≡ self.now) }
     {
@@ -76,7 +77,7 @@ impl Changes {
         Ok(Changes { prims })
     }
 
-    /// Whether the two are the same changes in the same order. It takes no memory.
+    /// True if the two are the same changes in the same order; does not allocate.
     pub fn is_same(&self, other: &Changes) -> bool
         ensures exact { IsTrue result ↔ (self.now ≡ other.now) }
     {

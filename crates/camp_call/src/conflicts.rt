@@ -1,3 +1,4 @@
+//! The reply that lists conflicts.
 ghost use Rattle.std.specs.Prelude.{◌≡◌};
 
 use camp_base::Name;
@@ -18,7 +19,7 @@ impl Model for Conflicts {
 }
 
 impl Conflicts {
-    /// These pairs. It takes no memory.
+    /// Wraps the pairs; does not allocate.
     pub fn new(pairs: Vec<(Name, Name)>) -> Conflicts
         ensures exact { result ≡ pairs.items }
     {

@@ -1,4 +1,4 @@
-//! What is asked of a repository of branches, and what it answers.
+//! The calls of a repository of branches, and its replies.
 #![tactic(auto)]
 
 mod calls;
@@ -13,5 +13,5 @@ pub use conflicts::Conflicts;
 pub use names::Names;
 pub use replies::{Refusal, Reply};
 
-/// The most changes of a patch.
+/// Changes of the longest patch.
 pub const MAX_CHANGES: usize = 64;

@@ -1,10 +1,11 @@
+//! Lists of names.
 ghost use Rattle.std.specs.Prelude.{◌≡◌, ◌↔◌, IfOk, IsTrue};
 
 use camp_base::Name;
 use std::alloc::AllocError;
 use std::marker::Model;
 
-/// Names in an order of their own; a name may be there twice.
+/// Names in a given order; a name may occur twice.
 #[derive(Debug, Drop)]
 pub struct Names {
     names: Vec<Name>,
@@ -19,7 +20,7 @@ impl Model for Names {
 }
 
 impl Names {
-    /// These names. It takes no memory.
+    /// Wraps the names; does not allocate.
     pub fn new(names: Vec<Name>) -> Names
         ensures exact { result ≡ names.items }
     {
@@ -39,7 +40,7 @@ impl Names {
         Ok(Names { names })
     }
 
-    /// Whether the two are the same names in the same order. It takes no memory.
+    /// True if the two are the same names in the same order; does not allocate.
     pub fn is_same(&self, other: &Names) -> bool
         ensures exact { IsTrue result ↔ (self.now ≡ other.now) }
     {

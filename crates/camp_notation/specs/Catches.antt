@@ -15,6 +15,6 @@ catch_text known (Catch.Conflictor k) =
     codes "(" ++ list_text known k.effect ++ codes ", " ++ set_text known k.conflicts ++ codes ", "
     ++ contexted_text known k.identity ++ codes ")"
 
--- the catches in a row, between brackets
+-- the catches as a row in brackets
 abbrev pub catches_text : List Named → List Catch → List ℕ
 catches_text known list = codes "[" ++ row (catch_text known) list ++ codes "]"

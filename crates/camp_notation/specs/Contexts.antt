@@ -7,7 +7,7 @@ use Rattle.camp_notation.specs.Words.{row}
 use Rattle.camp_notation.specs.Patches.{named_text}
 use Rattle.camp_notation.specs.Lists.{list_text}
 
--- a context: nothing where it is empty, a primitive that is alone in it, and any other as a list
+-- a context: nothing if it is empty, a single primitive, and any other as a list
 abbrev pub context_text : List Named → List Named → List ℕ
 context_text known [] = []
 context_text known (p ∷ []) = named_text known p
@@ -17,6 +17,6 @@ context_text known (p ∷ q ∷ s) = list_text known (p ∷ q ∷ s)
 abbrev pub contexted_text : List Named → ContextedPatch → List ℕ
 contexted_text known x = context_text known x.context ++ codes ":" ++ named_text known x.patch
 
--- the members in the order of their labels, in a row, between braces
+-- the members in the order of their labels, as a row in braces
 abbrev pub set_text : List Named → ContextedPatches → List ℕ
 set_text known xs = codes "{" ++ row (contexted_text known) (values xs) ++ codes "}"

@@ -12,7 +12,7 @@ use Rattle.camp_prim.specs.declared.primitives.Primitive.TheVariants.{Add, Remov
 use Rattle.camp_prim.specs.declared.named.Named.{Named}
 use Rattle.camp_notation.specs.Words.{word_text, lines_text}
 
--- `.PLACE`, and nothing for the first place
+-- `.PLACE`, and nothing for position 1
 abbrev pub place_text : ℕ → List ℕ
 place_text place = if place == 1 then [] else codes "." ++ decimal place
 
@@ -40,7 +40,7 @@ change_text (Hunk hunk) = hunk_text hunk
 abbrev pub whole_text : Named → List ℕ
 whole_text p = label_text (label_of p) ++ codes " " ++ change_text p.prim
 
--- the primitive that a label alone stands for: the first of those that are known with that label
+-- the primitive that a label alone stands for: the first of the known ones with that label
 abbrev pub first_with : Label → List Named → Option Named
 first_with label known = find (λ k. is_eq (label_cmp (label_of k) label)) known
 
@@ -49,10 +49,10 @@ abbrev pub has_text : List ℕ → Option Named → Bool
 has_text text None = false
 has_text text (Some k) = pointwise ◌==◌ (whole_text k) text
 
--- a primitive is known where its label alone stands for it
+-- a primitive is known: its label alone stands for it
 abbrev pub is_known : List Named → Named → Bool
 is_known known p = has_text (whole_text p) (first_with (label_of p) known)
 
--- a primitive that is known by its label alone, and any other as a whole
+-- a known primitive by its label alone, and any other as a whole
 abbrev pub named_text : List Named → Named → List ℕ
 named_text known p = if is_known known p then label_text (label_of p) else whole_text p

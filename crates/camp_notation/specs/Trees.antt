@@ -8,6 +8,6 @@ use Rattle.camp_notation.specs.Words.{word_text, row, lines_text}
 abbrev pub file_text : List ℕ × Lines → List ℕ
 file_text file = word_text file.0 ++ codes ": " ++ lines_text file.1
 
--- the files in the order of the bytes of their paths, in a row, between braces
+-- the files in the order of the bytes of their paths, as a row in braces
 abbrev pub tree_text : Files → List ℕ
 tree_text tree = codes "{" ++ row file_text (entries tree) ++ codes "}"

@@ -5,11 +5,12 @@ use Rattle.std.specs.List.{list_all, flat_map}
 use Rattle.camp_base.specs.Signs.{quote, hyphen, digit_zero, digit_nine, backslash, underscore, small_a}
 use Rattle.camp_base.specs.Signs.{is_between, is_capital_letter, is_printing, is_small_letter}
 
--- whether a byte stands in a word as it is: a letter, a digit, or one of `-`, `.`, `/` (which stand before the digits) and `_`
+-- a byte that needs no quotes: a letter, a digit, or one of `-`, `.`, `/` (the characters before the digits)
+-- and `_`
 abbrev pub is_plain_byte : ℕ → Bool
 is_plain_byte byte = is_between hyphen digit_nine byte || (is_capital_letter byte || (is_small_letter byte || byte == underscore))
 
--- whether bytes are a word without quotes: one such byte or more, and no other
+-- bytes are a word without quotes: at least one, all of them such bytes
 abbrev pub is_plain : List ℕ → Bool
 is_plain bytes = not (length bytes == 0) && list_all is_plain_byte bytes
 
@@ -17,7 +18,7 @@ is_plain bytes = not (length bytes == 0) && list_all is_plain_byte bytes
 abbrev pub hex_digit : ℕ → ℕ
 hex_digit n = if nat_lt n 10 then digit_zero + n else small_a + (n - 10)
 
--- a byte between quotes: `"` and `\` behind a `\`; a byte that does not print as `\x` and two digits
+-- a byte in quotes: `"` and `\` escaped by a `\`; a byte that is not printable as `\x` and two digits
 abbrev pub quoted_byte : ℕ → List ℕ
 quoted_byte byte =
     if byte == quote || byte == backslash then backslash ∷ byte ∷ []
@@ -28,16 +29,16 @@ quoted_byte byte =
 abbrev pub word_text : List ℕ → List ℕ
 word_text bytes = if is_plain bytes then bytes else codes "\"" ++ flat_map quoted_byte bytes ++ codes "\""
 
--- what stands before an item of a row: nothing before the first, a comma and a blank before each other one
+-- the separator before an item of a row: nothing before the first, a comma and a space before any other
 abbrev pub separator : ℕ → List ℕ
 separator zero = []
 separator (suc at) = codes ", "
 
--- items in a row, a comma and a blank between each two
+-- the items of a row, separated by a comma and a space
 abbrev pub row : {X : Type 0} → (X → List ℕ) → List X → List ℕ
 row text [] = []
 row text (x ∷ xs) = text x ++ flat_map (λ y. codes ", " ++ text y) xs
 
--- lines in a row, between brackets
+-- lines as a row in brackets
 abbrev pub lines_text : List (List ℕ) → List ℕ
 lines_text lines = codes "[" ++ row word_text lines ++ codes "]"

@@ -1,3 +1,4 @@
+//! Reading catches.
 ghost use Rattle.std.specs.Prelude.{◌≡◌, IfOk};
 ghost use Rattle.camp_notation.specs.Catches.{catch_text, catches_text};
 
@@ -12,7 +13,7 @@ use camp_prim::Named;
 use camp_share::Shared;
 use std::alloc::Global;
 
-/// The catch of a text.
+/// Parses a catch.
 pub fn read_catch(alloc: Global, known: &[Named], text: &[u8]) -> Result<Catch, NotationError>
     ensures text { IfOk result (λ j. text.now ≡ catch_text known.now j) }
 {
@@ -22,7 +23,7 @@ pub fn read_catch(alloc: Global, known: &[Named], text: &[u8]) -> Result<Catch, 
     Ok(j)
 }
 
-/// The list of catches of a text.
+/// Parses a list of catches.
 pub fn read_catches(
     alloc: Global,
     known: &[Named],
@@ -67,7 +68,7 @@ fn read_plain(cursor: &mut Cursor) -> Result<Catch, NotationError> {
     Ok(Catch::Plain(a))
 }
 
-// What stands behind the round bracket of a conflictor.
+// Parses a conflictor after its opening parenthesis.
 fn read_conflictor(cursor: &mut Cursor) -> Result<Catch, NotationError> {
     let effect = read_items(cursor)?;
     let conflicts = read_conflicts(cursor)?;

@@ -1,3 +1,4 @@
+//! Rendering catches.
 ghost use Rattle.std.specs.Prelude.{◌≡◌, ◌++◌, IfOk, OnOk, string_bytes};
 ghost use Rattle.camp_notation.specs.Catches.{catch_text, catches_text};
 
@@ -10,8 +11,8 @@ use camp_prim::Named;
 use camp_share::Shared;
 use std::alloc::{AllocError, Global};
 
-/// A catch: a plain one as `[p]`, a conflictor as `([p^], {:p}, :q)`, its effect, what it conflicts
-/// with, and its identity. Primitives that are known are written by their labels alone.
+/// Renders a catch: a plain one as `[p]`, a conflictor as `([p^], {:p}, :q)`, with its effect, its conflicts
+/// and its identity. Known primitives are rendered by their labels alone.
 pub fn catch_text(alloc: Global, known: &[Named], j: &Catch) -> Result<String, AllocError>
     ensures exact { IfOk result (λ text. string_bytes text ≡ catch_text known.now j.now) }
 {
@@ -20,7 +21,7 @@ pub fn catch_text(alloc: Global, known: &[Named], j: &Catch) -> Result<String, A
     Ok(text)
 }
 
-/// A list of catches, as `[[p], ([p^], {:p}, :q)]`.
+/// Renders a list of catches, as `[[p], ([p^], {:p}, :q)]`.
 pub fn catches_text(
     alloc: Global,
     known: &[Named],

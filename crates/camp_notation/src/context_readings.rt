@@ -1,3 +1,4 @@
+//! Reading contexted patches and sets.
 ghost use Rattle.std.specs.Prelude.{◌≡◌, IfOk};
 ghost use Rattle.camp_notation.specs.Contexts.{contexted_text, set_text};
 
@@ -10,7 +11,7 @@ use camp_prim::Named;
 use camp_seq::Seq;
 use std::alloc::Global;
 
-/// The contexted patch of a text.
+/// Parses a contexted patch.
 pub fn read_contexted(
     alloc: Global,
     known: &[Named],
@@ -24,8 +25,7 @@ pub fn read_contexted(
     Ok(x)
 }
 
-/// The set of a text. Members in another order than that of their labels, and a label that stands
-/// there twice, are refused as written otherwise.
+/// Parses a set. Members that are not in the order of their labels, or a label twice, are `WrittenOtherwise`.
 pub fn read_set(alloc: Global, known: &[Named], text: &[u8]) -> Result<CtxSet, NotationError>
     ensures text { IfOk result (λ xs. text.now ≡ set_text known.now xs) }
 {
@@ -58,7 +58,7 @@ fn read_patch(cursor: &mut Cursor) -> Result<Named, NotationError> {
     read_item(cursor)
 }
 
-// Nothing before a colon, a list between brackets, or one primitive.
+// Parses a context: nothing before a colon, a list in brackets, or one primitive.
 fn read_context(cursor: &mut Cursor) -> Result<Seq, NotationError> {
     if cursor.stands_at(b"[") {
         return read_items(cursor);

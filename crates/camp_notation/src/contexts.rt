@@ -1,3 +1,4 @@
+//! Rendering contexted patches and sets.
 ghost use Rattle.std.specs.Prelude.{◌≡◌, ◌++◌, IfOk, OnOk, string_bytes};
 ghost use Rattle.std.specs.FinMap.{values};
 ghost use Rattle.camp_notation.specs.Contexts.{context_text, contexted_text, set_text};
@@ -10,8 +11,8 @@ use camp_ctx::{Contexted, CtxSet};
 use camp_prim::Named;
 use std::alloc::{AllocError, Global};
 
-/// A contexted patch, as `:p`, `p:q` and `[a, b]:q`. Primitives that are known are written by their
-/// labels alone.
+/// Renders a contexted patch, as `:p`, `p:q` and `[a, b]:q`. Known primitives are rendered by their labels
+/// alone.
 pub fn contexted_text(alloc: Global, known: &[Named], x: &Contexted) -> Result<String, AllocError>
     ensures exact { IfOk result (λ text. string_bytes text ≡ contexted_text known.now x.now) }
 {
@@ -20,7 +21,7 @@ pub fn contexted_text(alloc: Global, known: &[Named], x: &Contexted) -> Result<S
     Ok(text)
 }
 
-/// A set of contexted patches in the order of their labels, as `{:p, p:q}`.
+/// Renders a set of contexted patches in the order of their labels, as `{:p, p:q}`.
 pub fn set_text(alloc: Global, known: &[Named], xs: &CtxSet) -> Result<String, AllocError>
     ensures exact { IfOk result (λ text. string_bytes text ≡ set_text known.now xs.now) }
 {

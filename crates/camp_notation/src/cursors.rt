@@ -1,3 +1,4 @@
+//! The cursor of the parser.
 ghost use Rattle.std.specs.Prelude.{◌≡◌, ◌≤◌, ◌<◌, ℕ, List, length, IfOk, OnOk, string_bytes};
 
 use crate::NotationError;
@@ -6,7 +7,7 @@ use camp_prim::Named;
 use std::alloc::{AllocError, Global};
 use std::str;
 
-/// A text that is read from left to right, in which a label may stand for a known primitive.
+/// A text that is parsed from left to right, in which a label may stand for a known primitive.
 #[derive(Drop)]
 pub(crate) struct Cursor<'a> {
     pub(crate) alloc: Global,
@@ -14,7 +15,7 @@ pub(crate) struct Cursor<'a> {
     rest: &'a [u8],
 }
 
-/// The bytes that stand together in a word without quotes, in a name, or in a number.
+/// A class of bytes: of a word without quotes, of a name, or of a number.
 #[derive(Clone, Copy)]
 enum Run {
     Plain,
@@ -31,17 +32,17 @@ impl<'a> Cursor<'a> {
         }
     }
 
-    /// How many bytes are left: a row has no more items.
+    /// Returns the number of bytes left; a row has at most that many further items.
     pub(crate) fn len(&self) -> usize {
         self.rest.len()
     }
 
-    /// Whether some bytes stand next.
+    /// True if these bytes come next.
     pub(crate) fn stands_at(&self, bytes: &[u8]) -> bool {
         self.rest.starts_with(bytes)
     }
 
-    /// Goes past some bytes, where they stand next.
+    /// Skips these bytes if they come next; else returns false.
     pub(crate) fn take(&mut self, bytes: &[u8]) -> bool {
         match self.rest.strip_prefix(bytes) {
             Some(rest) => {
@@ -52,7 +53,7 @@ impl<'a> Cursor<'a> {
         }
     }
 
-    /// Goes past a sign that has to stand next.
+    /// Skips a sign; it is `Expected(mark)` if it does not come next.
     pub(crate) fn expect(&mut self, sign: &[u8], mark: char) -> Result<(), NotationError> {
         if self.take(sign) {
             Ok(())
@@ -61,7 +62,7 @@ impl<'a> Cursor<'a> {
         }
     }
 
-    /// Nothing is left.
+    /// Fails unless the text has ended.
     pub(crate) fn expect_end(&self) -> Result<(), NotationError> {
         if self.rest.is_empty() {
             Ok(())
@@ -70,8 +71,8 @@ impl<'a> Cursor<'a> {
         }
     }
 
-    /// `Ok` only where what was written is the text, byte for byte. That nothing is left is tested
-    /// first, so that a rest has its own error.
+    /// Fails unless rendering what was parsed gives the text, byte for byte. That the text has ended is
+    /// checked first, so that trailing bytes have their own error.
     pub(crate) fn expect_written(
         &self,
         text: &[u8],
@@ -86,7 +87,7 @@ impl<'a> Cursor<'a> {
         Ok(())
     }
 
-    /// The bytes of a word, with quotes or without.
+    /// Parses a word, quoted or not.
     pub(crate) fn word(&mut self) -> Result<Vec<u8>, NotationError> {
         if self.take(b"\"") {
             return self.quoted();
@@ -98,12 +99,12 @@ impl<'a> Cursor<'a> {
         Ok(Vec::from_slice(self.alloc, bytes)?)
     }
 
-    /// The bytes that may be of a name.
+    /// Parses the bytes of a name.
     pub(crate) fn name(&mut self) -> &'a [u8] {
         self.run(Run::Name)
     }
 
-    /// A number.
+    /// Parses a number.
     pub(crate) fn number(&mut self) -> Result<u32, NotationError> {
         let digits = self.run(Run::Digits);
         let Ok(text) = str::from_utf8(digits) else {
@@ -118,7 +119,7 @@ impl<'a> Cursor<'a> {
         taken
     }
 
-    // What stands between quotes, behind the first of them.
+    // Parses what is between quotes, after the opening one.
     fn quoted(&mut self) -> Result<Vec<u8>, NotationError> {
         let mut bytes = Vec::new(self.alloc);
         for _ in 0..self.len() {
@@ -131,7 +132,7 @@ impl<'a> Cursor<'a> {
         Err(NotationError::Expected('"'))
     }
 
-    // The byte that stands behind a `\`.
+    // Parses the byte after a `\`.
     fn escaped(&mut self) -> Result<u8, NotationError> {
         match self.next()? {
             b'x' => {
@@ -162,7 +163,7 @@ impl<'a> Cursor<'a> {
     }
 }
 
-// How many bytes of a run stand in front.
+// Returns the length of the longest prefix of bytes of a class.
 fn run_len(bytes: &[u8], run: Run) -> usize
     ensures { result ≤ length bytes.now }
 {

@@ -1,11 +1,12 @@
+//! The errors of parsing.
 use camp_base::{Apply, BaseFault};
 use std::alloc::{AllocError, AllocFailed};
 use thiserror::Error;
 
-/// Why a text is not read.
+/// Why a text cannot be parsed.
 #[derive(Clone, Copy, PartialEq, Eq, Debug, Error)]
 pub enum NotationError {
-    /// A sign that has to stand where the reading came to does not.
+    /// This sign was expected next.
     #[error("expected '{0}'")]
     Expected(char),
     #[error("expected a word")]
@@ -24,17 +25,17 @@ pub enum NotationError {
     BadPath,
     #[error("bad line")]
     BadLine,
-    /// No such hunk: its line is 0, both its sides are empty, or they reach beyond 2^30.
+    /// Not a hunk: its line is 0, both its sides are empty, or they reach beyond 2^30.
     #[error("no hunk")]
     NoHunk,
     /// A label stands alone, and no primitive of that label is known.
     #[error("unknown label")]
     UnknownLabel,
-    /// A path stands in a tree twice.
+    /// A path occurs twice in a tree.
     #[error("a file twice")]
     FileTwice,
-    /// What was read is written in another way: with other quotes, in another order of files, with
-    /// leading zeros, or by its label alone.
+    /// The value is rendered differently: with other quotes, in another order of files, without leading
+    /// zeros, or by its label alone.
     #[error("written otherwise")]
     WrittenOtherwise,
     #[error("out of memory")]

@@ -1,5 +1,5 @@
-//! A notation for patches: the text of a labelled primitive, of a list, of a tree, of a contexted
-//! patch, of a set and of a catch, written and read back.
+//! A notation for patches: the text of a labelled primitive, of a list, of a tree, of a contexted patch, of a set and of
+//! a catch, rendered and parsed.
 #![tactic(auto)]
 
 mod catch_readings;

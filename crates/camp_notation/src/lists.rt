@@ -1,3 +1,4 @@
+//! Rendering lists of primitives.
 ghost use Rattle.std.specs.Prelude.{◌≡◌, ◌++◌, IfOk, OnOk, string_bytes};
 ghost use Rattle.camp_notation.specs.Lists.{list_text};
 
@@ -7,8 +8,8 @@ use camp_prim::Named;
 use camp_seq::Seq;
 use std::alloc::{AllocError, Global};
 
-/// A list of labelled primitives, as `[a add f, p f 1 [] -> [x]]`. Those that are known are written
-/// by their labels alone, as `[a, p^]`.
+/// Renders a list of labelled primitives, as `[a add f, p f 1 [] -> [x]]`. Known ones are rendered by their
+/// labels alone, as `[a, p^]`.
 pub fn list_text(alloc: Global, known: &[Named], s: &Seq) -> Result<String, AllocError>
     ensures exact { IfOk result (λ text. string_bytes text ≡ list_text known.now s.now) }
 {

@@ -1,3 +1,4 @@
+//! Rendering labels and primitives.
 ghost use Rattle.std.specs.Prelude.{◌≡◌, ◌++◌, option_copied, IfOk, OnOk, string_bytes};
 ghost use Rattle.camp_notation.specs.Patches.{change_text, first_with, has_text, hunk_text, label_text, named_text, place_text, sign_text, whole_text};
 
@@ -7,8 +8,8 @@ use itoa::Buffer;
 use std::alloc::{AllocError, Global};
 use std::fmt::Write;
 
-/// A label: `NAME.PLACE^`, without the place where it is 1, and without the caret
-/// where it is no inverse.
+/// Renders a label as `NAME.PLACE^`, without the position if it is 1, and without the caret unless it is an
+/// inverse.
 pub fn label_text(alloc: Global, label: Label) -> Result<String, AllocError>
     ensures exact { IfOk result (λ text. string_bytes text ≡ label_text label) }
 {
@@ -17,9 +18,8 @@ pub fn label_text(alloc: Global, label: Label) -> Result<String, AllocError>
     Ok(text)
 }
 
-/// A labelled primitive: its label and what it changes, as `a add f`, `a remove f` and
-/// `p.2^ f 5 [e] -> [g]`. One that is known is written by its label alone, if it is the first of them
-/// with that label.
+/// Renders a labelled primitive: its label and its change, as `a add f`, `a remove f` and `p.2^ f 5 [e] ->
+/// [g]`. A known one is rendered by its label alone, if it is the first of them with that label.
 pub fn named_text(alloc: Global, known: &[Named], p: &Named) -> Result<String, AllocError>
     ensures exact { IfOk result (λ text. string_bytes text ≡ named_text known.now p.now) }
 {
@@ -39,7 +39,7 @@ pub(crate) fn append_named(text: &mut String, known: &[Named], p: &Named) -> Res
     }
 }
 
-/// Whether the primitive that a label alone stands for has this text.
+/// True if the primitive that a label alone stands for has this text.
 fn is_known(known: &[Named], label: Label, whole: &String) -> Result<bool, AllocError>
     ensures { IfOk result (λ found. found ≡ has_text (string_bytes whole.now) (first_with label known.now)) }
 {
@@ -49,7 +49,7 @@ fn is_known(known: &[Named], label: Label, whole: &String) -> Result<bool, Alloc
     }
 }
 
-/// The first of the known primitives with a label.
+/// Returns the first of the known primitives with a label, or `None`.
 pub(crate) fn first_with(known: &[Named], label: Label) -> Option<&Named>
     ensures { option_copied result ≡ first_with label known.now }
 {

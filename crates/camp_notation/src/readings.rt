@@ -1,3 +1,4 @@
+//! Reading words, primitives, lists and trees.
 ghost use Rattle.std.specs.Prelude.{◌≡◌, IfOk};
 ghost use Rattle.camp_notation.specs.Lists.{list_text};
 ghost use Rattle.camp_notation.specs.Patches.{label_text, named_text};
@@ -13,8 +14,7 @@ use camp_prim::{Body, Label, Named, Primitive};
 use camp_seq::Seq;
 use std::alloc::Global;
 
-/// The labelled primitive of a text. A label alone stands for the first of the known primitives with
-/// that label.
+/// Parses a labelled primitive. A label alone stands for the first of the known primitives with that label.
 pub fn read_named(alloc: Global, known: &[Named], text: &[u8]) -> Result<Named, NotationError>
     ensures text { IfOk result (λ p. text.now ≡ named_text known.now p) }
 {
@@ -24,7 +24,7 @@ pub fn read_named(alloc: Global, known: &[Named], text: &[u8]) -> Result<Named, 
     Ok(p)
 }
 
-/// The list of a text.
+/// Parses a list.
 pub fn read_list(alloc: Global, known: &[Named], text: &[u8]) -> Result<Seq, NotationError>
     ensures text { IfOk result (λ s. text.now ≡ list_text known.now s) }
 {
@@ -34,7 +34,7 @@ pub fn read_list(alloc: Global, known: &[Named], text: &[u8]) -> Result<Seq, Not
     Ok(s)
 }
 
-/// The tree of a text.
+/// Parses a tree.
 pub fn read_tree(alloc: Global, text: &[u8]) -> Result<Tree, NotationError>
     ensures text { IfOk result (λ tree. text.now ≡ tree_text tree) }
 {
@@ -44,7 +44,7 @@ pub fn read_tree(alloc: Global, text: &[u8]) -> Result<Tree, NotationError>
     Ok(tree)
 }
 
-/// The bytes of a word.
+/// Parses a word to its bytes.
 pub fn read_word(alloc: Global, text: &[u8]) -> Result<Vec<u8>, NotationError>
     ensures text { IfOk result (λ bytes. text.now ≡ word_text bytes.items) }
 {
@@ -54,7 +54,7 @@ pub fn read_word(alloc: Global, text: &[u8]) -> Result<Vec<u8>, NotationError>
     Ok(bytes)
 }
 
-/// The lines between brackets.
+/// Parses lines in brackets.
 pub fn read_lines(alloc: Global, text: &[u8]) -> Result<Vec<Line>, NotationError>
     ensures text { IfOk result (λ lines. text.now ≡ lines_text lines.items) }
 {
@@ -64,7 +64,7 @@ pub fn read_lines(alloc: Global, text: &[u8]) -> Result<Vec<Line>, NotationError
     Ok(lines)
 }
 
-/// The label of a text.
+/// Parses a label.
 pub fn read_label(alloc: Global, text: &[u8]) -> Result<Label, NotationError>
     ensures text { IfOk result (λ label. text.now ≡ label_text label) }
 {
@@ -145,8 +145,8 @@ fn read_place(cursor: &mut Cursor) -> Result<u8, NotationError> {
     place.ok().ok_or(NotationError::BadNumber)
 }
 
-// `add PATH`, `remove PATH`, or `PATH LINE [OLD, ..] -> [NEW, ..]`. What stands behind the second
-// word tells a hunk from the others, so a path may be called `add`.
+// Parses `add PATH`, `remove PATH`, or `PATH LINE [OLD, ..] -> [NEW, ..]`. What comes after the second word
+// decides, so that a path may be called `add`.
 fn read_change(cursor: &mut Cursor) -> Result<Primitive, NotationError> {
     let first = cursor.word()?;
     read_behind(&first, cursor)
@@ -178,7 +178,7 @@ fn read_hunk(path: &[u8], line: &[u8], cursor: &mut Cursor) -> Result<Primitive,
     Primitive::hunk(body, line).ok_or(NotationError::NoHunk)
 }
 
-// The line of a hunk, what stands there before it, and what behind it.
+// Parses the line of a hunk, which is `line`, and its two sides.
 fn read_sides(
     line: &[u8],
     cursor: &mut Cursor,

@@ -1,20 +1,21 @@
+//! Rows: items in brackets with commas between them.
 use crate::NotationError;
 use crate::cursors::Cursor;
 
-/// What is read item by item.
+/// A collection that is read item by item.
 pub(crate) trait Row {
     /// Reads one more item.
     fn read_next(&mut self, cursor: &mut Cursor) -> Result<(), NotationError>;
 }
 
-/// The signs that stand before the items of a row and behind them.
+/// The opening and the closing bracket of a row.
 pub(crate) type Brackets = [u8; 2];
 
 pub(crate) const SQUARE: Brackets = [b'[', b']'];
 
 pub(crate) const CURLY: Brackets = [b'{', b'}'];
 
-/// A row with the items that are read: between brackets, with a comma and a blank between two.
+/// Reads a row: items in brackets, separated by a comma and a space.
 pub(crate) fn read_row<R: Row + Drop>(
     row: R,
     brackets: Brackets,

@@ -1,3 +1,4 @@
+//! Rendering trees.
 ghost use Rattle.std.specs.Prelude.{◌≡◌, ◌++◌, IfOk, OnOk, string_bytes};
 ghost use Rattle.camp_notation.specs.Trees.{file_text, tree_text};
 
@@ -6,7 +7,7 @@ use camp_base::{Line, Path, Tree};
 use camp_share::SharedList;
 use std::alloc::{AllocError, Global};
 
-/// A tree, as `{d/e: [], f: [one, two]}`.
+/// Renders a tree, as `{d/e: [], f: [one, two]}`.
 pub fn tree_text(alloc: Global, tree: &Tree) -> Result<String, AllocError>
     ensures exact { IfOk result (λ text. string_bytes text ≡ tree_text tree.now) }
 {

@@ -1,3 +1,4 @@
+//! Rendering words and lines.
 ghost use Rattle.std.specs.Prelude.{◌≡◌, ◌∷◌, [], ◌++◌, ◌<◌, ◌/◌, ◌%◌, IsTrue, IfOk, OnOk, codes, string_bytes};
 ghost use Rattle.std.specs.List.{list_all, flat_map};
 ghost use Rattle.camp_notation.specs.Words.{hex_digit, is_plain, is_plain_byte, lines_text, quoted_byte, separator, word_text};
@@ -5,8 +6,8 @@ ghost use Rattle.camp_notation.specs.Words.{hex_digit, is_plain, is_plain_byte, 
 use camp_base::Line;
 use std::alloc::{AllocError, Global};
 
-/// Bytes as a word: as they are where they are letters, digits and `-`, `.`, `/`, `_`, and else
-/// between quotes, as `"two words"`.
+/// Renders bytes as a word: unquoted if they are letters, digits and `-`, `.`, `/`, `_`, else in quotes, as
+/// `"two words"`.
 pub fn word_text(alloc: Global, bytes: &[u8]) -> Result<String, AllocError>
     ensures exact { IfOk result (λ text. string_bytes text ≡ word_text bytes.now) }
 {
@@ -15,7 +16,7 @@ pub fn word_text(alloc: Global, bytes: &[u8]) -> Result<String, AllocError>
     Ok(text)
 }
 
-/// Lines as `[one, two]`.
+/// Renders lines as `[one, two]`.
 pub fn lines_text(alloc: Global, lines: &[Line]) -> Result<String, AllocError>
     ensures exact { IfOk result (λ text. string_bytes text ≡ lines_text lines.now) }
 {
@@ -35,7 +36,7 @@ pub(crate) fn append_word(text: &mut String, bytes: &[u8]) -> Result<(), AllocEr
     }
 }
 
-/// Appends lines in a row, between brackets.
+/// Appends lines as a row in brackets.
 pub(crate) fn append_lines(text: &mut String, lines: &[Line]) -> Result<(), AllocError>
     ensures { OnOk result (string_bytes text.new ≡ string_bytes text.old ++ lines_text lines.now) }
 {
@@ -47,7 +48,7 @@ pub(crate) fn append_lines(text: &mut String, lines: &[Line]) -> Result<(), Allo
     text.push(']')
 }
 
-/// Appends what stands before the item of a row at a place.
+/// Appends the separator before the item of a row at index `at`.
 pub(crate) fn append_separator(text: &mut String, at: usize) -> Result<(), AllocError>
     ensures { OnOk result (string_bytes text.new ≡ string_bytes text.old ++ separator at) }
 {

@@ -1,4 +1,4 @@
--- The conflicts of catches, as they come: in no order, and a pair more than once.
+-- The conflicts of catches as they are collected: in no order, and a pair possibly more than once.
 use Rattle.std.specs.Prelude.{ℕ, List, [], ◌∷◌, map}
 use Rattle.std.specs.List.{flat_map}
 use Rattle.std.specs.Ordering.{nat_cmp}
@@ -11,7 +11,7 @@ use Rattle.camp_catch.specs.declared.catches.Catch.{Catch}
 use Rattle.camp_catch.specs.declared.catches.Catch.TheVariants.{Plain}
 use Rattle.camp_branch.specs.Branches.{name_of}
 
--- two names, the lesser first, where one is
+-- two names as a pair, the lesser first; none if they are equal
 abbrev pub ordered_by : Ordering → List ℕ → List ℕ → List (List ℕ × List ℕ)
 ordered_by Less first second = (first, second) ∷ []
 ordered_by Equal first second = []

@@ -1,4 +1,4 @@
--- Why a stage of a pull, or of an obliteration, does not go through.
+-- Why a step of a pull, or of an obliteration, is blocked.
 use Rattle.std.specs.Prelude.{◌≡◌, ◌⊎◌, ℕ, List}
 use Rattle.camp_prim.specs.declared.labels.Key.{Key}
 use Rattle.camp_catch.specs.Arranging.{ArrangeSticks, Align, AlignSticks}
@@ -14,7 +14,7 @@ abbrev pub DependsIn : List (List ℕ) → List Catch → Blocked → Type 0
 DependsIn names list blocked =
     (stuck : Key) × (on : Key) × ArrangeSticks names list stuck on × (blocked ≡ Depends stuck.name on.name)
 
--- a common patch does not come to the front
+-- a common patch cannot be moved to the front
 abbrev pub DivergesIn : List (List ℕ) → List Catch → Blocked → Type 0
 DivergesIn names list blocked =
     (stuck : Key) × (on : Key) × ArrangeSticks names list stuck on × (blocked ≡ Diverged stuck.name)
