@@ -1,3 +1,4 @@
+//! Comparing a history with the replies of its sections.
 ghost use Rattle.std.specs.Prelude.{◌≡◌, ◌↔◌, ◌+◌, ◌<◌, ◌≤◌, [], ◌∷◌, length, drop, IsTrue, MatchOption};
 ghost use Rattle.std.specs.Bool.{MatchBool};
 ghost use Rattle.camp_clients.specs.Answers.{told};
@@ -8,11 +9,11 @@ ghost use Rattle.camp_clients.specs.Sections.{most_sections};
 
 use camp_object::{Fault, Object};
 
-/// The most sections of a run.
+/// Sections of the longest run.
 pub const MAX_SECTIONS: usize = 64;
 
-/// Whether a history has exactly the calls that the answers tell as done, under the numbers of their
-/// sections and at their positions. Goes once over the history and the answers.
+/// True if a history has exactly the calls that the replies report as done, under the numbers of their
+/// sections and at their positions. Makes one pass over the history and the replies.
 pub fn has_exactly<State: Object>(
     history: &[(u32, State::Call)],
     sections: &[Vec<State::Call>],
@@ -37,8 +38,8 @@ pub fn has_exactly<State: Object>(
     true
 }
 
-/// Whether an entry of the history is the next done call of its section, at its position. The place
-/// in the section then moves behind it.
+/// True if an entry of the history is the next done call of its section, at its position; then advances the
+/// section's index past it.
 fn goes_on<State: Object>(
     at: u64,
     entry: &(u32, State::Call),
@@ -71,7 +72,7 @@ fn goes_on<State: Object>(
     }
 }
 
-/// Whether no call of a section is done from a place on.
+/// True if no call of a section is done from an index on.
 fn is_used_up<State: Object>(
     sections: &[Vec<State::Call>],
     answers: &[Vec<Result<State::Reply, Fault>>],
@@ -86,8 +87,7 @@ fn is_used_up<State: Object>(
     next_done::<State>(&sections[seat], &answers[seat], from).is_none()
 }
 
-/// The first call of a section that is done, from a place on: the place behind it, its position, and
-/// the call.
+/// Returns the first done call of a section from an index on: the index after it, its position, and the call.
 fn next_done<'a, State: Object>(
     calls: &'a [State::Call],
     answers: &[Result<State::Reply, Fault>],
@@ -107,7 +107,7 @@ fn next_done<'a, State: Object>(
     None
 }
 
-/// The position that an answer tells, if its call was accepted.
+/// Returns the position that a reply reports, if its call was accepted.
 fn position_told<State: Object>(answer: &Result<State::Reply, Fault>) -> Option<u64>
     ensures { result ≡ told State.object answer.now }
 {

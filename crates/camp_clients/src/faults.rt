@@ -1,15 +1,16 @@
+//! The errors of a run under a lock.
 ghost use Rattle.std.specs.Prelude.{◌≡◌};
 ghost use Rattle.camp_clients.specs.declared.faults.LockFault.TheVariants as fault;
 
 use std::alloc::{AllocError, AllocFailed};
 use thiserror::Error;
 
-/// Why a run over a lock has no result.
+/// Why a run under a lock has no result.
 #[derive(Clone, Copy, PartialEq, Eq, Debug, Error)]
 pub enum LockFault {
     #[error("out of memory")]
     Memory,
-    /// The history has a call that no answer tells as done, or lacks one.
+    /// The history has a call that no reply reports as done, or lacks one.
     #[error("foreign call")]
     Foreign,
 }

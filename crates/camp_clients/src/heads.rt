@@ -1,3 +1,4 @@
+//! Running sections of calls in threads over a head.
 ghost use Rattle.std.specs.Prelude.{◌≡◌, [], ◌+◌, ◌<◌, ◌≤◌, length, count_by, IfOk, IsOk};
 ghost use Rattle.std.specs.List.{All};
 ghost use Rattle.std.specs.Thread.{IsSync};
@@ -19,9 +20,9 @@ use std::sync::Wait;
 use std::thread;
 use std::thread::Threads;
 
-/// What is asked over a head: sections of calls, section k at seat k. A call that writes gives up after
-/// `tries` lost exchanges. The head keeps a version for each position that is a multiple of `every`, 0 to
-/// 4,096; none for 0. The gate is told of each step.
+/// What is run over a head: sections of calls, section k at seat k. A call that writes gives up after `tries`
+/// lost compare-exchanges. A snapshot is kept at each position that is a multiple of `every`, 0 to 4,096;
+/// none for 0. The gate is notified of each step.
 #[derive(Drop)]
 pub struct HeadPlan<'a, R, State: Object, G> {
     pub rt: &'a R,
@@ -35,8 +36,8 @@ pub struct HeadPlan<'a, R, State: Object, G> {
     ghost every_near: { every ≤ farthest_version },
 }
 
-/// The results of sections over one head: the answers to each, and the seat of the first section, number 0,
-/// which has seen the whole history.
+/// The results of sections over one head: the replies to each, and seat 0, that of the first section, which
+/// has seen the whole history.
 #[derive(Drop)]
 pub struct HeadRun<State: Object> {
     pub answers: Vec<Answers<State>>,
@@ -47,7 +48,7 @@ pub struct HeadRun<State: Object> {
 }
 
 impl<State: Object> HeadRun<State> {
-    /// The history, call by call: a copy of each.
+    /// Copies the history, call by call.
     pub fn history(&self) -> Result<Vec<(u32, State::Call)>, AllocError>
         ensures history { IfOk result (λ history. history.items ≡ history_of self.now.opener) }
         ensures empty { history_of self.now.opener ≡ [] → IsOk result }
@@ -59,9 +60,9 @@ impl<State: Object> HeadRun<State> {
     }
 }
 
-/// Asks sections of calls over a head with a seat for each: the first alone, and then each further one
-/// in a thread of its own, whose seat has met seat 0. Afterwards seat 0 meets every seat; what it has
-/// seen is the history.
+/// Runs sections of calls over a head with a seat for each: the first alone, and then each further one in a
+/// thread of its own, whose seat was synchronised with seat 0. Afterwards seat 0 is synchronised with every
+/// seat; what it has seen is the history.
 pub fn shared<R: Threads + Wait + Sync, State: Object + Send + Sync, G: Gate + Sync>(
     alloc: Global,
     plan: &HeadPlan<'_, R, State, G>,
@@ -97,7 +98,7 @@ where
     })
 }
 
-/// A run over a head: what it asks, and where.
+/// A run over a head: its sections, and where they are asked.
 #[derive(Drop)]
 struct Run<'a, R, State: Object, G> {
     rt: &'a R,
@@ -110,7 +111,7 @@ struct Run<'a, R, State: Object, G> {
 }
 
 impl<'a, R: Wait, State: Object, G: Gate> Run<'a, R, State, G> {
-    /// Asks the section of a seat that has no calls yet.
+    /// Runs the section of a seat that has no calls yet.
     fn at_seat(&self, seat: &mut Seat<State>) -> Result<Answers<State>, AllocError>
         requires ready { IsReady self.now.head.now (length self.now.sections.now) seat.old }
         ensures seat { IsSeatOf self.now.head.now seat.new }
@@ -123,8 +124,8 @@ impl<'a, R: Wait, State: Object, G: Gate> Run<'a, R, State, G> {
         at_desk(self.alloc, &mut desk, calls)
     }
 
-    /// A client asks the section of its seat, and then hands on what that has seen, if there is memory
-    /// for it.
+    /// Runs the section of a client's seat, and then publishes a snapshot of what the seat has seen, if there
+    /// is memory for it.
     fn client(&self, seat: Seat<State>) -> Result<(Seat<State>, Answers<State>), AllocError>
         requires { IsReady self.now.head.now (length self.now.sections.now) seat }
         ensures { IfOk result (λ ran. Ran State.object self.now.head.now (lists_of self.now.sections.now) seat ran.0 ran.1.items) }
@@ -143,7 +144,8 @@ where
     State::Call: Send + Sync,
     State::Reply: Send,
 {
-    /// Each seat asks its section in a thread of its own. What they answer comes behind the opening.
+    /// Runs the section of each seat in a thread of its own. The replies come after those of the first
+    /// section.
     fn clients(
         &self,
         opening: Answers<State>,
@@ -164,8 +166,8 @@ where
         put_apart(self.alloc, opening, made)
     }
 
-    /// The first section is asked alone, and then each further one in a thread of its own. The seat of
-    /// the first has seen the whole history then.
+    /// Runs the first section alone, and then each further one in a thread of its own. Afterwards the seat of
+    /// the first has seen the whole history.
     fn all(
         &self,
         opener: Seat<State>,
@@ -185,21 +187,21 @@ where
         let (seats, opener) = each_meets::<State>(self.alloc, self.head, seats, opener)?;
         let (seats, answers) = self.clients(opening, seats)?;
         let opener = meet_all::<State>(self.alloc, self.head, opener, seats)?;
-        // Its clauses show the proof that what the seat has seen is legal.
+        // Its clauses show the prover that what the seat has seen is legal.
         let _number = opener.number();
         Ok((opener, answers))
     }
 }
 
-/// Bytes that a client holds and never writes to, so many more for each seat of eight. Threads take memory from heaps
-/// that begin at multiples of 64 megabytes. What clients put there in one order would lie at equal distances from
-/// these, and so share a few places of the processor's caches.
+/// Allocates bytes that a client holds and never writes to: one more step for each of eight seats. Threads
+/// allocate from heaps that begin at multiples of 64 megabytes; without the shift, what clients allocate in
+/// the same order would map to the same sets of the processor's caches.
 fn shift(alloc: Global, seat: u32) -> Option<Vec<u8>> {
     Vec::with_capacity(alloc, (seat % 8 * 4_160) as usize).ok()
 }
 
-/// Asks a section of calls at the desk of a head. It stands apart for the proof alone: here the clauses of any desk are
-/// said of this one.
+/// Runs a section of calls at the desk of a head. A function of its own only for the prover: it states the
+/// clauses of any desk for this one.
 fn at_desk<'r, 'h, 's, 'g, R: Wait, State: Object, G: Gate>(
     alloc: Global,
     desk: &mut HeadDesk<'r, 'h, 's, 'g, R, State, G>,
@@ -217,7 +219,7 @@ fn at_desk<'r, 'h, 's, 'g, R: Wait, State: Object, G: Gate>(
     ask_all(alloc, desk, calls)
 }
 
-/// The largest number of calls of one section that write, and at least 1.
+/// Returns the greatest number of calls of one section that write, at least 1.
 fn most_writing<State: Object>(sections: &[Vec<State::Call>]) -> u32
     requires { All (λ calls. count_by State.object.is_writing calls.items ≤ most_calls) sections.now }
     ensures room { All (λ calls. count_by State.object.is_writing calls.items ≤ result) sections.now }
@@ -230,7 +232,7 @@ fn most_writing<State: Object>(sections: &[Vec<State::Call>]) -> u32
     most
 }
 
-/// How many calls of a section write.
+/// Counts the calls of a section that write.
 fn writing<State: Object>(calls: &[State::Call]) -> u32
     requires { count_by State.object.is_writing calls.now ≤ most_calls }
     ensures { result ≡ count_by State.object.is_writing calls.now }
@@ -244,7 +246,7 @@ fn writing<State: Object>(calls: &[State::Call]) -> u32
     count
 }
 
-/// A head and its seats.
+/// Makes a head and its seats.
 fn open<State: Object>(
     alloc: Global,
     seats: u32,

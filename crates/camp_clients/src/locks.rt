@@ -1,3 +1,4 @@
+//! Running sections of calls in threads under a lock.
 ghost use Rattle.std.specs.Prelude.{◌≡◌, ℕ, ◌+◌, ◌<◌, ◌≤◌, length, IfOk, slice_index_or};
 ghost use Rattle.std.specs.List.{AllZip};
 ghost use Rattle.std.specs.Thread.{IsSync};
@@ -15,8 +16,8 @@ use std::sync::{Mutex, Wait};
 use std::thread;
 use std::thread::Threads;
 
-/// Asks sections of calls over a book, section k at seat k: the first alone, then each further one in
-/// a thread of its own, under a lock. Afterwards the history is compared with the answers.
+/// Runs sections of calls over a book, section k at seat k: the first alone, then each further one in a
+/// thread of its own, under a lock. Afterwards the history is compared with the replies.
 pub fn locked<R: Threads + Wait + Sync, State: Object + Send>(
     rt: &R,
     alloc: Global,
@@ -42,7 +43,7 @@ where
     Ok(BookRun { answers, book })
 }
 
-/// Asks each section but the first in a thread of its own.
+/// Runs each section but the first in a thread of its own.
 fn in_threads<R: Threads + Wait + Sync, State: Object + Send>(
     rt: &R,
     alloc: Global,
@@ -70,7 +71,7 @@ where
     )
 }
 
-/// Asks a section of calls, each under the lock.
+/// Executes the calls of a section, each under the lock.
 fn ask_locked<R: Wait, State: Object>(
     rt: &R,
     alloc: Global,
@@ -87,7 +88,7 @@ fn ask_locked<R: Wait, State: Object>(
     Ok(answers)
 }
 
-/// Asks one call, under the lock.
+/// Executes one call under the lock.
 fn ask_once<R: Wait, State: Object>(
     rt: &R,
     lock: &Mutex<Book<State>>,

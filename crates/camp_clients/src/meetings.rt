@@ -1,4 +1,4 @@
-//! How the seats of a run meet, before and after its threads.
+//! Synchronises the seats of a run before its threads start and after they were joined.
 ghost use Rattle.std.specs.Prelude.{◌≡◌, IfOk};
 ghost use Rattle.std.specs.List.{All, AllZip};
 ghost use Rattle.camp_object.specs.Histories.{IsBeginning, own};
@@ -9,7 +9,7 @@ use camp_history::{Head, Seat};
 use camp_object::Object;
 use std::alloc::{AllocError, Global};
 
-/// Each seat meets another one, and then knows what that has seen.
+/// Synchronises each seat with another one, so that it has seen what that one has.
 pub(crate) fn each_meets<State: Object>(
     alloc: Global,
     head: &Head<State>,
@@ -36,8 +36,8 @@ pub(crate) fn each_meets<State: Object>(
     Ok((all, known))
 }
 
-/// A seat meets each of the others, and then knows what they have seen. Tells too how many calls it had
-/// seen when it had met the first of them; 0 where there is none.
+/// Synchronises a seat with each of the others. Also returns the number of calls that it had seen after the
+/// first of them; 0 if there are no others.
 fn meets_each<State: Object>(
     alloc: Global,
     head: &Head<State>,
@@ -69,9 +69,9 @@ fn meets_each<State: Object>(
     Ok((known, all, first))
 }
 
-/// A seat meets each of the others, so that it knows all of them. Where no client's thread runs any more, it
-/// finds the whole history at the first of them. Where it did see more at a later one, each of the others
-/// meets it once more.
+/// Synchronises a seat with each of the others, so that it has seen all that they have. If no client's thread
+/// runs any more, it finds the whole history at the first of them. If it saw more at a later one, each of the
+/// others is synchronised with it once more.
 pub(crate) fn meet_all<State: Object>(
     alloc: Global,
     head: &Head<State>,

@@ -1,3 +1,4 @@
+//! Running sections of calls one after the other.
 ghost use Rattle.std.specs.Prelude.{◌≤◌, [], length, IfOk};
 ghost use Rattle.camp_clients.specs.Answers.{SaysAlone};
 ghost use Rattle.camp_clients.specs.Runs.{OneByOne, lists_of};
@@ -7,14 +8,14 @@ use crate::sections::{Answers, ask_all};
 use camp_object::{Book, BookDesk, Desk, Object};
 use std::alloc::{AllocError, Global};
 
-/// The results of sections over one book: the answers to each, and the book.
+/// The results of sections over one book: the replies to each, and the book.
 #[derive(Drop)]
 pub struct BookRun<State: Object> {
     pub answers: Vec<Answers<State>>,
     pub book: Book<State>,
 }
 
-/// Asks sections of calls one after the other, section k at seat k of a new book.
+/// Runs sections of calls one after the other, section k at seat k of a new book.
 pub fn serial<State: Object>(
     alloc: Global,
     sections: &[Vec<State::Call>],
@@ -31,7 +32,7 @@ pub fn serial<State: Object>(
     Ok(BookRun { answers, book })
 }
 
-/// Asks a section of calls at a seat of a book that nobody else writes.
+/// Runs a section of calls at a seat of a book that nobody else writes.
 pub(crate) fn at_seat<State: Object>(
     alloc: Global,
     book: &mut Book<State>,
@@ -45,8 +46,8 @@ pub(crate) fn at_seat<State: Object>(
     at_desk(alloc, &mut desk, calls)
 }
 
-/// Asks a section of calls at the desk of a book. It stands apart for the proof alone: here the clauses of any desk are
-/// said of this one.
+/// Runs a section of calls at the desk of a book. A function of its own only for the prover: it states the
+/// clauses of any desk for this one.
 fn at_desk<'a, State: Object>(
     alloc: Global,
     desk: &mut BookDesk<'a, State>,

@@ -1,3 +1,4 @@
+//! Running one section, and gathering the results of threads.
 ghost use Rattle.std.specs.Prelude.{◌≡◌, ◌+◌, ◌≤◌, false, length, count_by, IfOk, MatchResult};
 ghost use Rattle.camp_object.specs.declared.faults.Fault.TheVariants as fault;
 ghost use Rattle.camp_object.specs.Histories.{IsBeginning, own};
@@ -8,10 +9,10 @@ ghost use Rattle.camp_clients.specs.Sections.{Section};
 use camp_object::{Desk, Fault, Object};
 use std::alloc::{AllocError, Global};
 
-/// The answers to a section of calls, in order.
+/// The replies to a section of calls, in order.
 pub type Answers<State> = Vec<Result<<State as Object>::Reply, Fault>>;
 
-/// Asks the calls of a section in order. Want of memory ends it, also where an answer tells it.
+/// Executes the calls of a section in order. Out of memory ends it, also if a reply reports it.
 pub fn ask_all<State: Object, D: Desk<State>>(
     alloc: Global,
     desk: &mut D,
@@ -33,7 +34,7 @@ pub fn ask_all<State: Object, D: Desk<State>>(
     Ok(answers)
 }
 
-/// The answer; want of memory becomes an error.
+/// Returns the reply, or out of memory as an error.
 pub(crate) fn unless_memory<Reply>(
     answer: Result<Reply, Fault>,
 ) -> Result<Result<Reply, Fault>, AllocError>
@@ -45,8 +46,7 @@ pub(crate) fn unless_memory<Reply>(
     }
 }
 
-/// The values that were there first, and behind them what each thread brought; or want of memory, where
-/// a thread wanted it.
+/// Appends the results of threads to earlier values, or returns out of memory if a thread did.
 pub(crate) fn gather<X: Drop>(
     first: Vec<X>,
     made: Vec<Result<X, AllocError>>,
@@ -61,8 +61,8 @@ pub(crate) fn gather<X: Drop>(
     Ok(all)
 }
 
-/// The seats that threads bring back, and the answers: the opening's, and behind them those of each thread.
-/// Or want of memory, where a thread wanted it.
+/// Separates the seats that threads return from the replies: those of the first section, followed by those of
+/// each thread; or returns out of memory if a thread did.
 pub(crate) fn put_apart<Seat: Drop, X: Drop>(
     alloc: Global,
     opening: X,

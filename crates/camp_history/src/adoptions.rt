@@ -1,4 +1,4 @@
-//! How a seat that is behind adopts a version.
+//! Installing a snapshot at a seat that is behind.
 ghost use Rattle.std.specs.Prelude.{◌≡◌, ℕ, ◌<◌, ◌≤◌, ◌+◌, length, drop, slice_get, slice_index_or, All, Some, IfSome, IsTrue};
 ghost use Rattle.boxcar.specs.Table.{Shows};
 ghost use Rattle.camp_history.specs.Versions.{ids, Adopts, Begins, GoesOn, Share};
@@ -14,10 +14,10 @@ use camp_row::{Entry, Row, Trail};
 use camp_share::Share as _;
 use std::alloc::AllocError;
 
-/// The most versions that a seat notes.
+/// Snapshots that a seat notes.
 const MOST_NOTED: usize = 16;
 
-/// Drops the oldest version that a seat noted, if it has noted as many as it may.
+/// Drops the oldest snapshot that a seat noted, if it has noted the most that it may.
 fn make_room<State: Object>(bases: &mut Vec<Base<State>>)
     ensures { (gone : ℕ) × (bases.new.items ≡ drop gone bases.old.items) }
 {
@@ -34,7 +34,7 @@ impl<State: Object> Version<State> {
         self.earlier.len() + self.tail.len()
     }
 
-    /// Its marks from a place on.
+    /// Iterates over its marks from an index on.
     pub(crate) fn marks_from(&self, from: usize) -> MarksLeft<'_, State::Call>
         requires { from ≤ length self.now }
         ensures { result ≡ drop from self.now }
@@ -46,7 +46,7 @@ impl<State: Object> Version<State> {
 impl<State: Object> Seat<State> {
     ghost use Rattle.camp_row.specs.Known.{Leads};
 
-    /// The marks of what it has seen, from a place on.
+    /// Iterates over the marks of what it has seen, from an index on.
     pub(crate) fn marks_from(&self, from: usize) -> MarksLeft<'_, State::Call>
         requires { from ≤ length self.now.marks }
         ensures { result ≡ drop from self.now.marks }
@@ -65,7 +65,7 @@ impl<State: Object> Seat<State> {
         row.entry_at(&mut self.pass, trail, index)
     }
 
-    /// Adopts a version.
+    /// Installs a snapshot.
     fn adopt(&mut self, row: &Row, trail: &mut Trail, version: Version<State>)
         requires row { self.old.known.row ≡ row.now }
         requires leads { Leads self.old.known self.old.known.seen trail.old }
@@ -87,8 +87,8 @@ impl<State: Object> Seat<State> {
 }
 
 impl<State: Object> camp_share::Share for Version<State> {
-    /// The version once more: its list and its state have one more owner each, and the last few marks
-    /// are copied.
+    /// Copies the snapshot: increments the reference counts of its list and its state, and copies the last
+    /// few marks.
     fn share(&self) -> Result<Version<State>, AllocError> {
         let tail = share_all(*self.tail.allocator(), &self.tail)?;
         Version::made_from(&self.earlier, tail, &self.state)
@@ -101,7 +101,7 @@ impl<State: Object> Head<State> {
     ghost use Rattle.camp_history.specs.Versions.{IsFound, IsMadeFrom, based};
     ghost use Rattle.camp_history.specs.Inside.Steps.{GetsOn};
 
-    /// The slot of a number.
+    /// Returns the slot of an index.
     pub(crate) fn slot(&self, number: usize) -> Option<&Slot<State>>
         ensures tag { IfSome result (λ slot. slot.now.tag ≡ ids self.now.store) }
         ensures id { IfSome result (λ slot. slot.now.id ≡ slice_index_or self.now.slots number 0) }
@@ -109,14 +109,14 @@ impl<State: Object> Head<State> {
         self.versions.get(number)
     }
 
-    /// The slot beside the version of a number, which tells what that was made from.
+    /// Returns the slot of the parent of the snapshot of an index.
     pub(crate) fn origin_slot(&self, number: usize) -> Option<&OriginSlot<State>>
         ensures { IfSome result (λ slot. slot.now.tag ≡ self.now.slots) }
     {
         self.origins.get(number)
     }
 
-    /// The version that lies in a slot.
+    /// Returns the snapshot in a slot.
     fn version_of(&self, base: &Base<State>) -> Option<&Version<State>>
         requires { IsBaseAt self.now.slots (based base.now) }
         ensures is { IfSome result (λ version. version.now ≡ base.now.version.value) }
@@ -126,14 +126,14 @@ impl<State: Object> Head<State> {
         Some(slot.value(&base.version))
     }
 
-    /// What lies in the slot of a number, and what it was made from.
+    /// Returns the snapshot in the slot of an index, with its parent.
     fn origin_at(&self, number: usize) -> Option<&Origin<State>>
         ensures { IfSome result (λ origin. IsMadeFrom self.now.slots origin.now) }
     {
         self.origin_slot(number)?.get()
     }
 
-    /// Whether two marks are of one call of one seat.
+    /// True if two marks are of the same call of the same seat.
     fn is_same(&self, one: &Mark<State::Call>, other: &Mark<State::Call>) -> bool
         requires { Shows self.now.store one.now.call × Shows self.now.store other.now.call }
         ensures { IsTrue result → told one.now ≡ told other.now }
@@ -145,7 +145,7 @@ impl<State: Object> Head<State> {
         true
     }
 
-    /// Whether a seat noted a version.
+    /// True if a seat noted a snapshot.
     fn has_noted(&self, seat: &Seat<State>, base: &Base<State>) -> bool
         requires seat { IsSeatOf self.now seat.now }
         requires base { IsBaseAt self.now.slots (based base.now) }
@@ -160,7 +160,8 @@ impl<State: Object> Head<State> {
         false
     }
 
-    /// How many calls a version has, if a seat noted it: then the seat's calls begin with them.
+    /// Returns the number of calls of a snapshot that a seat noted: the seat's calls begin with them. `None`
+    /// if it did not note it.
     pub(crate) fn met(&self, seat: &Seat<State>, base: &Base<State>) -> Option<usize>
         requires seat { IsSeatOf self.now seat.now }
         requires base { IsBaseAt self.now.slots (based base.now) }
@@ -173,7 +174,7 @@ impl<State: Object> Head<State> {
         Some(self.version_of(base)?.len())
     }
 
-    /// What the version before was made from: the one that this one was made from.
+    /// Returns the parent of the parent of a snapshot.
     fn before(&self, origin: &Origin<State>) -> Option<&Origin<State>>
         requires { IsMadeFrom self.now.slots origin.now }
         ensures is { IfSome result (λ before. IsMadeFrom self.now.slots before.now) }
@@ -188,8 +189,8 @@ impl<State: Object> Head<State> {
         Some(before)
     }
 
-    /// How many calls a seat and a version have in common, without comparing calls: it goes back from
-    /// the version to the one that it was made from, and on, up to one that the seat noted.
+    /// Returns the number of calls that a seat and a snapshot have in common without comparing calls: follows
+    /// the parents of the snapshot up to one that the seat noted.
     fn common(&self, seat: &Seat<State>, origin: &Origin<State>) -> usize
         requires seat { IsSeatOf self.now seat.now }
         requires origin { IsMadeFrom self.now.slots origin.now }
@@ -208,7 +209,7 @@ impl<State: Object> Head<State> {
         0
     }
 
-    /// Whether a version begins with the calls that a seat has seen. The first `from` are known to be the
+    /// True if a snapshot begins with the calls that a seat has seen. The first `from` are known to be the
     /// same.
     fn begins(&self, seat: &Seat<State>, version: &Version<State>, from: usize) -> bool
         requires seat { IsSeatOf self.now seat.now }
@@ -229,7 +230,7 @@ impl<State: Object> Head<State> {
         true
     }
 
-    /// Whether the calls of a version that a seat has not seen come next along the trail.
+    /// True if the calls of a snapshot that a seat has not seen come next along the trail.
     fn leads_on(&self, seat: &mut Seat<State>, trail: &Trail, version: &Version<State>) -> bool
         requires row { seat.old.known.row ≡ self.now.row }
         requires leads { Leads seat.old.known seat.old.known.seen trail.now }
@@ -252,7 +253,7 @@ impl<State: Object> Head<State> {
         true
     }
 
-    /// Whether a version begins with what a seat has seen, and goes on along the trail. The first `from`
+    /// True if a snapshot begins with what a seat has seen and continues along the trail. The first `from`
     /// calls are known to be the same.
     fn goes_on(
         &self,
@@ -271,7 +272,7 @@ impl<State: Object> Head<State> {
         self.begins(seat, version, from) && self.leads_on(seat, trail, version)
     }
 
-    /// Notes a version with which a seat's calls begin. Only the last few notes are kept.
+    /// Notes a snapshot with which a seat's calls begin. Only the last few notes are kept.
     pub(crate) fn note(&self, seat: &mut Seat<State>, base: Base<State>)
         requires seat { IsSeatOf self.now seat.old }
         requires base { IsBaseAt self.now.slots (based base) }
@@ -284,7 +285,7 @@ impl<State: Object> Head<State> {
         let _noted = seat.bases.push(base);
     }
 
-    /// The version of a slot and its length, if it has more than `seen` calls and at most `reach`.
+    /// Returns the snapshot of a slot and its length, if it has more than `seen` calls and at most `reach`.
     fn found_at(&self, number: usize, seen: u64, reach: u64) -> Option<(&Origin<State>, u64)>
         ensures { IfSome result (λ found. IsFound self.now.slots seen reach found.0.now found.1) }
     {
@@ -297,8 +298,8 @@ impl<State: Object> Head<State> {
         }
     }
 
-    /// Of the versions that seats handed on, the longest with more than `seen` calls and at most `reach`,
-    /// and its length.
+    /// Returns the longest published snapshot with more than `seen` calls and at most `reach`, and its
+    /// length.
     fn longest_handed_on(&self, seen: u64, reach: u64) -> Option<(&Origin<State>, u64)>
         ensures { IfSome result (λ found. IsFound self.now.slots seen reach found.0.now found.1) }
     {
@@ -313,7 +314,7 @@ impl<State: Object> Head<State> {
         longest
     }
 
-    /// The same, of the versions that are kept at positions.
+    /// The same, of the snapshots that are kept at positions.
     fn longest_kept(&self, seen: u64, reach: u64) -> Option<(&Origin<State>, u64)>
         ensures { IfSome result (λ found. IsFound self.now.slots seen reach found.0.now found.1) }
     {
@@ -332,7 +333,7 @@ impl<State: Object> Head<State> {
         None
     }
 
-    /// The same, of all versions.
+    /// The same, of all snapshots.
     fn longest(&self, seen: u64, reach: u64) -> Option<(&Origin<State>, u64)>
         ensures { IfSome result (λ found. IsFound self.now.slots seen reach found.0.now found.1) }
     {
@@ -345,7 +346,7 @@ impl<State: Object> Head<State> {
         self.longest_handed_on(kept.1, reach).or(Some(kept))
     }
 
-    /// A seat adopts a version that goes on from what it has seen, and notes it.
+    /// Installs a snapshot that continues what a seat has seen, and notes it.
     fn adopt_and_note(
         &self,
         seat: &mut Seat<State>,
@@ -369,7 +370,7 @@ impl<State: Object> Head<State> {
         Ok(())
     }
 
-    /// A seat adopts a version of a slot, if it goes on from what the seat has seen. Tells whether it did.
+    /// Installs the snapshot of a slot if it continues what the seat has seen; true if it did.
     fn adopt_at(
         &self,
         seat: &mut Seat<State>,
@@ -393,7 +394,7 @@ impl<State: Object> Head<State> {
         Ok(true)
     }
 
-    /// A seat that is behind tries the versions that it finds, the longest first, until it has adopted one.
+    /// Tries the snapshots that a seat finds, the longest first, until one is installed.
     pub(crate) fn adopt_longest(
         &self,
         seat: &mut Seat<State>,
@@ -415,7 +416,7 @@ impl<State: Object> Head<State> {
         Ok(())
     }
 
-    /// A seat that is behind another adopts all that this one has seen and decided.
+    /// Installs all that another seat has seen and decided at a seat that is behind it.
     pub(crate) fn adopt_from(
         &self,
         seat: &mut Seat<State>,

@@ -1,4 +1,4 @@
-//! How a call is answered at a seat.
+//! Executing a call at a seat.
 ghost use Rattle.std.specs.Prelude.{◌≡◌, false};
 ghost use Rattle.boxcar.specs.Table.{Shows};
 ghost use Rattle.camp_object.specs.Asking.{Ask, IsNotBusy};
@@ -16,7 +16,7 @@ impl<State: Object> Head<State> {
     ghost use Rattle.camp_history.specs.Seats.{IsSeatOf, history_of, caller_at, seats_of};
     ghost use Rattle.camp_history.specs.Inside.Steps.{Attempts, Decision};
 
-    /// Asks a kept call at a seat. It takes part in the history if it is accepted.
+    /// Executes a stored call at a seat. It becomes part of the history if it is accepted.
     pub fn ask(&self, seat: &mut Seat<State>, kept: Kept<State>) -> Result<State::Reply, Fault>
         requires seat { IsSeatOf self.now seat.old }
         requires kept { IsKeptBy self.now kept }
@@ -28,7 +28,7 @@ impl<State: Object> Head<State> {
         self.ask_at(seat, kept, &NoGate)
     }
 
-    /// The same. The gate is told of each exchange.
+    /// The same; the gate is notified of each compare-exchange.
     pub fn ask_at<G: Gate>(
         &self,
         seat: &mut Seat<State>,
@@ -42,7 +42,7 @@ impl<State: Object> Head<State> {
         ensures asks { Ask State.object (caller_at self.now seat.old) (history_of seat.old) kept.call result (history_of seat.new) }
         ensures one_seat { seats_of self.now ≡ 1 → IsNotBusy result }
     {
-        // A look at a field shows the proof what holds of the head.
+        // Reading a field shows the prover the invariant of the head.
         let _tries = self.tries;
         let answer = match kept.place {
             Place::Here(call) => self.ask_question(seat, &call),
@@ -94,7 +94,7 @@ impl<State: Object> Head<State> {
         Err(Fault::Busy { lost: self.tries })
     }
 
-    /// Decides the call at what was seen, and publishes it if it is accepted.
+    /// Decides the call at what the seat has seen, and publishes it if it is accepted.
     fn attempt<G: Gate>(
         &self,
         seat: &mut Seat<State>,
@@ -121,7 +121,7 @@ impl<State: Object> Head<State> {
         Ok(Some(State::done(seat.position())))
     }
 
-    /// What the object decides about a call at what was seen. It is accepted only if there is room for it.
+    /// Decides a call at what the seat has seen. It is accepted only if the seat has a cell left.
     fn decision(
         &self,
         seat: &Seat<State>,

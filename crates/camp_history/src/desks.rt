@@ -1,3 +1,4 @@
+//! A seat of a head as a desk.
 ghost use Rattle.std.specs.Prelude.{◌≡◌};
 ghost use Rattle.std.proofs.Common.{refl, ◌∙◌};
 ghost use Rattle.camp_object.specs.Asking.{Ask, IsNotBusy};
@@ -9,7 +10,7 @@ use crate::seats::Seat;
 use camp_object::{Desk, Fault, Object};
 use std::sync::Wait;
 
-/// A head, a seat of it and a gate, as a desk. The gate is told of each call, by its number from 0.
+/// A head, a seat of it and a gate, as a desk. The gate is notified of each call, by its index from 0.
 #[derive(Drop)]
 pub struct HeadDesk<'r, 'h, 's, 'g, R: Wait, State: Object, G: Gate> {
     rt: &'r R,

@@ -1,3 +1,4 @@
+//! The errors of making a head.
 ghost use Rattle.std.specs.Prelude.{◌≡◌};
 ghost use Rattle.camp_history.specs.declared.faults.HeadFault.TheVariants as fault;
 

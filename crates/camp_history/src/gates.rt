@@ -1,17 +1,18 @@
-/// A gate is told of the steps of calls, and may wait there, as clients that take turns do. It changes no
-/// answer. That it is told of each step, and with which numbers, is only tested.
+//! The gate: a hook at the steps of calls.
+/// Is notified of the steps of calls, and may wait there, as clients that run in turns do. It changes no
+/// reply. That it is notified of each step, and with which numbers, is only tested.
 pub trait Gate {
-    /// Told before a call of a seat, with the call's number and whether it writes.
+    /// Called before a call of a seat, with the call's index and whether it writes.
     fn before(&self, seat: u32, call: u32, writes: bool);
 
-    /// Told just before an exchange, with how many this call has lost.
+    /// Called just before a compare-exchange, with the number that this call has lost so far.
     fn exchange(&self, seat: u32, lost: u32);
 
-    /// Told after a call.
+    /// Called after a call.
     fn after(&self, seat: u32, call: u32);
 
-    /// After the last call of a seat, and behind what it has handed on. Who asks at a seat by hand need not
-    /// tell.
+    /// Called after the last call of a seat, once the seat has published its snapshot. A caller that drives a
+    /// seat by hand need not call it.
     fn end(&self, _seat: u32) {}
 }
 

@@ -1,3 +1,4 @@
+//! The head: one growing history that seats share.
 ghost use Rattle.std.specs.Prelude.{◌≡◌, ◌<◌, ◌≤◌, ◌↔◌, [], map, All, IfOk, IfErr, IsOk, IsTrue};
 ghost use Rattle.camp_history.specs.Inside.HeadFields.{slots_handed_on, slots_kept};
 ghost use Rattle.camp_history.specs.Opening.{IsInRange};
@@ -25,10 +26,10 @@ pub struct Head<State: Object> {
     pub(crate) calls: boxcar::Vec<State::Call>,
     pub(crate) tries: u32,
     pub(crate) every: u32,
-    /// A slot for each position at which a version is kept, and behind them one for each seat, by its
-    /// number, for what it hands on.
+    /// A slot for each position at which a snapshot is kept, followed by one for each seat, by its number,
+    /// for the snapshot that it publishes.
     pub(crate) versions: Vec<Slot<State>>,
-    /// What each of these versions was made from.
+    /// The parents of these snapshots.
     pub(crate) origins: Vec<OriginSlot<State>>,
 }
 
@@ -53,7 +54,7 @@ fn is_in_range(seats: u32, per_seat: u32, tries: u32, every: u32) -> bool
         && every <= 4_096
 }
 
-/// A slot for each position up to `seats * per_seat` that is a multiple of `every`; none for 0.
+/// Returns the number of positions up to `seats * per_seat` that are multiples of `every`; 0 if `every` is 0.
 pub(crate) fn slot_count(seats: u32, per_seat: u32, every: u32) -> usize
     requires { (seats ≤ most_seats) × (per_seat ≤ most_cells) }
     ensures exact { result ≡ slots_kept seats per_seat every }
@@ -63,14 +64,14 @@ pub(crate) fn slot_count(seats: u32, per_seat: u32, every: u32) -> usize
     most.checked_div(every as usize).unwrap_or(0)
 }
 
-/// A slot for each seat; none where no versions are kept.
+/// Returns the number of slots for published snapshots: one for each seat, or 0 if no snapshots are kept.
 fn handing_count(seats: u32, every: u32) -> usize
     ensures { result ≡ slots_handed_on seats every }
 {
     if every == 0 { 0 } else { seats as usize }
 }
 
-/// A seat for each pass, which has seen nothing.
+/// Makes a seat for each pass, which has seen nothing.
 fn seats_of<State: Object>(alloc: Global, passes: Vec<Pass>) -> Result<Vec<Seat<State>>, AllocError>
     requires { All (λ known. known.seen ≡ []) passes.items }
     ensures { IfOk result (λ seats. seats.items ≡ map unseen passes.items) }
@@ -101,11 +102,10 @@ impl<State: Object> Head<State> {
     ghost use Rattle.camp_history.specs.Opening.{Opens};
     ghost use Rattle.camp_history.specs.Seats.{IsSeatOf, history_of};
 
-    /// A head for so many seats, each of which has at most `per_seat` accepted calls, and the seats,
-    /// numbered from 0. A call that writes gives up after `tries` lost exchanges. The numbers are 1
-    /// to 64, 1 to 65,536, 1 to 1,000 and 0 to 4,096. A version is kept for each position that is a
-    /// multiple of `every`; where that is 0, none. Which versions there are changes no answer, and is
-    /// only tested.
+    /// Makes a head and its seats, numbered from 0. `seats` is 1 to 64; `per_seat`, the accepted calls of
+    /// each seat, 1 to 65,536; `tries`, the lost compare-exchanges after which a call that writes gives up, 1
+    /// to 1,000; `every` 0 to 4,096: a snapshot is kept at each position that is a multiple of it, and none
+    /// for 0. Snapshots change no reply; which ones exist is only tested.
     pub fn new(
         alloc: Global,
         seats: u32,
@@ -124,7 +124,7 @@ impl<State: Object> Head<State> {
         Ok((head, all))
     }
 
-    /// A head over a row, with no calls yet.
+    /// Makes a head over a row, without calls.
     fn over(alloc: Global, row: Row, tries: u32, every: u32) -> Result<Head<State>, AllocError>
         requires { 0 < tries }
         ensures { IfOk result (λ head. (head.row ≡ row) × (head.tries ≡ tries)) }
@@ -146,7 +146,7 @@ impl<State: Object> Head<State> {
         })
     }
 
-    /// A copy of a call, which may then be asked at any seat. The only fault is want of memory.
+    /// Stores a copy of a call, which can then be asked at any seat. The only fault is out of memory.
     pub fn keep(&self, rt: &impl Wait, call: &State::Call) -> Result<Kept<State>, Fault>
         ensures kept { IfOk result (λ kept. IsKeptBy self.now kept) }
         ensures call { IfOk result (λ kept. kept.call ≡ call.now) }
@@ -166,7 +166,8 @@ impl<State: Object> Head<State> {
         }
     }
 
-    /// What a seat has seen, call by call. The only fault is want of memory.
+    /// Returns the calls that a seat has seen, each with the number of its seat. The only fault is out of
+    /// memory.
     pub fn history(&self, seat: &Seat<State>) -> Result<Vec<(u32, State::Call)>, Fault>
         requires { IsSeatOf self.now seat.now }
         ensures history { IfOk result (λ history. history.items ≡ history_of seat.now) }

@@ -1,15 +1,16 @@
+//! Stored calls.
 use boxcar::Pushed;
 use camp_object::Object;
 use std::marker::Model;
 
-/// Where a call that is kept lies.
+/// Where a stored call is.
 #[derive(Drop)]
 pub enum Place<Call> {
     Here(Call),
     Stored(Pushed<Call>),
 }
 
-/// A call that is to be asked: a copy of it, which lies in the head's store if the call writes.
+/// A copy of a call that is to be asked, in the head's store if the call writes.
 #[derive(Drop)]
 pub struct Kept<State: Object> {
     pub(crate) place: Place<State::Call>,

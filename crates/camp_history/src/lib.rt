@@ -1,4 +1,4 @@
-//! One growing history for many threads: a head, and seats at which they ask.
+//! One growing history for many threads: a head, and the seats at which they call it.
 #![tactic(auto)]
 
 mod adoptions;

@@ -1,4 +1,4 @@
-//! Marks in order: a list that copies share, and a few behind it.
+//! Marks in order: a list that copies share, followed by a few of its own.
 ghost use Rattle.std.specs.Prelude.{◌≡◌, ◌∷◌, ◌++◌, ◌+◌, ◌≤◌, [], length, drop, IfOk, MatchOption};
 
 use crate::marks::Mark;
@@ -6,7 +6,7 @@ use camp_share::{Iter, Share, SharedList};
 use std::alloc::AllocError;
 use std::marker::Model;
 
-/// The marks that are still to come. Contracts see them as a list.
+/// The marks that are left of an iteration. Contracts see them as a list.
 #[derive(Drop)]
 pub(crate) struct MarksLeft<'a, Call> {
     earlier: Iter<'a, Mark<Call>>,
@@ -23,7 +23,7 @@ impl<'a, Call> Model for MarksLeft<'a, Call> {
 }
 
 impl<'a, Call> MarksLeft<'a, Call> {
-    /// Those of a list and of the marks behind it, from a place on.
+    /// Iterates over the marks of a list and the ones after it, from an index on.
     pub(crate) fn new(
         earlier: &'a SharedList<Mark<Call>>,
         tail: &'a [Mark<Call>],
@@ -60,7 +60,7 @@ impl<'a, Call> MarksLeft<'a, Call> {
     }
 }
 
-/// A copy of marks, with room for one more.
+/// Copies marks, with capacity for one more.
 pub(crate) fn share_all<Call>(
     alloc: std::alloc::Global,
     marks: &[Mark<Call>],

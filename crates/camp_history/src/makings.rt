@@ -1,4 +1,4 @@
-//! How versions are made, put into their slots, and handed on.
+//! Making snapshots, writing them to their slots, and publishing them.
 ghost use Rattle.std.specs.Prelude.{◌≡◌, ◌≤◌, ℕ, ◌++◌, ◌∷◌, [], length, map, All, Some, IfOk, IfErr, IfSome, MatchOption};
 ghost use Rattle.boxcar.specs.Table.{Shows};
 ghost use Rattle.camp_object.specs.declared.faults.Fault.TheVariants.{Memory};
@@ -15,18 +15,19 @@ use camp_object::{Fault, Object};
 use camp_share::{Share, Shared, SharedList};
 use std::alloc::AllocError;
 
-/// Where a version is made for its next call, a seat keeps the marks of this many calls for itself at most, and
-/// moves more into the list that copies share. A version has copies of those that it keeps.
+/// Marks that a seat keeps for itself before a call at whose position it makes a snapshot; it moves more to
+/// the list that copies share. A snapshot copies the marks that it keeps.
 const FEW: usize = 40;
-/// Elsewhere it keeps this many: those of a version, and of 64 calls behind it. To move marks takes the longer the
-/// more calls there are; so a seat that adopts a version for each 64 calls moves none.
+/// Marks that a seat keeps for itself otherwise: those of a snapshot and of 64 calls after it. Moving marks
+/// takes longer the more calls there are, so a seat that installs a snapshot for each 64 calls moves none.
 const MANY: usize = 104;
 
 impl<State: Object> Version<State> {
     ghost use Rattle.camp_object.specs.Histories.{replay};
     ghost use Rattle.camp_history.specs.Seats.{asked, most_listed};
 
-    /// A version of these marks and of the state after them. Its list and its state have one more owner each.
+    /// Makes a snapshot of marks and the state after them. Increments the reference counts of the list and of
+    /// the state.
     pub(crate) fn made_from(
         earlier: &Shared<SharedList<Mark<State::Call>>>,
         tail: Vec<Mark<State::Call>>,
@@ -50,7 +51,7 @@ impl<State: Object> Seat<State> {
     ghost use Rattle.camp_object.specs.Histories.{replay};
     ghost use Rattle.camp_history.specs.Seats.{history_of};
 
-    /// All that it has seen, as a version.
+    /// Makes a snapshot of all that the seat has seen.
     pub(crate) fn version(&self) -> Result<Version<State>, AllocError>
         ensures { IfOk result (λ version. version ≡ self.now.marks) }
     {
@@ -58,7 +59,7 @@ impl<State: Object> Seat<State> {
         Version::made_from(&self.earlier, tail, &self.state)
     }
 
-    /// The version at the position of a call, as long as it is accepted there.
+    /// Makes the snapshot for the position of a call that is about to be accepted.
     fn version_with(
         &self,
         call: &Pushed<State::Call>,
@@ -76,7 +77,7 @@ impl<State: Object> Seat<State> {
     }
 }
 
-/// The number of the slot of a position, where a version is kept for each so many calls.
+/// Returns the index of the slot of a position, if snapshots are kept at it.
 fn slot_of(position: u64, every: u32) -> Option<usize>
     ensures { MatchOption result ((number : ℕ) → ¬ (IsSlotFor position every number)) (IsSlotFor position every) }
 {
@@ -96,14 +97,14 @@ impl<State: Object> Head<State> {
     ghost use Rattle.camp_history.specs.Seats.{IsBaseAt, IsSeatOf, history_of};
     ghost use Rattle.camp_history.specs.Versions.{based};
 
-    /// How many slots are for positions. Behind them lie those of the seats.
+    /// Returns the number of slots of positions. Those of the seats come after them.
     pub(crate) fn kept_count(&self) -> usize
         ensures { result ≤ 4194304 }
     {
         slot_count(self.row.seats(), self.row.per_seat(), self.every)
     }
 
-    /// The version that a seat noted last.
+    /// Returns the snapshot that a seat noted last.
     fn last_noted(&self, seat: &Seat<State>) -> Option<Base<State>>
         requires { IsSeatOf self.now seat.now }
         ensures base { IfSome result (λ base. IsBaseAt self.now.slots (based base)) }
@@ -112,8 +113,7 @@ impl<State: Object> Head<State> {
         Some(seat.bases.last()?.again())
     }
 
-    /// Puts a version of all that a seat has seen into the slot of a number, with what it was made from, if
-    /// there is none yet.
+    /// Writes a snapshot of all that a seat has seen to a slot, with its parent, unless the slot has one.
     fn put_at(
         &self,
         number: usize,
@@ -136,7 +136,7 @@ impl<State: Object> Head<State> {
         Some(base)
     }
 
-    /// Tells what the version of a slot was made from: the one that its maker noted last.
+    /// Records the parent of the snapshot of a slot: the one that its maker noted last.
     fn tell_origin(&self, base: &Base<State>, seat: &Seat<State>)
         requires seat { IsSeatOf self.now seat.now }
         requires base { IsBaseAt self.now.slots (based base.now) }
@@ -150,9 +150,9 @@ impl<State: Object> Head<State> {
         }
     }
 
-    /// Hands on what a seat has seen and decided, for seats that are behind: a seat that asks no more
-    /// saves them deciding it. It does so once; where no versions are kept, it does nothing. The only
-    /// fault is want of memory: then nothing is handed on, and all else is as it was.
+    /// Publishes a snapshot of what a seat has seen and decided, so that seats that are behind need not
+    /// decide it again. Does so once; does nothing if no snapshots are kept. The only fault is out of memory:
+    /// then nothing is published, and all else is unchanged.
     pub fn hand_on(&self, seat: &Seat<State>) -> Result<(), Fault>
         requires { IsSeatOf self.now seat.now }
         ensures only_memory { IfErr result (λ fault. fault ≡ Memory) }
@@ -166,7 +166,7 @@ impl<State: Object> Head<State> {
         Ok(())
     }
 
-    /// How many marks a seat keeps for itself before its next call.
+    /// Returns the number of marks that a seat keeps for itself before its next call.
     pub(crate) fn most_own(&self, seat: &Seat<State>) -> usize {
         if slot_of(seat.position().saturating_add(1), self.every).is_none() {
             return MANY;
@@ -174,7 +174,7 @@ impl<State: Object> Head<State> {
         FEW
     }
 
-    /// The version for the position of a call, if one is kept there.
+    /// Makes the snapshot for a call's position, if snapshots are kept at it.
     pub(crate) fn version_for(
         &self,
         seat: &Seat<State>,
@@ -190,7 +190,7 @@ impl<State: Object> Head<State> {
         Ok(Some(seat.version_with(call, next)?))
     }
 
-    /// Puts a version that was made for the last call that a seat has seen.
+    /// Writes a snapshot that was made for the last call that a seat has seen.
     pub(crate) fn put(&self, seat: &mut Seat<State>, made: Option<Version<State>>)
         requires seat { IsSeatOf self.now seat.old }
         requires made { IfSome made (λ version. version ≡ seat.old.marks) }

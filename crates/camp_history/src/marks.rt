@@ -1,8 +1,9 @@
+//! Marks of calls.
 use boxcar::Pushed;
 use camp_share::Share;
 use std::alloc::AllocError;
 
-/// A call that a seat has seen: the seat that asked it, and what shows it in the store.
+/// A call that a seat has seen: the seat that asked it, and the token that shows it in the store.
 #[derive(Drop)]
 pub struct Mark<Call> {
     pub(crate) seat: u32,

@@ -1,4 +1,4 @@
-//! How two seats meet.
+//! Synchronising two seats.
 ghost use Rattle.std.specs.Prelude.{◌≡◌, ◌≤◌, length, OnOk};
 ghost use Rattle.camp_object.specs.Histories.{IsBeginning};
 
@@ -13,7 +13,7 @@ impl<State: Object> Head<State> {
     ghost use Rattle.camp_history.specs.Inside.Steps.{entries_of, GetsOn};
     ghost use Rattle.camp_history.specs.Versions.{Share};
 
-    /// Brings two seats together, and lets the first see all that the second has seen.
+    /// Synchronises two seats, and lets the first see all that the second has seen.
     pub fn meet(
         &self,
         a: Seat<State>,
@@ -35,8 +35,7 @@ impl<State: Object> Head<State> {
         }
     }
 
-    /// A seat sees all of the chain that was found. What the other one has decided is adopted
-    /// from it.
+    /// Sees all of the chain that was found. Installs what the other seat has decided.
     fn follow_other(&self, seat: &mut Seat<State>, other: &Seat<State>) -> Result<(), AllocError>
         requires of { IsSeatOf self.now seat.old }
         requires other { IsSeatOf self.now other.now }
@@ -47,7 +46,7 @@ impl<State: Object> Head<State> {
         self.follow(seat)
     }
 
-    /// How many calls two seats have in common, by a version that both noted.
+    /// Returns the number of calls that two seats have in common, by a snapshot that both noted.
     pub(crate) fn shared(&self, a: &Seat<State>, b: &Seat<State>) -> usize
         requires seats { IsSeatOf self.now a.now × IsSeatOf self.now b.now }
         ensures { Share a.now.marks b.now.marks result }
@@ -60,8 +59,9 @@ impl<State: Object> Head<State> {
         0
     }
 
-    /// Of two seats that found one chain, the calls agree as far as both have seen it. It is for the proof alone: that
-    /// two marks of one place show one call is a clause of `agrees`, which compares nothing.
+    /// States that the calls of two seats that found the same chain agree as far as both have seen it. Only
+    /// for the prover: `agrees`, whose clause says that two marks of the same place are of the same call,
+    /// compares nothing.
     fn compare(&self, a: &Seat<State>, b: &Seat<State>)
         requires seats { IsSeatOf self.now a.now × IsSeatOf self.now b.now }
         requires chain { a.now.known.ahead ≡ b.now.known.ahead }

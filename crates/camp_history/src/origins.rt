@@ -1,4 +1,4 @@
-//! The rules of slots: what a version and its origin keep, on whatever thread they are read.
+//! The rules of slots: what holds of a snapshot and its parent, on whatever thread they are read.
 ghost use Rattle.std.specs.Prelude.{All};
 ghost use Rattle.camp_history.specs.Versions.{ids_of, IsIn, IsMadeFrom};
 
@@ -11,19 +11,19 @@ impl<State: Object> SlotRule<Version<State>> for OfStore {
     ghost holds = { λ tag version. All (λ mark. IsIn tag mark.call) version };
 }
 
-/// An origin tells of versions that lie in the slots of one head.
+/// The rule of parents: they are snapshots in the slots of the same head.
 pub struct OfSlots;
 
 impl<State: Object> SlotRule<Origin<State>> for OfSlots {
     ghost holds = { λ tag origin. IsMadeFrom tag origin };
 }
 
-/// Slots are told by their numbers.
+/// Slots are identified by their indices.
 pub struct SlotIds;
 
 impl<State: Object> Names<Vec<Slot<State>>> for SlotIds {
     ghost numbers = { λ slots. ids_of slots.items };
 }
 
-/// Where it is told what a version was made from, once.
+/// A slot to which the parent of a snapshot is written once.
 pub type OriginSlot<State> = OnceSlot<Origin<State>, OfSlots>;

@@ -1,3 +1,4 @@
+//! The seat: where one caller asks.
 ghost use Rattle.std.specs.Prelude.{◌≡◌, ◌<◌, ◌≤◌, length, All};
 
 use crate::marks::Mark;
@@ -7,15 +8,15 @@ use camp_row::Pass;
 use camp_share::{Shared, SharedList};
 use std::marker::Model;
 
-/// Where one caller asks a head. It can go to another thread. Contracts see it as `Seated`.
+/// Where one caller asks a head. It can be sent to another thread. Contracts see it as `Seated`.
 #[derive(Drop)]
 pub struct Seat<State: Object> {
     pub(crate) pass: Pass,
-    /// All that it has seen but the last few calls.
+    /// The calls that it has seen, except for the last few.
     pub(crate) earlier: Shared<SharedList<Mark<State::Call>>>,
     pub(crate) tail: Vec<Mark<State::Call>>,
     pub(crate) state: Shared<State>,
-    /// The last few versions that it made or adopted.
+    /// The last few snapshots that it made or installed.
     pub(crate) bases: Vec<Base<State>>,
     pub(crate) adopted: u32,
 }
@@ -36,7 +37,7 @@ impl<State: Object> Seat<State> {
     ghost use Rattle.camp_object.specs.Histories.{IsLegal, own};
     ghost use Rattle.camp_history.specs.Seats.{history_of, most_calls_of, number_of, seats_beside};
 
-    /// Its number.
+    /// Returns its number.
     pub fn number(&self) -> u32
         ensures number { result ≡ number_of self.now }
         ensures below { result < seats_beside self.now }
@@ -46,14 +47,14 @@ impl<State: Object> Seat<State> {
         self.pass.number()
     }
 
-    /// How many calls it has seen.
+    /// Returns the number of calls that it has seen.
     pub fn position(&self) -> u64
         ensures exact { result ≡ length (history_of self.now) }
     {
         (self.earlier.len() + self.tail.len()) as u64
     }
 
-    /// How many calls of its own were accepted.
+    /// Returns the number of its own calls that were accepted.
     pub fn accepted(&self) -> u32
         ensures accepted { result ≡ length (own (number_of self.now) (history_of self.now)) }
         ensures within { result ≤ most_calls_of self.now }
@@ -61,8 +62,8 @@ impl<State: Object> Seat<State> {
         self.pass.turns()
     }
 
-    /// How many versions it adopted from slots, and not from seats that it met; that is only tested. It stays at
-    /// 4,294,967,295.
+    /// Counts the snapshots that it installed from slots, not from seats that it was synchronised with;
+    /// saturates at 4,294,967,295. Only tested.
     pub fn adopted(&self) -> u32 {
         self.adopted
     }

@@ -1,4 +1,4 @@
-//! What a seat that is behind adopts.
+//! The snapshots that seats install.
 ghost use Rattle.std.specs.Prelude.{◌≡◌, length, All, IfOk};
 ghost use Rattle.camp_history.specs.Versions.{ids};
 
@@ -10,11 +10,11 @@ use camp_share::{Shared, SharedList};
 use std::alloc::{AllocError, Global};
 use std::marker::Model;
 
-/// All calls up to a position of the history, and the state after them. Contracts see it as a mark
-/// for each call, in order.
+/// A snapshot: all calls up to a position of the history, and the state after them. Contracts see it as a
+/// mark for each call, in order.
 #[derive(Drop)]
 pub struct Version<State: Object> {
-    /// All but the last few.
+    /// All calls except for the last few.
     pub(crate) earlier: Shared<SharedList<Mark<State::Call>>>,
     pub(crate) tail: Vec<Mark<State::Call>>,
     pub(crate) state: Shared<State>,
@@ -33,7 +33,7 @@ impl<State: Object> Model for Version<State> {
     ghost invariant = { λ version. (length version.earlier ≤ most_listed) × (replay State.object (map asked (version.earlier ++ version.tail.items)) ≡ Some version.state) };
 }
 
-/// A version that lies in a slot: the slot's number, and what shows the version there.
+/// A snapshot in a slot: the slot's index, and the token that shows the snapshot there.
 #[derive(Drop)]
 pub struct Base<State: Object> {
     pub(crate) slot: usize,
@@ -51,27 +51,27 @@ impl<State: Object> Base<State> {
     }
 }
 
-/// A version that lies in a slot, and the one that its maker had made or adopted last.
+/// A snapshot in a slot, and its parent: the one that its maker had made or installed last.
 #[derive(Drop)]
 pub struct Origin<State: Object> {
     pub(crate) version: Base<State>,
     pub(crate) from: Option<Base<State>>,
 }
 
-/// A version lies in a slot of the head whose store has its calls.
+/// The rule of slots: a snapshot is in a slot of the head whose store has its calls.
 pub struct OfStore;
 
-/// A store is told by the numbers of its buckets.
+/// A store is identified by the numbers of its buckets.
 pub struct StoreIds;
 
 impl<Call> Names<boxcar::Vec<Call>> for StoreIds {
     ghost numbers = { λ store. ids store };
 }
 
-/// Where a version is put, once.
+/// A slot to which a snapshot is written once.
 pub type Slot<State> = OnceSlot<Version<State>, OfStore>;
 
-/// So many slots in which nothing lies, under a tag.
+/// Makes `count` empty slots under a tag.
 pub(crate) fn slots_under<X: Drop, Rule: SlotRule<X>>(
     alloc: Global,
     tag: &Tag,

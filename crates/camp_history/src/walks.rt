@@ -1,4 +1,4 @@
-//! How a seat moves along the row.
+//! Moving a seat along the row.
 ghost use Rattle.std.specs.Prelude.{◌≡◌, ℕ, ◌<◌, ◌+◌, ◌++◌, [], ◌∷◌, length, All, Some, IfOk, OnOk, OnErr, MatchOption, MatchResult, MatchBool};
 ghost use Rattle.camp_object.specs.declared.faults.Fault.TheVariants.{Memory};
 ghost use Rattle.camp_row.specs.Chains.{turns};
@@ -14,10 +14,10 @@ use camp_row::{Next, Pass, Row, Trail};
 use camp_share::{Shared, SharedList};
 use std::alloc::AllocError;
 
-/// No head has more calls.
+/// Calls of the longest history of any head.
 const MOST_LISTED: usize = 4_194_304;
 
-/// Drafts the next cell, with a call's place, and exchanges.
+/// Drafts the next cell with the place of a call, and publishes it by a compare-exchange.
 fn exchange_cell<G: Gate>(row: &Row, pass: &mut Pass, place: usize, gate: &G, lost: u32) -> bool
     requires row { pass.old.row ≡ row.now }
     requires room { turns pass.old.number pass.old.seen < row.now.per_seat }
@@ -34,7 +34,7 @@ impl<State: Object> Seat<State> {
     ghost use Rattle.camp_history.specs.Seats.{history_of};
     ghost use Rattle.camp_history.specs.Inside.Steps.{entries_of, with_mark, DecidesAt, Publishes, FindsMore};
 
-    /// What holds of every seat. It does nothing at run: a caller's proof reads its clauses.
+    /// States the invariant of every seat. Does nothing at run time: callers' proofs use its clauses.
     pub(crate) fn is_whole(&self)
         ensures places { entries_of self.now ≡ self.now.known.seen }
         ensures legal { IsLegal State.object (history_of self.now) }
@@ -54,7 +54,7 @@ impl<State: Object> Seat<State> {
         row.look(&mut self.pass);
     }
 
-    /// Both seats find one chain, which begins with what either has seen.
+    /// Synchronises two seats: both have found the same chain, which begins with what either has seen.
     pub(crate) fn meet(&mut self, row: &Row, other: Seat<State>) -> Seat<State>
         requires { (self.old.known.row ≡ row.now) × (other.known.row ≡ row.now) }
         ensures self_finds { FindsChain self.old.known self.new.known }
@@ -84,7 +84,7 @@ impl<State: Object> Seat<State> {
         }
     }
 
-    /// All that it has seen, as a list that copies share.
+    /// Returns all that the seat has seen, as a list that copies share.
     fn listed(&self) -> Result<Shared<SharedList<Mark<State::Call>>>, AllocError>
         ensures { IfOk result (λ list. list ≡ self.now.marks) }
     {
@@ -93,7 +93,8 @@ impl<State: Object> Seat<State> {
         Shared::new(*self.tail.allocator(), longer)
     }
 
-    /// Moves the last calls into the list that copies share, once there are so many.
+    /// Compacts the seat: moves the last calls to the list that copies share, once there are more than
+    /// `most`.
     fn settle(&mut self, most: usize) -> Result<(), AllocError>
         ensures { self.new ≡ self.old }
     {
@@ -124,19 +125,19 @@ impl<State: Object> Seat<State> {
         row.next(&mut self.pass, trail)
     }
 
-    /// What the object decides about a call, at what was seen.
+    /// Decides a call at what the seat has seen.
     pub(crate) fn decide(
         &self,
         call: &State::Call,
     ) -> Result<Decided<State, State::Reply>, AllocError>
         ensures { IfOk result (DecidesAt State.object (history_of self.now) call.now) }
     {
-        // A look at a field shows the proof what holds of the seat.
+        // Reading a field shows the prover the invariant of the seat.
         let _len = self.tail.len();
         self.state.decide(call)
     }
 
-    /// The state behind a call that comes next, whoever asked it.
+    /// Computes the state after a next call, whichever seat asked it.
     fn state_behind(&self, call: &State::Call) -> Result<Shared<State>, AllocError>
         ensures { IfOk result (λ next. (seat : ℕ) → replay State.object (history_of self.now ++ (seat, call.now) ∷ []) ≡ Some next) }
     {
@@ -146,7 +147,7 @@ impl<State: Object> Seat<State> {
         Shared::new(*self.tail.allocator(), next)
     }
 
-    /// Sees the entry that comes next, with its call and the state behind it.
+    /// Sees the next entry, with its call and the state after it.
     fn step(
         &mut self,
         row: &Row,
@@ -172,7 +173,7 @@ impl<State: Object> Seat<State> {
         Ok(())
     }
 
-    /// Publishes a call. All that has to grow does so before the exchange.
+    /// Publishes a call. Everything that has to grow is allocated before the compare-exchange.
     pub(crate) fn publish<G: Gate>(
         &mut self,
         row: &Row,
@@ -206,7 +207,7 @@ impl<State: Object> Head<State> {
     ghost use Rattle.camp_history.specs.Seats.{IsSeatOf, history_of};
     ghost use Rattle.camp_history.specs.Inside.Steps.{entries_of, GetsOn, SeesMore};
 
-    /// Sees the entry that comes next. A published call is found, and accepted in its turn.
+    /// Sees the next entry: finds the published call and applies it.
     fn see(&self, seat: &mut Seat<State>, next: Next) -> Result<(), AllocError>
         requires of { IsSeatOf self.now seat.old }
         requires next { ComesNext seat.old.known next }
@@ -220,7 +221,7 @@ impl<State: Object> Head<State> {
         seat.step(&self.row, next, call, state)
     }
 
-    /// Sees all of the chain that was found: what it can adopt at once, and the rest entry by entry.
+    /// Sees all of the chain that was found: installs a snapshot if it can, and sees the rest entry by entry.
     fn see_all(&self, seat: &mut Seat<State>) -> Result<(), AllocError>
         requires { IsSeatOf self.now seat.old }
         ensures gets_on { GetsOn self.now seat.old seat.new }
@@ -247,7 +248,7 @@ impl<State: Object> Head<State> {
         answer
     }
 
-    /// Sees all of the chain as it is now.
+    /// Finds the chain as it is now and sees all of it.
     pub(crate) fn catch_up(&self, seat: &mut Seat<State>) -> Result<(), AllocError>
         requires { IsSeatOf self.now seat.old }
         ensures of { IsSeatOf self.now seat.new }

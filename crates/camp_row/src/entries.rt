@@ -1,4 +1,5 @@
-/// A published cell, as its readers name it.
+//! Published cells.
+/// A published cell as readers see it.
 #[derive(Clone, Copy, PartialEq, Eq, Debug)]
 pub struct Entry {
     /// The seat that published it.

@@ -1,10 +1,11 @@
+//! What a seat knows of the row, and the sizes of a row.
 ghost use Rattle.std.specs.Prelude.{List};
 ghost use Rattle.std.specs.Borrow.{ftrue};
 ghost use Rattle.camp_row.specs.Inside.Parts.{Part};
 
 use std::marker::Model;
 
-/// What a seat of the table knows. No value of it is made.
+/// What a seat of the table knows. A ghost type: no value of it is made.
 pub struct Knowledge {
     pub ghost parts: { List Part },
 }
@@ -13,7 +14,7 @@ impl Model for Knowledge {
     ghost also_owns = { λ _. ftrue };
 }
 
-/// How many seats a row has, and how many cells each.
+/// The number of seats of a row, and of cells of each seat.
 #[derive(Clone, Copy)]
 pub struct Sizes {
     pub seats: u32,

@@ -1,4 +1,4 @@
-//! A row of atomic words in which many seats keep one chain of cells.
+//! A row of atomic words in which many seats build one chain of cells.
 #![tactic(auto)]
 
 mod entries;

@@ -1,16 +1,17 @@
+//! The right of a seat to publish.
 ghost use Rattle.std.specs.Prelude.{◌≡◌, ◌≤◌, ◌<◌};
 
 use crate::knowledge::Knowledge;
 use atomic_table::Seat;
 use std::marker::Model;
 
-/// The right to publish the cells of one seat, and what its holder has seen. It can go to another
+/// The right to publish the cells of one seat, and what its holder has seen. It can be sent to another
 /// thread. Contracts see it as `Known`.
 #[derive(Drop)]
 pub struct Pass {
     pub(crate) seat: Seat<(), Knowledge>,
     pub(crate) number: u32,
-    /// How many entries the seat has.
+    /// Entries that the seat has published.
     pub(crate) turn: u32,
     /// The word that names the last cell that was seen.
     pub(crate) last: u64,
@@ -34,7 +35,7 @@ impl Pass {
     ghost use Rattle.camp_row.specs.Chains.{turns};
     ghost use Rattle.camp_row.specs.Known.{IsSound};
 
-    /// The number of its seat.
+    /// Returns the number of its seat.
     pub fn number(&self) -> u32
         ensures number { result ≡ self.now.number }
         ensures below { result < self.now.row.seats }
@@ -43,7 +44,7 @@ impl Pass {
         self.number
     }
 
-    /// How many entries its seat has.
+    /// Returns the number of entries that its seat has published.
     pub fn turns(&self) -> u32
         ensures turns { result ≡ turns self.now.number self.now.seen }
         ensures within { result ≤ self.now.row.per_seat }

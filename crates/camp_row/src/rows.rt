@@ -1,3 +1,4 @@
+//! The shared row of atomic words.
 ghost use Rattle.std.specs.Prelude.{◌≡◌, ◌≢◌, ◌+◌, ◌*◌, ◌<◌, ◌≤◌, [], ◌∷◌, ◌++◌, length, map, take, slice_get, Some, IfOk, MatchOption, MatchBool};
 ghost use Rattle.std.specs.List.{range_with_len};
 ghost use Rattle.camp_row.specs.Inside.Rule.{parent_word, place_word};
@@ -31,7 +32,7 @@ impl Model for Row {
     ghost invariant = { IsRow };
 }
 
-// There are no more cells than 64 * 65,536.
+// A row has at most 64 * 65,536 cells.
 fn parent_word(cell: usize) -> usize
     requires { cell < 4194304 }
     ensures { result ≡ parent_word cell }
@@ -51,9 +52,8 @@ impl Row {
     ghost use Rattle.camp_row.specs.Inside.Parts.{all_fresh};
     ghost use Rattle.camp_row.specs.Known.{most_cells, most_seats, newcomer, FindsChain, IsSound, Leads, Stands, ComesNext, IsDrafted, with_draft, Won, Lost, OneBegins};
 
-    /// A row with nothing published, and a pass for each of its seats, in their order. It has
-    /// `1 + 2 * seats * per_seat` words of eight bytes, for which it takes twice the memory while
-    /// it is made.
+    /// Makes a row with nothing published, and a pass for each of its seats, in their order. The row has `1 +
+    /// 2 * seats * per_seat` words of eight bytes; twice that is allocated while it is made.
     pub fn new(alloc: Global, seats: u32, per_seat: u32) -> Result<(Row, Vec<Pass>), AllocError>
         requires seats { (0 < seats) × (seats ≤ most_seats) }
         requires per_seat { (0 < per_seat) × (per_seat ≤ most_cells) }
@@ -71,7 +71,7 @@ impl Row {
         Ok((row, passes))
     }
 
-    // Splits the seat that has all parts.
+    // Splits the seat of the whole table into one pass for each seat.
     fn deal(&self, alloc: Global, mut all: Seat<(), Knowledge>) -> Result<Vec<Pass>, AllocError>
         requires table { all.table_id ≡ self.now.table }
         requires parts { all.me.0.parts ≡ all_fresh self.now.seats self.now.per_seat }
@@ -91,7 +91,7 @@ impl Row {
         Ok(passes)
     }
 
-    /// The number of seats, 1 to 64.
+    /// Returns the number of seats, 1 to 64.
     pub fn seats(&self) -> u32
         ensures seats { result ≡ self.now.seats }
         ensures range { (0 < result) × (result ≤ most_seats) }
@@ -99,7 +99,7 @@ impl Row {
         self.seats
     }
 
-    /// How many cells each seat has, 1 to 65,536.
+    /// Returns the number of cells of each seat, 1 to 65,536.
     pub fn per_seat(&self) -> u32
         ensures per_seat { result ≡ self.now.per_seat }
         ensures range { (0 < result) × (result ≤ most_cells) }
@@ -107,7 +107,7 @@ impl Row {
         self.per_seat
     }
 
-    /// Finds the chain.
+    /// Loads the head: finds the chain.
     pub fn look(&self, pass: &mut Pass)
         requires { pass.old.row ≡ self.now }
         ensures finds { FindsChain pass.old pass.new }
@@ -115,8 +115,7 @@ impl Row {
         pass.head = self.table.shared.load::<Look>(&mut pass.seat, 0);
     }
 
-    /// Goes back along the chain that was found, to what the pass has seen. The trail takes memory
-    /// for each cell between.
+    /// Walks back along the chain that was found, to what the pass has seen. Allocates for each cell between.
     pub fn walk(&self, alloc: Global, pass: &mut Pass) -> Result<Trail, AllocError>
         requires { pass.old.row ≡ self.now }
         ensures same { pass.new ≡ pass.old }
@@ -133,7 +132,7 @@ impl Row {
         Ok(Trail { cells })
     }
 
-    /// Takes the entry that comes next off the trail. The pass has not seen it yet.
+    /// Takes the next entry off the trail. The pass has not seen it yet.
     pub fn next(&self, pass: &mut Pass, trail: &mut Trail) -> Option<Next>
         requires row { pass.old.row ≡ self.now }
         requires leads { Leads pass.old pass.old.seen trail.old }
@@ -147,7 +146,7 @@ impl Row {
         Some(Next { entry, cell })
     }
 
-    /// The entry at a place of the trail, counted from the one that comes next. Nothing more is seen.
+    /// Returns the entry at an index of the trail, counted from the next one. The pass sees no more by it.
     pub fn entry_at(&self, pass: &mut Pass, trail: &Trail, index: usize) -> Entry
         requires row { pass.old.row ≡ self.now }
         requires leads { Leads pass.old pass.old.seen trail.now }
@@ -160,7 +159,7 @@ impl Row {
         self.entry_of(pass, cell)
     }
 
-    // The entry of a cell of the chain that was found.
+    // Returns the entry of a cell of the chain that was found.
     fn entry_of(&self, pass: &mut Pass, cell: usize) -> Entry
         requires row { pass.old.row ≡ self.now }
         requires stands { Stands pass.old cell }
@@ -175,7 +174,7 @@ impl Row {
         Entry { seat, place }
     }
 
-    /// Sees one entry more.
+    /// Sees one more entry.
     pub fn advance(&self, pass: &mut Pass, next: Next)
         requires row { pass.old.row ≡ self.now }
         requires next { ComesNext pass.old next }
@@ -186,7 +185,7 @@ impl Row {
         pass.last = next.cell as u64 + 1;
     }
 
-    /// Sees so many entries more.
+    /// Sees `count` more entries.
     pub fn advance_by(&self, pass: &mut Pass, trail: &mut Trail, count: usize)
         requires row { pass.old.row ≡ self.now }
         requires leads { Leads pass.old pass.old.seen trail.old }
@@ -202,7 +201,7 @@ impl Row {
         }
     }
 
-    // The seat's next cell.
+    // Returns the seat's next cell.
     fn own_cell(&self, pass: &Pass) -> usize
         requires row { pass.now.row ≡ self.now }
         requires room { turns pass.now.number pass.now.seen < self.now.per_seat }
@@ -213,8 +212,8 @@ impl Row {
         pass.turn as usize * self.seats as usize + pass.number as usize
     }
 
-    /// Writes the seat's next cell: the last cell that was seen as the one before it, and its place,
-    /// any number of the caller's.
+    /// Writes the seat's next cell: the last cell that was seen as its parent, and `place`, any number of the
+    /// caller's.
     pub fn draft(&self, pass: &mut Pass, place: usize)
         requires row { pass.old.row ≡ self.now }
         requires room { turns pass.old.number pass.old.seen < self.now.per_seat }
@@ -226,8 +225,8 @@ impl Row {
         shared.store::<DraftPlace>(&mut pass.seat, place_word(cell), place as u64);
     }
 
-    /// Makes the drafted cell the last of the chain, and says whether it did. It does where the
-    /// chain is just what the pass has seen. Else the pass has found the longer chain.
+    /// Publishes the drafted cell as the last of the chain by one compare-exchange; true if it succeeded. It
+    /// succeeds exactly if the chain is what the pass has seen; else the pass has found the longer chain.
     pub fn publish(&self, pass: &mut Pass) -> bool
         requires row { pass.old.row ≡ self.now }
         requires room { turns pass.old.number pass.old.seen < self.now.per_seat }
@@ -247,7 +246,7 @@ impl Row {
         true
     }
 
-    /// Both passes find one chain, which begins with what either has seen.
+    /// Synchronises two passes: both have found the same chain, which begins with what either has seen.
     pub fn meet(&self, a: &mut Pass, b: Pass) -> Pass
         requires { (a.old.row ≡ self.now) × (b.row ≡ self.now) }
         ensures a { FindsChain a.old a.new }

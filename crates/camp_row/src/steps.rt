@@ -1,4 +1,4 @@
-//! The rule of the table, and its six kinds of atomic step. There is no seventh.
+//! The rule of the table, and its six kinds of atomic step; there are no others.
 ghost use Rattle.camp_row.specs.Inside.Parts.{all_fresh};
 ghost use Rattle.camp_row.specs.Inside.Rule.{IsRuled};
 ghost use Rattle.std.specs.Prelude.{◌≡◌};
@@ -22,14 +22,14 @@ impl Play<(), Knowledge> for Look {
     ghost then = { λ step old found new. (new.1 ≡ old.1) × Looked found old.0.parts new.0.parts };
 }
 
-/// A load of a parent or place word, by which nothing more is seen.
+/// A load of a parent or place word that shows no further entry.
 pub struct Walk;
 
 impl Play<(), Knowledge> for Walk {
     ghost then = { λ step old found new. (new.1 ≡ old.1) × Walked step.word found old.0.parts new.0.parts };
 }
 
-/// A load of a place word, by which one more entry is seen.
+/// A load of a place word that shows one more entry.
 pub struct Advance;
 
 impl Play<(), Knowledge> for Advance {
@@ -50,7 +50,7 @@ impl Play<(), Knowledge> for DraftPlace {
     ghost then = { λ step old stored new. (new.1 ≡ old.1) × StoredPlace stored old.0.parts new.0.parts };
 }
 
-/// A compare_exchange of the head.
+/// A compare-exchange of the head.
 pub struct Publish;
 
 impl Play<(), Knowledge> for Publish {

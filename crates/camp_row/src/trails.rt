@@ -1,10 +1,11 @@
+//! The cells between what a pass has seen and what it has found.
 ghost use Rattle.std.specs.Prelude.{◌≡◌, length};
 
 use crate::entries::Entry;
 use std::marker::Model;
 
-/// The cells between what a pass has seen and the chain that it last found. Contracts see it as
-/// their numbers, the oldest last.
+/// The cells between what a pass has seen and the chain that it last found. Contracts see it as their
+/// numbers, the oldest last.
 #[derive(Drop)]
 pub struct Trail {
     pub(crate) cells: Vec<usize>,
@@ -19,7 +20,7 @@ impl Model for Trail {
 }
 
 impl Trail {
-    /// How many entries it leads to.
+    /// Returns the number of entries on the trail.
     pub fn len(&self) -> usize
         ensures exact { result ≡ length self.now }
     {
@@ -27,7 +28,7 @@ impl Trail {
     }
 }
 
-/// The entry that comes next, and its cell.
+/// The next entry, and its cell.
 #[derive(Clone, Copy)]
 pub struct Next {
     pub entry: Entry,
