@@ -13,7 +13,7 @@ A session is a fenced block of one of two kinds, in README.md, docs/, examples/,
              that a whole block can be pasted.) All blocks of a page are one conversation. An answer `ok NUMBER`
              may be left out. A block "```camp new" starts another conversation.
 
-SHELL_CAMP and CAMP name the two programs; without them those of crates/*/out, or of ./play, are taken. A page whose
+SHELL_CAMP and CAMP name the two programs; without them those of ./build, of crates/*/out, or of ./play, are taken. A page whose
 session needs a program that is not there is skipped, and named. With arguments, runs only these pages.
 Prints what differs, and one line; the exit status is 0 where nothing does.
 """
@@ -184,8 +184,8 @@ def check_page(page, shell, camp, path):
 
 
 def main(pages):
-    shell = program("SHELL_CAMP", "crates/camp_shell/out/camp_shell", "out/play/camp_shell")
-    camp = program("CAMP", "crates/camp/out/camp", "out/play/camp")
+    shell = program("SHELL_CAMP", "out/bin/camp_shell", "crates/camp_shell/out/camp_shell", "out/play/camp_shell")
+    camp = program("CAMP", "out/bin/camp", "crates/camp/out/camp", "out/play/camp")
     os.chdir(TOP)
     all_pages = not pages
     pages = pages or sorted([*glob.glob("*.md"), *glob.glob("docs/*.md"), "examples/README.md",
