@@ -1,0 +1,296 @@
+"""Several members share one log under faults, and a replay of the log in one session checks what each was answered.
+
+    python3 check_members.py sqlite:PATH | etcd:HOST:PORT[,HOST:PORT ..]/PREFIX [--members N] [--calls N] [--wrong NAME]
+
+CAMP_SHELL names the program camp_shell. A fifth of the appends lose their answer: half of these took place. Each member is
+a thread with a session of its own. `--wrong` plants a member that is wrong in one way (`WRONG`), which the check has to
+find. The exit status is 0 where the replies are as promised, or where what was planted is found."""
+
+import argparse
+import collections
+import os
+import random
+import sys
+import threading
+import time
+
+from logs import Outcome, SqliteLog
+from member import QUESTIONS, Member, Session, Stopped, calls_of, turn
+
+PROGRAM = os.environ.get("CAMP_SHELL", os.path.join(os.path.dirname(os.path.abspath(__file__)), "../../crates/camp_shell/out/camp_shell"))
+NO_REPLY = (b"stopped\n", b"the log ends before what was seen\n", b"the log refused the entry\n")
+Asked = collections.namedtuple("Asked", "seat turn call at_least asked")
+Answered = collections.namedtuple("Answered", "request answer place answered")
+
+
+class Lossy:
+    """A log whose appends lose some answers."""
+
+    def __init__(self, log, chance: random.Random, rate: float = 0.2):
+        self.log, self.chance, self.rate = log, chance, rate
+        self.read, self.length, self.close = log.read, log.length, log.close
+        self.lost = 0
+
+    def append(self, tag, text):
+        fate = self.chance.random()
+        if fate < self.rate / 2:
+            self.lost += 1
+            return Outcome.UNKNOWN
+        outcome = self.log.append(tag, text)
+        if fate < self.rate:
+            self.lost += 1
+            return Outcome.UNKNOWN
+        return outcome
+
+
+class NewTag(Member):
+    """Where it does not see its entry it asks again under a new number."""
+    extra, last = 0, None
+
+    def number(self):
+        return super().number() + self.extra
+
+    def want(self):
+        self.extra = self.extra + 1 if self.under_way and self.last is self.under_way else 0
+        want = super().want()
+        self.last = self.under_way
+        return want
+
+    def found(self, index, text):
+        try:
+            super().found(index, text)
+        except Stopped:
+            self.stopped, self.index = None, self.index + 1
+
+
+class Early(Member):
+    """It answers before the append is known."""
+
+    def want(self):
+        want = super().want()
+        if want[0] == "append" and self.under_way[0][2] is not None:
+            for at, (call, at_least, request) in enumerate(self.under_way):
+                self.answers.append((request, b"ok %d\n" % (self.count + at + 1), (self.index, at)))
+                self.under_way[at] = (call, at_least, None)
+        return want
+
+
+class Stale(Member):
+    """It answers at what it has read where more was wanted."""
+
+    def ask(self, call, at_least=0, request=None):
+        super().ask(call, 0, request)
+
+
+class Skips(Member):
+    """It skips a number."""
+
+    def number(self):
+        return super().number() + (self.numbers.get(self.seat, 0) == 3)
+
+
+class Twice(Member):
+    """It appends two calls where one was asked."""
+
+    def want(self):
+        want = super().want()
+        return want[:2] + (want[2] + b"branch twice-%s main\n" % self.seat[:8].encode(),) if want[0] == "append" and self.number() == 2 else want
+
+
+WRONG = {"new-tag": NewTag, "early": Early, "stale": Stale, "skips": Skips, "twice": Twice}
+
+
+def open_log(name):
+    kind, _, rest = name.partition(":")
+    if kind == "sqlite":
+        return SqliteLog(rest)
+    from etcd_log import EtcdLog
+    hosts, _, prefix = rest.partition("/")
+    return EtcdLog(hosts.split(","), prefix)
+
+
+def some_call(chance, member, number):
+    """A call, often in the way of another member's."""
+    branch = b"b%d" % chance.randrange(4)
+    kind = chance.randrange(8)
+    if kind == 0:
+        return b"branch b%d main\n" % chance.randrange(4)
+    if kind == 1:
+        return b"record %s p%d-%d add f%d\n" % (branch, member, number, chance.randrange(40))
+    if kind == 2:
+        return b"record %s q%d group\nadd g%d\nedit g%d 1\n+a\nend\ndone\n" % (branch, chance.randrange(60), number % 50, number % 50)
+    if kind == 3:
+        return b"pull main %s\n" % branch
+    if kind == 4:
+        return b"pull %s main\n" % branch
+    if kind == 5:
+        return b"names %s\n" % branch
+    if kind == 6:
+        return b"tree main\n"
+    return b"record main p%d-%d edit f%d 1\n+%d\nend\n" % (member, number, chance.randrange(40), number)
+
+
+class Run:
+    """What members asked and were answered."""
+
+    def __init__(self, log_name, members, calls, wrong, seed):
+        self.log_name, self.calls, self.seed = log_name, calls, seed
+        self.answered, self.lock, self.seen = [], threading.Lock(), 0
+        self.stops, self.ends, self.lost = [], [], 0
+        kinds = [WRONG[wrong] if wrong and at == 0 else Member for at in range(members)]
+        self.threads = [threading.Thread(target=self._member, args=(at, kind)) for at, kind in enumerate(kinds)]
+
+    def go(self):
+        for thread in self.threads:
+            thread.start()
+        for thread in self.threads:
+            thread.join()
+
+    def _member(self, at, kind):
+        chance = random.Random("%s %d" % (self.seed, at))
+        member, log = kind(PROGRAM), Lossy(open_log(self.log_name), chance)
+        asked, answered, alive = 0, 0, time.monotonic() + 100
+        try:
+            while answered < self.calls and time.monotonic() < alive:
+                while asked < self.calls and asked - answered < 1 + chance.randrange(8):
+                    with self.lock:
+                        at_least = self.seen if chance.random() < 0.3 else 0
+                    call = some_call(chance, at, asked)
+                    member.ask(call, at_least, Asked(member.seat, asked, call, at_least, time.monotonic()))
+                    asked += 1
+                turn(member, log)
+                answered += self._take(member)
+        except Stopped as stopped:
+            self._take(member)
+            self.stops.append(stopped)
+        with self.lock:
+            self.ends.append((member.index, member.session.ask(b"history\n"), member.stopped))
+            self.lost += log.lost
+        member.session.close()
+        log.close()
+
+    def _take(self, member):
+        taken = 0
+        while member.answers:
+            request, answer, place = member.answers.popleft()
+            if request is not None:
+                taken += 1
+                with self.lock:
+                    self.answered.append(Answered(request, answer, place, time.monotonic()))
+                    if answer.startswith(b"ok"):
+                        self.seen = max(self.seen, int(answer.split()[1]))
+        return taken
+
+
+class Replay:
+    """The log in one session: the answer at each place, and at each index how many calls were accepted."""
+
+    def __init__(self, texts, questions):
+        session, numbers, count = Session(PROGRAM), {}, 0
+        self.answers, self.counts, self.requests, self.at_index, self.histories = {}, {}, [], {}, {}
+        self.gap, self.length = None, len(texts)
+        for index, text in enumerate(texts):
+            self._ask_at(session, index, count, questions)
+            if index:
+                head, _, body = text.partition(b"\n")
+                _, seat, number = head.split(b" ")
+                last = numbers.get(seat, 0)
+                if int(number) > last + 1:
+                    self.gap = index
+                    break
+                if int(number) == last + 1:
+                    numbers[seat] = int(number)
+                    for place, call in enumerate(calls_of(body)):
+                        answer = session.ask(call)
+                        count += answer.startswith(b"ok")
+                        self.answers[index, place], self.counts[index, place] = answer, count
+                        self.requests.append((seat.decode(), call))
+        else:
+            self._ask_at(session, len(texts), count, questions)
+        self.count = count
+        session.close()
+
+    def _ask_at(self, session, index, count, questions):
+        self.counts[index] = count
+        self.histories[index] = session.ask(b"history\n")
+        for call in questions.get(index, ()):
+            question = call.split()[0] in QUESTIONS
+            self.at_index[index, call] = session.ask(call) if question else session.ask(b"whatif " + call).splitlines(keepends=True)[1]
+
+
+def check(run, texts):
+    """What is wrong with the answers of a run, by the log that it left."""
+    questions = collections.defaultdict(set)
+    for one in run.answered:
+        if isinstance(one.place, int):
+            questions[one.place].add(one.request.call)
+    replay, wrong = Replay(texts, questions), []
+    if replay.gap is not None:
+        wrong.append("entry %d: a number is skipped" % replay.gap)
+    for one in run.answered:
+        if one.answer in NO_REPLY:
+            continue
+        expected = replay.at_index.get((one.place, one.request.call)) if isinstance(one.place, int) else replay.answers.get(one.place)
+        count = replay.counts.get(one.place, -1)
+        if expected != one.answer:
+            wrong.append("%r: answered %r in place of %r" % (one.request.call[:60], one.answer[:60], expected and expected[:60]))
+        elif count < one.request.at_least:
+            wrong.append("%r: answered at %d where %d were seen" % (one.request.call[:60], count, one.request.at_least))
+    wrong += out_of_turn(run, replay) + not_asked(run, replay)
+    for index, history, _ in run.ends:
+        if replay.histories.get(index) != history:
+            wrong.append("a member's history at %d is not the log's" % index)
+    return replay, wrong
+
+
+def out_of_turn(run, replay):
+    """Answers out of the order of the requests, and entries before all that was answered when they were asked."""
+    wrong, newest = [], (0, 0)
+    by_seat = collections.defaultdict(list)
+    for one in run.answered:
+        by_seat[one.request.seat].append(one.request.turn)
+    wrong += ["answers of one member out of turn" for turns in by_seat.values() if turns != sorted(turns)]
+    events = sorted([(one.request.asked, 0, at) for at, one in enumerate(run.answered)] + [(one.answered, 1, at) for at, one in enumerate(run.answered)])
+    least = {}
+    for _, is_answer, at in events:
+        place = run.answered[at].place
+        if not is_answer:
+            least[at] = newest
+        elif not isinstance(place, int):
+            if place <= least[at]:
+                wrong.append("an entry before one that was answered when it was asked")
+            newest = max(newest, place)
+    return wrong
+
+
+def not_asked(run, replay):
+    """Calls in the log that nobody asked, or oftener than they were asked; tags that stand there twice are passed over."""
+    asked = collections.Counter((one.request.seat, one.request.call) for one in run.answered)
+    there = collections.Counter(replay.requests)
+    return ["%r stands %d times and was asked %d times" % (key[1][:60], times, asked[key]) for key, times in there.items() if times > asked[key]]
+
+
+def main():
+    words = argparse.ArgumentParser(description=__doc__.splitlines()[0])
+    words.add_argument("log")
+    words.add_argument("--members", type=int, default=4)
+    words.add_argument("--calls", type=int, default=100)
+    words.add_argument("--seed", default="1")
+    words.add_argument("--wrong", choices=sorted(WRONG))
+    given = words.parse_args()
+    run, began = Run(given.log, given.members, given.calls, given.wrong, given.seed), time.monotonic()
+    run.go()
+    seconds, log, texts = time.monotonic() - began, open_log(given.log), []
+    while len(texts) < log.length():
+        texts += log.read(len(texts), 1.0)
+    replay, wrong = check(run, texts)
+    for line in wrong[:5] + run.stops[:1]:
+        print(line)
+    print("%d members, %d answers, %d entries, %d calls in the history, %d appends without an answer, %d stops, %.1f seconds, %d wrong"
+          % (given.members, len(run.answered), len(texts), replay.count, run.lost, len(run.stops), seconds, len(wrong)))
+    lacks = len(run.answered) < given.members * given.calls and not run.stops
+    return 0 if bool(wrong or run.stops) == bool(given.wrong) and not lacks else 1
+
+
+if __name__ == "__main__":
+    sys.exit(main())

@@ -1,0 +1,114 @@
+"""Carriers of a log that many processes share: the tags are unique, the order is the engine's, nothing is ever removed.
+
+A log is any object with these methods; an entry is bytes, and entries are counted from 0. The first entry is `TITLE`, which
+a carrier writes where the log is empty.
+
+    append(tag, text)   Appends an entry under a tag, once. The answer is an `Outcome`.
+    read(index, wait)   The entries from an index on, some at a time; waits so many seconds at most for the first.
+    length()            How many entries the engine has now, with all that were acknowledged to anybody.
+    close()
+
+`Damaged` is raised where the engine shows that an entry was changed or removed, `Away` where no endpoint answers.
+"""
+
+import enum
+import os
+import sqlite3
+import threading
+import time
+from typing import List
+
+TITLE = b"camp log 1\n"
+TIMEOUT = 0.5
+
+
+class Outcome(enum.Enum):
+    """What is known of an append."""
+    APPENDED = "appended"
+    TAKEN = "the tag is in the log already"
+    REFUSED = "it did not take place, and never will"
+    UNKNOWN = "it may have taken place: ask again under the same tag"
+
+
+class Damaged(Exception):
+    """An entry was changed or removed, counted from 0."""
+
+    def __init__(self, index: int):
+        self.index = index
+        super().__init__("entry {} of the log was changed or removed".format(index))
+
+
+class Away(Exception):
+    """The engine does not answer."""
+
+
+class SqliteLog:
+    """A table of a SQLite file, for the processes of one machine. Each entry is on the disk before it counts."""
+
+    def __init__(self, path: str):
+        self.path = os.fspath(path)
+        self._local = threading.local()
+        self._once("CREATE TABLE IF NOT EXISTS entries (at INTEGER PRIMARY KEY, tag TEXT UNIQUE NOT NULL, text BLOB NOT NULL)")
+        self.append("log", TITLE)
+
+    def _base(self) -> sqlite3.Connection:
+        if not hasattr(self._local, "base"):
+            base = sqlite3.connect(self.path, timeout=TIMEOUT, isolation_level=None)
+            for pragma in ("journal_mode = WAL", "synchronous = FULL"):
+                _patiently(lambda: base.execute("PRAGMA " + pragma))
+            self._local.base = base
+        return self._local.base
+
+    def _once(self, sql: str, *values):
+        return _patiently(lambda: self._base().execute(sql, values).fetchall())
+
+    def append(self, tag: str, text: bytes) -> Outcome:
+        try:
+            self._base().execute("INSERT INTO entries SELECT coalesce(max(at) + 1, 0), ?, ? FROM entries", (tag, text))
+            return Outcome.APPENDED
+        except sqlite3.IntegrityError:
+            return Outcome.TAKEN
+        except (sqlite3.DataError, OverflowError):
+            return Outcome.REFUSED
+        except sqlite3.Error as error:
+            return Outcome.REFUSED if self._is_refused(error, tag) else Outcome.UNKNOWN
+
+    def _is_refused(self, error: sqlite3.Error, tag: str) -> bool:
+        """Whether the engine took nothing under the tag, for certain: what it wrote of it is rolled back."""
+        if not any(word in str(error) for word in ("full", "too big", "readonly")):
+            return False
+        try:
+            return not self._base().in_transaction and not self._once("SELECT 1 FROM entries WHERE tag = ?", tag)
+        except (sqlite3.Error, Away):
+            return False
+
+    def read(self, index: int, wait: float = 0.0) -> List[bytes]:
+        end = time.monotonic() + wait
+        while True:
+            rows = self._once("SELECT at, text FROM entries WHERE at >= ? ORDER BY at LIMIT 1024", index)
+            for number, row in enumerate(rows, index):
+                if row[0] != number:
+                    raise Damaged(number)
+            if rows or time.monotonic() >= end:
+                return [bytes(row[1]) for row in rows]
+            time.sleep(0.001)
+
+    def length(self) -> int:
+        return self._once("SELECT coalesce(max(at) + 1, 0) FROM entries")[0][0]
+
+    def close(self) -> None:
+        if hasattr(self._local, "base"):
+            self._local.base.close()
+            del self._local.base
+
+
+def _patiently(ask, tries: int = 20):
+    """What is asked, asked again while another process holds the file."""
+    for _ in range(tries):
+        try:
+            return ask()
+        except sqlite3.OperationalError as error:
+            if "locked" not in str(error) and "busy" not in str(error):
+                raise
+            time.sleep(0.01)
+    raise Away("the file is locked")
