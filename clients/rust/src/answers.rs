@@ -1,4 +1,5 @@
-use crate::errors::{Error, Fault, Refusal};
+use crate::errors::{Error, Fault, Refusal, Refused};
+use crate::names::Line;
 use std::fmt;
 
 /// The text that answers what was asked.
@@ -17,40 +18,51 @@ impl Answer {
 
     /// The lines of the text, without their line feeds.
     pub fn lines(&self) -> impl Iterator<Item = &[u8]> {
-        let ended = self.0.split_inclusive(|byte| *byte == b'\n');
-        ended.map(|line| line.strip_suffix(b"\n").unwrap_or(line))
+        Lines(&self.0)
     }
 
-    // The answer to one command, unless that was not done.
-    pub(crate) fn checked(self) -> Result<Answer, Error> {
-        let first = self.lines().next().unwrap_or(b"");
-        if first == b"memory" {
-            return Err(Error::OutOfMemory);
-        }
-        if let Some(fault) = read_fault(first) {
-            return Err(Error::Fault(fault));
-        }
-        if let Some(refusal) = Refusal::read(first) {
-            return Err(Error::Refused(refusal));
-        }
-        Ok(self)
+    // The first line.
+    pub(crate) fn first_line(&self) -> &[u8] {
+        Lines(&self.0).next().unwrap_or(b"")
     }
 
-    // The number behind the word of an answer, and the lines that follow.
-    pub(crate) fn counted(&self, word: &str) -> Result<(u64, Vec<&[u8]>), Error> {
-        let mut lines = self.lines();
-        let first = words(lines.next().unwrap_or(b""));
-        match first.as_slice() {
-            [said, count] if *said == word.as_bytes() => {
-                let count = number(count).ok_or_else(|| self.unexpected())?;
-                Ok((count, lines.collect()))
+    // What a function reads of the lines after the first, which has to be this word and a number. The function gets the
+    // number, and has to take all lines; anything else is unexpected.
+    pub(crate) fn read<'a, T>(
+        &'a self,
+        word: &str,
+        read: impl FnOnce(u64, &mut Lines<'a>) -> Option<T>,
+    ) -> Result<T, Error> {
+        let mut lines = Lines(&self.0);
+        let result = match lines.words().as_deref() {
+            Some([said, count]) if *said == word.as_bytes() => {
+                number(count).and_then(|count| read(count, &mut lines))
             }
+            _ => None,
+        };
+        match result {
+            Some(result) if lines.0.is_empty() => Ok(result),
             _ => Err(self.unexpected()),
         }
     }
 
     pub(crate) fn unexpected(&self) -> Error {
         Error::Unexpected(self.clone())
+    }
+
+    // The error that the first line says, if it says that the command was not done.
+    pub(crate) fn failure(&self, why: impl FnOnce() -> String) -> Option<Error> {
+        let first = self.first_line();
+        let error = match words(first)[0] {
+            b"memory" => return Some(Error::OutOfMemory),
+            b"refused" => Refusal::read(first).map(|refusal| {
+                let why = why();
+                Error::Refused(Refused { refusal, why })
+            }),
+            b"fault" => Fault::read(first, why()).map(Error::Fault),
+            _ => return None,
+        };
+        Some(error.unwrap_or_else(|| self.unexpected()))
     }
 }
 
@@ -66,6 +78,37 @@ impl fmt::Debug for Answer {
     }
 }
 
+// The lines of an answer that are not read yet.
+pub(crate) struct Lines<'a>(pub(crate) &'a [u8]);
+
+impl<'a> Iterator for Lines<'a> {
+    type Item = &'a [u8];
+
+    fn next(&mut self) -> Option<&'a [u8]> {
+        if self.0.is_empty() {
+            return None;
+        }
+        let end = self.0.iter().position(|byte| *byte == b'\n');
+        let line = &self.0[..end.unwrap_or(self.0.len())];
+        self.0 = end.map_or(&[], |end| &self.0[end + 1..]);
+        Some(line)
+    }
+}
+
+impl<'a> Lines<'a> {
+    // The words of the next line.
+    pub(crate) fn words(&mut self) -> Option<Vec<&'a [u8]>> {
+        self.next().map(words)
+    }
+
+    // So many lines, each after a sign, which is taken off.
+    pub(crate) fn signed(&mut self, count: u64, sign: &[u8]) -> Option<Vec<Line>> {
+        (0..count)
+            .map(|_| Line::new(self.next()?.strip_prefix(sign)?).ok())
+            .collect()
+    }
+}
+
 // The words of a line.
 pub(crate) fn words(line: &[u8]) -> Vec<&[u8]> {
     line.split(|byte| *byte == b' ').collect()
@@ -74,15 +117,4 @@ pub(crate) fn words(line: &[u8]) -> Vec<&[u8]> {
 // A number in decimal.
 pub(crate) fn number(word: &[u8]) -> Option<u64> {
     std::str::from_utf8(word).ok()?.parse().ok()
-}
-
-// The fault that a line tells.
-fn read_fault(line: &[u8]) -> Option<Fault> {
-    let rest = line.strip_prefix(b"fault ")?;
-    let blank = rest.iter().position(|byte| *byte == b' ')?;
-    let (at, kind) = rest.split_at(blank);
-    Some(Fault {
-        line: number(at)?,
-        kind: String::from_utf8_lossy(&kind[1..]).into_owned(),
-    })
 }

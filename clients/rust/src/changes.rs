@@ -1,5 +1,5 @@
-use crate::answers::{number, words};
-use crate::names::{FilePath, Line, Malformed};
+use crate::answers::{number, Lines};
+use crate::names::{read_path, FilePath, Line, Malformed, Name};
 use std::fmt;
 
 /// A change of a patch.
@@ -73,37 +73,38 @@ impl Change {
         }
     }
 
-    // The changes that lines tell.
-    pub(crate) fn read_all(lines: &[&[u8]]) -> Option<Vec<Change>> {
+    // The changes of a group.
+    pub(crate) fn read_all(lines: &mut Lines) -> Option<Vec<Change>> {
         let mut changes = Vec::new();
-        let mut rest = lines.iter();
-        while let Some(first) = rest.next() {
-            let path = |word: &[u8]| FilePath::new(std::str::from_utf8(word).ok()?).ok();
-            changes.push(match words(first).as_slice() {
-                [b"add", at] => Change::Add(path(at)?),
-                [b"remove", at] => Change::Remove(path(at)?),
-                [b"edit", at, line] => {
-                    let (mut old, mut new) = (Vec::new(), Vec::new());
-                    loop {
-                        match rest.next()?.split_first() {
-                            Some((b'-', line)) => old.push(Line::new(line).ok()?),
-                            Some((b'+', line)) => new.push(Line::new(line).ok()?),
-                            Some((b'e', b"nd")) => break,
-                            _ => return None,
-                        }
-                    }
-                    Change::Edit {
-                        path: path(at)?,
-                        line: u32::try_from(number(line)?).ok()?,
-                        old,
-                        new,
-                    }
-                }
+        while let Some(words) = lines.words() {
+            changes.push(match words.as_slice() {
+                [b"add", path] => Change::Add(read_path(path)?),
+                [b"remove", path] => Change::Remove(read_path(path)?),
+                [b"edit", path, line] => read_edit(path, line, lines)?,
                 _ => return None,
             });
         }
         Some(changes)
     }
+}
+
+// An edit, whose body follows: old lines after `-`, new ones after `+`, and `end`.
+fn read_edit(path: &[u8], line: &[u8], lines: &mut Lines) -> Option<Change> {
+    let (mut old, mut new) = (Vec::new(), Vec::new());
+    loop {
+        match lines.next()?.split_first() {
+            Some((b'-', line)) if new.is_empty() => old.push(Line::new(line).ok()?),
+            Some((b'+', line)) => new.push(Line::new(line).ok()?),
+            Some((b'e', b"nd")) => break,
+            _ => return None,
+        }
+    }
+    Some(Change::Edit {
+        path: read_path(path)?,
+        line: u32::try_from(number(line)?).ok()?,
+        old,
+        new,
+    })
 }
 
 impl fmt::Display for Change {
@@ -112,4 +113,19 @@ impl fmt::Display for Change {
         self.append_to(&mut text);
         f.write_str(&String::from_utf8_lossy(&text))
     }
+}
+
+// The command that records changes.
+pub(crate) fn record_command(branch: &Name, name: &Name, changes: &[Change]) -> Vec<u8> {
+    let mut text = format!("record {branch} {name} ").into_bytes();
+    if let [change] = changes {
+        change.append_to(&mut text);
+    } else {
+        text.extend(b"group\n");
+        for change in changes {
+            change.append_to(&mut text);
+        }
+        text.extend(b"done\n");
+    }
+    text
 }

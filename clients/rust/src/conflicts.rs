@@ -1,67 +1,79 @@
-use crate::answers::{number, words};
-use crate::changes::Change;
+use crate::answers::{number, words, Lines};
 use crate::names::{read_name, Line, Name};
 
-/// Two patches that can't both have their effect. The lesser name stands first.
-#[derive(Clone, Debug, PartialEq, Eq)]
+/// Two patches in conflict: they contradict each other, and neither has an effect. The lesser name stands first.
+#[derive(Clone, Debug, PartialEq, Eq, PartialOrd, Ord, Hash)]
 pub struct Conflict {
-    /// One side.
-    pub left: Side,
+    /// The lesser name.
+    pub left: Name,
     /// The other.
-    pub right: Side,
+    pub right: Name,
 }
 
-/// What a patch that is in conflict would do to the tree as it is.
-#[derive(Clone, Debug, PartialEq, Eq)]
-pub struct Side {
-    /// The patch.
-    pub name: Name,
-    /// Its changes. A record of these, 1 to 64, takes this side.
-    pub changes: Vec<Change>,
+impl Conflict {
+    // So many pairs of names.
+    pub(crate) fn read_some(count: u64, lines: &mut Lines) -> Option<Vec<Conflict>> {
+        let pair = |_| match lines.words()?.as_slice() {
+            [left, right] => Some(Conflict {
+                left: read_name(left)?,
+                right: read_name(right)?,
+            }),
+            _ => None,
+        };
+        (0..count).map(pair).collect()
+    }
 }
 
-/// A part of a file in which open sides may differ.
+/// A part of a file that is shown with its unresolved sides.
 #[derive(Clone, Debug, PartialEq, Eq)]
 pub enum Part {
-    /// A line on which they agree.
+    /// A line outside of conflicts.
     Line(Line),
-    /// A place where they differ.
-    Place(Place),
+    /// Lines where sides differ.
+    Hunk(Hunk),
 }
 
-/// A place of a file where open sides differ.
+/// Lines of a file where unresolved sides differ.
 #[derive(Clone, Debug, PartialEq, Eq)]
-pub struct Place {
-    /// The lines that stand there.
+pub struct Hunk {
+    /// The lines that stand there now.
     pub lines: Vec<Line>,
-    /// What each side has in their place, by the name of its patch.
-    pub sides: Vec<(Name, Vec<Line>)>,
+    /// What each side has instead, in the order of the branch.
+    pub sides: Vec<HunkSide>,
+}
+
+/// The lines that an unresolved patch would put in the place of a hunk's.
+#[derive(Clone, Debug, PartialEq, Eq)]
+pub struct HunkSide {
+    /// The patch.
+    pub name: Name,
+    /// Its lines.
+    pub lines: Vec<Line>,
 }
 
 impl Part {
-    // The parts that lines tell.
-    pub(crate) fn read_all(lines: &[&[u8]]) -> Option<Vec<Part>> {
+    // All parts: lines after `=`, and hunks.
+    pub(crate) fn read_all(lines: &mut Lines) -> Option<Vec<Part>> {
         let mut parts = Vec::new();
-        let mut rest = lines.iter().copied();
-        while let Some(first) = rest.next() {
+        while let Some(first) = lines.next() {
             parts.push(match first.strip_prefix(b"=") {
                 Some(line) => Part::Line(Line::new(line).ok()?),
-                None => Part::Place(Place::read(first, &mut rest)?),
+                None => Part::Hunk(Hunk::read(first, lines)?),
             });
         }
         Some(parts)
     }
 }
 
-impl Place {
-    // The place that a line begins: `conflict SIDES LINES`, the lines, and each side.
-    fn read<'a>(first: &[u8], rest: &mut impl Iterator<Item = &'a [u8]>) -> Option<Place> {
+impl Hunk {
+    // `conflict SIDES LINES`, the lines, and the sides.
+    fn read(first: &[u8], lines: &mut Lines) -> Option<Hunk> {
         match words(first).as_slice() {
             [b"conflict", sides, count] => {
-                let lines = read_lines(count, b"=", rest)?;
-                let sides = (0..number(sides)?).map(|_| read_side(rest));
-                Some(Place {
-                    lines,
+                let here = lines.signed(number(count)?, b"=")?;
+                let sides = (0..number(sides)?).map(|_| HunkSide::read(lines));
+                Some(Hunk {
+                    lines: here,
                     sides: sides.collect::<Option<_>>()?,
                 })
             }
@@ -70,21 +82,15 @@ impl Place {
     }
 }
 
-// A side: `side NAME LINES`, and its lines, each behind `+`.
-fn read_side<'a>(rest: &mut impl Iterator<Item = &'a [u8]>) -> Option<(Name, Vec<Line>)> {
-    match words(rest.next()?).as_slice() {
-        [b"side", name, count] => Some((read_name(name)?, read_lines(count, b"+", rest)?)),
-        _ => None,
+impl HunkSide {
+    // `side NAME LINES`, and its lines.
+    fn read(lines: &mut Lines) -> Option<HunkSide> {
+        match lines.words()?.as_slice() {
+            [b"side", name, count] => Some(HunkSide {
+                name: read_name(name)?,
+                lines: lines.signed(number(count)?, b"+")?,
+            }),
+            _ => None,
+        }
     }
-}
-
-// So many lines, each behind a sign.
-fn read_lines<'a>(
-    count: &[u8],
-    sign: &[u8],
-    rest: &mut impl Iterator<Item = &'a [u8]>,
-) -> Option<Vec<Line>> {
-    (0..number(count)?)
-        .map(|_| Line::new(rest.next()?.strip_prefix(sign)?).ok())
-        .collect()
 }

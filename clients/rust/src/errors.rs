@@ -1,30 +1,42 @@
-use crate::answers::{words, Answer};
-use crate::names::{Malformed, Name};
-use crate::raw::OutOfMemory;
+use crate::answers::{number, words, Answer};
+use crate::names::{read_name, Malformed, Name};
 use std::fmt;
 
-/// Why something that was asked was not done. Nothing has changed then, but where memory ran out: see
-/// [`Error::OutOfMemory`].
+/// Why something that was asked was not done. Nothing has changed then, but for [`Error::OutcomeUnknown`].
 #[derive(Clone, Debug, PartialEq, Eq)]
 #[non_exhaustive]
 pub enum Error {
-    /// There was not enough memory. A command that writes may have been done, and its answer was lost.
+    /// Memory ran out. Nothing has changed, and the same can be asked again.
     OutOfMemory,
-    /// The repository refuses what was asked.
-    Refused(Refusal),
+    /// Memory ran out before the answer was whole: the commands were done, or some of them were not. See
+    /// [`Repository::history`](crate::Repository::history).
+    OutcomeUnknown,
+    /// The repository refuses the call.
+    Refused(Refused),
     /// The text is no command.
     Fault(Fault),
-    /// A text is no name, path or line.
+    /// A text is no name, path or line; nothing was asked.
     Malformed(Malformed),
-    /// The answer has a form that is not known here.
+    /// The library answers in a form that this crate does not know.
     Unexpected(Answer),
+}
+
+impl Error {
+    /// The refusal, if that is what it is.
+    pub fn refusal(&self) -> Option<&Refusal> {
+        match self {
+            Error::Refused(refused) => Some(&refused.refusal),
+            _ => None,
+        }
+    }
 }
 
 impl fmt::Display for Error {
     fn fmt(&self, f: &mut fmt::Formatter<'_>) -> fmt::Result {
         match self {
             Error::OutOfMemory => f.write_str("out of memory"),
-            Error::Refused(refusal) => write!(f, "refused: {refusal}"),
+            Error::OutcomeUnknown => f.write_str("out of memory before the answer was whole"),
+            Error::Refused(refused) => write!(f, "refused: {}", refused.refusal),
             Error::Fault(fault) => write!(f, "{fault}"),
             Error::Malformed(malformed) => write!(f, "{malformed}"),
             Error::Unexpected(answer) => write!(f, "unexpected answer: {answer}"),
@@ -34,16 +46,19 @@ impl fmt::Display for Error {
 
 impl std::error::Error for Error {}
 
-impl From<OutOfMemory> for Error {
-    fn from(_: OutOfMemory) -> Error {
-        Error::OutOfMemory
-    }
-}
-
 impl From<Malformed> for Error {
     fn from(malformed: Malformed) -> Error {
         Error::Malformed(malformed)
     }
+}
+
+/// A refusal and its cause.
+#[derive(Clone, Debug, PartialEq, Eq)]
+pub struct Refused {
+    /// What is refused.
+    pub refusal: Refusal,
+    /// The cause in words: the lines that the command `why` answers. Empty for a view and for `what_if`.
+    pub why: String,
 }
 
 /// What is wrong with a text that was asked.
@@ -53,6 +68,22 @@ pub struct Fault {
     pub line: u64,
     /// What is wrong there, as `unknown command`.
     pub kind: String,
+    /// The cause in words, as of [`Refused`].
+    pub why: String,
+}
+
+impl Fault {
+    // The fault that a line says.
+    pub(crate) fn read(line: &[u8], why: String) -> Option<Fault> {
+        match words(line).as_slice() {
+            [b"fault", at, kind @ ..] if !kind.is_empty() => Some(Fault {
+                line: number(at)?,
+                kind: String::from_utf8_lossy(&kind.join(&b' ')).into_owned(),
+                why,
+            }),
+            _ => None,
+        }
+    }
 }
 
 impl fmt::Display for Fault {
@@ -61,36 +92,35 @@ impl fmt::Display for Fault {
     }
 }
 
-/// Why the repository refuses a call.
+/// Why the repository refuses a call, by the core's names.
 #[derive(Clone, Debug, PartialEq, Eq)]
 #[non_exhaustive]
 pub enum Refusal {
-    /// There is no such branch.
+    /// There is no branch of this name.
     NoBranch(Name),
-    /// There is such a branch.
+    /// There is a branch of this name already.
     BranchExists(Name),
     /// Some branch has a patch of this name.
     PatchExists(Name),
-    /// The branch has no such patch.
+    /// The branch has no patch of this name.
     NoPatch(Name),
     /// The branch has all that would be pulled.
     NothingToDo,
     /// A limit of the repository would be passed.
     TooLarge,
-    /// The change does not apply to the tree.
+    /// A change does not apply to the files as they are.
     DoesNotApply,
-    /// One patch stands on another, and only one of the two was asked for.
-    StandsOn {
+    /// A patch depends on another one, and only one of the two was named.
+    Depends {
         /// The patch.
         patch: Name,
-        /// What it stands on.
+        /// What it depends on.
         on: Name,
     },
-    /// Both branches have this patch, but in one of them it can't be brought before what only that one has; or the two
-    /// have it in forms that do not agree.
-    Disagrees(Name),
+    /// Both branches have this patch, but one can't bring it before what only that branch has, or their forms differ.
+    Diverged(Name),
     /// Two patches do not merge.
-    DoesNotMerge {
+    NoMerge {
         /// The patch of the branch that pulls.
         left: Name,
         /// The patch of the other.
@@ -101,29 +131,46 @@ pub enum Refusal {
 }
 
 impl Refusal {
-    // The refusal that a line tells.
-    pub(crate) fn read(line: &[u8]) -> Option<Refusal> {
-        let name = |word: &[u8]| Name::new(std::str::from_utf8(word).ok()?).ok();
-        match words(line).as_slice() {
-            [b"refused", b"4", branch] => Some(Refusal::NoBranch(name(branch)?)),
-            [b"refused", b"5", branch] => Some(Refusal::BranchExists(name(branch)?)),
-            [b"refused", b"6", patch] => Some(Refusal::PatchExists(name(patch)?)),
-            [b"refused", b"7", patch] => Some(Refusal::NoPatch(name(patch)?)),
-            [b"refused", b"8"] => Some(Refusal::NothingToDo),
-            [b"refused", b"9"] => Some(Refusal::TooLarge),
-            [b"refused", b"10"] => Some(Refusal::DoesNotApply),
-            [b"refused", b"11", patch, on] => Some(Refusal::StandsOn {
-                patch: name(patch)?,
-                on: name(on)?,
-            }),
-            [b"refused", b"12", patch] => Some(Refusal::Disagrees(name(patch)?)),
-            [b"refused", b"13", left, right] => Some(Refusal::DoesNotMerge {
-                left: name(left)?,
-                right: name(right)?,
-            }),
-            [b"refused", b"14", branch] => Some(Refusal::SameBranch(name(branch)?)),
-            _ => None,
+    /// The number of the refusal, as in `refused 4`.
+    pub fn number(&self) -> u8 {
+        match self {
+            Refusal::NoBranch(_) => 4,
+            Refusal::BranchExists(_) => 5,
+            Refusal::PatchExists(_) => 6,
+            Refusal::NoPatch(_) => 7,
+            Refusal::NothingToDo => 8,
+            Refusal::TooLarge => 9,
+            Refusal::DoesNotApply => 10,
+            Refusal::Depends { .. } => 11,
+            Refusal::Diverged(_) => 12,
+            Refusal::NoMerge { .. } => 13,
+            Refusal::SameBranch(_) => 14,
         }
+    }
+
+    // The refusal that a line says.
+    pub(crate) fn read(line: &[u8]) -> Option<Refusal> {
+        let refusal = match words(line).as_slice() {
+            [b"refused", b"4", branch] => Refusal::NoBranch(read_name(branch)?),
+            [b"refused", b"5", branch] => Refusal::BranchExists(read_name(branch)?),
+            [b"refused", b"6", patch] => Refusal::PatchExists(read_name(patch)?),
+            [b"refused", b"7", patch] => Refusal::NoPatch(read_name(patch)?),
+            [b"refused", b"8"] => Refusal::NothingToDo,
+            [b"refused", b"9"] => Refusal::TooLarge,
+            [b"refused", b"10"] => Refusal::DoesNotApply,
+            [b"refused", b"11", patch, on] => Refusal::Depends {
+                patch: read_name(patch)?,
+                on: read_name(on)?,
+            },
+            [b"refused", b"12", patch] => Refusal::Diverged(read_name(patch)?),
+            [b"refused", b"13", left, right] => Refusal::NoMerge {
+                left: read_name(left)?,
+                right: read_name(right)?,
+            },
+            [b"refused", b"14", branch] => Refusal::SameBranch(read_name(branch)?),
+            _ => return None,
+        };
+        Some(refusal)
     }
 }
 
@@ -137,10 +184,42 @@ impl fmt::Display for Refusal {
             Refusal::NothingToDo => f.write_str("the branch has all that would be pulled"),
             Refusal::TooLarge => f.write_str("a limit would be passed"),
             Refusal::DoesNotApply => f.write_str("the change does not apply"),
-            Refusal::StandsOn { patch, on } => write!(f, "{patch} stands on {on}"),
-            Refusal::Disagrees(patch) => write!(f, "the branches do not agree on {patch}"),
-            Refusal::DoesNotMerge { left, right } => write!(f, "{left} and {right} do not merge"),
+            Refusal::Depends { patch, on } => write!(f, "{patch} depends on {on}"),
+            Refusal::Diverged(patch) => write!(f, "the branches have diverged at {patch}"),
+            Refusal::NoMerge { left, right } => write!(f, "{left} and {right} do not merge"),
             Refusal::SameBranch(branch) => write!(f, "{branch} does not pull from itself"),
         }
+    }
+}
+
+#[cfg(test)]
+mod tests {
+    use super::*;
+
+    #[test]
+    fn each_refusal_has_a_line_of_its_own() {
+        for number in 0..=20 {
+            let lines =
+                ["", " a", " a b", " a b c"].map(|names| format!("refused {number}{names}"));
+            let read: Vec<Refusal> = lines
+                .iter()
+                .filter_map(|line| Refusal::read(line.as_bytes()))
+                .collect();
+            let count = usize::from((4..=14).contains(&number));
+            assert_eq!(read.len(), count, "{number}");
+            assert!(read.iter().all(|refusal| refusal.number() == number));
+        }
+        let names = ["a", "b"].map(|name| Name::new(name).unwrap());
+        let [left, right] = names.clone();
+        assert_eq!(
+            Refusal::read(b"refused 13 a b"),
+            Some(Refusal::NoMerge { left, right })
+        );
+        let [patch, on] = names;
+        assert_eq!(
+            Refusal::read(b"refused 11 a b"),
+            Some(Refusal::Depends { patch, on })
+        );
+        assert_eq!(Refusal::read(b"refused 4 A"), None);
     }
 }

@@ -15,8 +15,8 @@
 //! # }
 //! ```
 //!
-//! A [`View`] shows a repository as it was at one moment. It takes a count to make one, it may go to another thread, and
-//! it is asked questions while the repository goes on.
+//! A [`View`] shows a repository as it was at one moment. It may go to another thread, and answers questions while the
+//! repository goes on. What is not done is an [`Error`]: a [`Refusal`] has the core's name, and its cause beside it.
 #![deny(unsafe_code, missing_docs)]
 
 mod answers;
@@ -27,13 +27,15 @@ mod names;
 mod questions;
 mod raw;
 mod repository;
+mod results;
 mod trees;
 
 pub use answers::Answer;
 pub use changes::Change;
-pub use conflicts::{Conflict, Part, Place, Side};
-pub use errors::{Error, Fault, Refusal};
+pub use conflicts::{Conflict, Hunk, HunkSide, Part};
+pub use errors::{Error, Fault, Refusal, Refused};
 pub use names::{FilePath, Line, Malformed, Name};
-pub use questions::Questions;
+pub use questions::{Questions, WhatIf};
 pub use repository::{Repository, View};
+pub use results::{AcceptedCall, AnnotatedLine, Outcome, Shown};
 pub use trees::Tree;

@@ -137,3 +137,8 @@ impl fmt::Debug for Line {
 pub(crate) fn read_name(word: &[u8]) -> Option<Name> {
     Name::new(std::str::from_utf8(word).ok()?).ok()
 }
+
+// The path that a word is.
+pub(crate) fn read_path(word: &[u8]) -> Option<FilePath> {
+    FilePath::new(std::str::from_utf8(word).ok()?).ok()
+}

@@ -5,14 +5,13 @@
 //! `Send` is proved of the library's own type for it.
 #![allow(unsafe_code)]
 
+use crate::answers::Answer;
+use crate::errors::Error;
 use std::ffi::c_void;
 use std::ptr;
 
-/// There was not enough memory.
-#[derive(Debug)]
-pub(crate) struct OutOfMemory;
-
 const DONE: i32 = 0;
+const MEMORY: i32 = 2;
 
 // `camp` and `camp_view` of camp.h, which have the same members.
 #[repr(C)]
@@ -45,21 +44,28 @@ extern "C" {
 }
 
 // An answer of so many bytes, which a function writes into a buffer of that length.
-fn copied(length: usize, write: impl FnOnce(&mut [u8]) -> usize) -> Result<Vec<u8>, OutOfMemory> {
+fn copied(
+    length: usize,
+    at_memory: Error,
+    write: impl FnOnce(&mut [u8]) -> usize,
+) -> Result<Vec<u8>, Error> {
     let mut answer = Vec::new();
-    answer.try_reserve_exact(length).map_err(|_| OutOfMemory)?;
+    answer.try_reserve_exact(length).map_err(|_| at_memory)?;
     answer.resize(length, 0);
     let written = write(&mut answer);
     answer.truncate(written);
     Ok(answer)
 }
 
-fn done(code: i32) -> Result<(), OutOfMemory> {
-    // A handle of these types is open as long as it lives, so the code is never "not open".
-    if code == DONE {
-        Ok(())
-    } else {
-        Err(OutOfMemory)
+// What a code means. How much was done when memory ran out depends on the function. A handle of these types is open as
+// long as it lives, so "not open" is a code as unknown as any other.
+fn done(code: i32, at_memory: Error) -> Result<(), Error> {
+    match code {
+        DONE => Ok(()),
+        MEMORY => Err(at_memory),
+        _ => Err(Error::Unexpected(Answer::new(
+            format!("code {code}").into_bytes(),
+        ))),
     }
 }
 
@@ -67,31 +73,33 @@ fn done(code: i32) -> Result<(), OutOfMemory> {
 pub(crate) struct RawRepository(Handle);
 
 impl RawRepository {
-    pub(crate) fn open() -> Result<RawRepository, OutOfMemory> {
+    pub(crate) fn open() -> Result<RawRepository, Error> {
         let mut handle = Handle::closed();
         // SAFETY: the handle is closed, and lives through the call.
-        done(unsafe { camp_open(&mut handle) })?;
+        done(unsafe { camp_open(&mut handle) }, Error::OutOfMemory)?;
         Ok(RawRepository(handle))
     }
 
-    pub(crate) fn ask(&mut self, text: &[u8]) -> Result<(), OutOfMemory> {
+    // The answer to a text. Where memory runs out some of its commands may have been done.
+    pub(crate) fn ask(&mut self, text: &[u8]) -> Result<Vec<u8>, Error> {
         // SAFETY: pointer and length are those of a slice; `&mut self` makes it the only call.
-        done(unsafe { camp_ask(&mut self.0, text.as_ptr(), text.len()) })
-    }
-
-    pub(crate) fn answer(&mut self) -> Result<Vec<u8>, OutOfMemory> {
+        let code = unsafe { camp_ask(&mut self.0, text.as_ptr(), text.len()) };
+        done(code, Error::OutcomeUnknown)?;
         // SAFETY: `&mut self` makes it the only call.
         let length = unsafe { camp_answer_length(&mut self.0) };
         // SAFETY: pointer and length are those of a slice that is written alone; `&mut self` makes it the only call.
-        copied(length, |buffer| unsafe {
+        copied(length, Error::OutcomeUnknown, |buffer| unsafe {
             camp_answer(&mut self.0, buffer.as_mut_ptr(), buffer.len())
         })
     }
 
-    pub(crate) fn look(&mut self) -> Result<RawView, OutOfMemory> {
+    pub(crate) fn look(&mut self) -> Result<RawView, Error> {
         let mut view = Handle::closed();
         // SAFETY: the view is closed, and both live through the call; `&mut self` makes it the only call.
-        done(unsafe { camp_look(&mut self.0, &mut view) })?;
+        done(
+            unsafe { camp_look(&mut self.0, &mut view) },
+            Error::OutOfMemory,
+        )?;
         Ok(RawView(view))
     }
 }
@@ -107,24 +115,26 @@ impl Drop for RawRepository {
 pub(crate) struct RawView(Handle);
 
 impl RawView {
-    pub(crate) fn ask(&mut self, text: &[u8]) -> Result<(), OutOfMemory> {
+    // The answer to a text, which changes nothing.
+    pub(crate) fn ask(&mut self, text: &[u8]) -> Result<Vec<u8>, Error> {
         // SAFETY: pointer and length are those of a slice; `&mut self` makes it the only call.
-        done(unsafe { camp_view_ask(&mut self.0, text.as_ptr(), text.len()) })
-    }
-
-    pub(crate) fn answer(&mut self) -> Result<Vec<u8>, OutOfMemory> {
+        let code = unsafe { camp_view_ask(&mut self.0, text.as_ptr(), text.len()) };
+        done(code, Error::OutOfMemory)?;
         // SAFETY: `&mut self` makes it the only call.
         let length = unsafe { camp_view_answer_length(&mut self.0) };
         // SAFETY: pointer and length are those of a slice that is written alone; `&mut self` makes it the only call.
-        copied(length, |buffer| unsafe {
+        copied(length, Error::OutOfMemory, |buffer| unsafe {
             camp_view_answer(&mut self.0, buffer.as_mut_ptr(), buffer.len())
         })
     }
 
-    pub(crate) fn again(&mut self) -> Result<RawView, OutOfMemory> {
+    pub(crate) fn again(&mut self) -> Result<RawView, Error> {
         let mut other = Handle::closed();
         // SAFETY: the other view is closed, and both live through the call; `&mut self` makes it the only call.
-        done(unsafe { camp_view_again(&mut self.0, &mut other) })?;
+        done(
+            unsafe { camp_view_again(&mut self.0, &mut other) },
+            Error::OutOfMemory,
+        )?;
         Ok(RawView(other))
     }
 }

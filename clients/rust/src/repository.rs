@@ -1,87 +1,101 @@
 use crate::answers::Answer;
-use crate::changes::Change;
+use crate::changes::{record_command, Change};
 use crate::errors::Error;
 use crate::names::Name;
-use crate::questions::Questions;
+use crate::questions::{command, pull_some_command, run, Questions};
 use crate::raw::{RawRepository, RawView};
+use crate::results::AcceptedCall;
 
-/// A repository of named patches. At first it has one branch, `main`, without patches.
+/// A repository of named patches. A method that writes returns the number of the call among all that were accepted, counted
+/// from 1.
 pub struct Repository(RawRepository);
 
 impl Repository {
-    /// A new repository.
+    /// A new repository: one branch, `main`, without patches.
     pub fn new() -> Result<Repository, Error> {
         Ok(Repository(RawRepository::open()?))
     }
 
-    /// Makes a branch that is a copy of another. As every call that writes it tells the number of the call among all that
-    /// were accepted.
-    pub fn branch(&mut self, new: &Name, from: &Name) -> Result<u64, Error> {
-        self.call(format!("branch {new} {from}\n").as_bytes())
+    /// A new repository in which a script is run, as [`keep`](Repository::keep) writes it. Each command has to be accepted.
+    pub fn load(script: impl AsRef<[u8]>) -> Result<Repository, Error> {
+        let mut repository = Repository::new()?;
+        let answer = repository.ask(script)?;
+        let mut others = answer.lines().filter(|line| !line.starts_with(b"ok "));
+        match others.next().map(|line| Answer::new(line.to_vec())) {
+            None => Ok(repository),
+            Some(line) => Err(line
+                .failure(String::new)
+                .unwrap_or_else(|| line.unexpected())),
+        }
     }
 
-    /// Records a patch of 1 to 64 changes, each of which is made on what those before it leave.
+    /// Makes a branch that is a copy of another.
+    pub fn branch(&mut self, new: &Name, from: &Name) -> Result<u64, Error> {
+        self.write(command("branch", &[new, from], &[]).as_bytes())
+    }
+
+    /// Records a patch of 1 to 64 changes, each of which applies to what those before it leave.
     pub fn record(&mut self, branch: &Name, name: &Name, changes: &[Change]) -> Result<u64, Error> {
-        let mut text = format!("record {branch} {name} ").into_bytes();
-        if let [change] = changes {
-            change.append_to(&mut text);
-        } else {
-            text.extend(b"group\n");
-            for change in changes {
-                change.append_to(&mut text);
-            }
-            text.extend(b"done\n");
-        }
-        self.call(&text)
+        self.write(&record_command(branch, name, changes))
     }
 
     /// Brings all patches that `to` lacks and `from` has.
     pub fn pull(&mut self, from: &Name, to: &Name) -> Result<u64, Error> {
-        self.pull_some(from, to, &[])
+        self.write(command("pull", &[from, to], &[]).as_bytes())
     }
 
-    /// Brings these patches; of none, all.
-    pub fn pull_some(&mut self, from: &Name, to: &Name, names: &[Name]) -> Result<u64, Error> {
-        self.call(command("pull", &[from, to], names).as_bytes())
+    /// Brings these patches. An empty list is [`Refusal::NothingToDo`](crate::Refusal::NothingToDo).
+    pub fn pull_some(&mut self, from: &Name, to: &Name, patches: &[Name]) -> Result<u64, Error> {
+        let text = pull_some_command(self, from, to, patches)?;
+        self.write(text.as_bytes())
     }
 
     /// Takes patches out of a branch.
-    pub fn obliterate(&mut self, branch: &Name, names: &[Name]) -> Result<u64, Error> {
-        self.call(command("obliterate", &[branch], names).as_bytes())
+    pub fn obliterate(&mut self, branch: &Name, patches: &[Name]) -> Result<u64, Error> {
+        self.write(command("obliterate", &[branch], patches).as_bytes())
     }
 
-    /// A view of the repository as it is now. It takes a count, whatever the repository holds.
+    /// A view of the repository as it is now. That takes a count, however large the repository is.
     pub fn view(&mut self) -> Result<View, Error> {
         Ok(View(self.0.look()?))
     }
 
-    /// A script that gives the repository back: it can be asked of a new one.
+    /// The accepted calls, in their order.
+    pub fn history(&mut self) -> Result<Vec<AcceptedCall>, Error> {
+        run(self, "history\n")?.read("history", |_, lines| {
+            lines.map(AcceptedCall::read).collect()
+        })
+    }
+
+    /// A script that gives the repository back, by [`load`](Repository::load).
     pub fn keep(&mut self) -> Result<Vec<u8>, Error> {
-        let answer = self.ask("keep\n")?.checked()?;
-        let (_, lines) = answer.counted("keep")?;
-        Ok(lines
-            .into_iter()
-            .flat_map(|line| [line, b"\n"].concat())
-            .collect())
+        run(self, "keep\n")?.read("keep", |_, lines| {
+            let script = lines.0.to_vec();
+            lines.by_ref().for_each(drop);
+            Some(script)
+        })
     }
 
-    /// Asks a text that may have bytes of any kind in the lines of its edits.
-    pub fn ask_bytes(&mut self, text: &[u8]) -> Result<Answer, Error> {
-        self.0.ask(text)?;
-        Ok(Answer::new(self.0.answer()?))
-    }
-
-    // The number that tells that a call was accepted.
-    fn call(&mut self, text: &[u8]) -> Result<u64, Error> {
-        let answer = self.ask_bytes(text)?.checked()?;
-        let (number, _) = answer.counted("ok")?;
-        Ok(number)
+    fn write(&mut self, text: &[u8]) -> Result<u64, Error> {
+        run(self, text)?.read("ok", |number, _| Some(number))
     }
 }
 
 impl Questions for Repository {
-    fn ask(&mut self, text: &str) -> Result<Answer, Error> {
-        self.ask_bytes(text.as_bytes())
+    fn ask(&mut self, text: impl AsRef<[u8]>) -> Result<Answer, Error> {
+        self.0.ask(text.as_ref()).map(Answer::new)
+    }
+
+    // Asks the command, which changed nothing, once more together with `why`.
+    fn cause(&mut self, command: &[u8]) -> String {
+        let Ok(answer) = self.ask([command, b"why\n"].concat()) else {
+            return String::new();
+        };
+        let text = answer.to_string();
+        let cause = text
+            .split_once("\nwhy ")
+            .and_then(|(_, rest)| rest.split_once('\n'));
+        cause.map_or_else(String::new, |(_, lines)| lines.to_owned())
     }
 }
 
@@ -96,19 +110,7 @@ impl View {
 }
 
 impl Questions for View {
-    fn ask(&mut self, text: &str) -> Result<Answer, Error> {
-        self.0.ask(text.as_bytes())?;
-        Ok(Answer::new(self.0.answer()?))
+    fn ask(&mut self, text: impl AsRef<[u8]>) -> Result<Answer, Error> {
+        self.0.ask(text.as_ref()).map(Answer::new)
     }
-}
-
-// A command of branches and patches.
-fn command(word: &str, branches: &[&Name], names: &[Name]) -> String {
-    let mut text = word.to_owned();
-    for name in branches.iter().copied().chain(names) {
-        text.push(' ');
-        text.push_str(name.as_str());
-    }
-    text.push('\n');
-    text
 }

@@ -1,6 +1,5 @@
-use crate::answers::{number, words, Answer};
-use crate::errors::Error;
-use crate::names::{FilePath, Line};
+use crate::answers::{number, Lines};
+use crate::names::{read_path, FilePath, Line};
 use std::collections::BTreeMap;
 use std::fmt;
 
@@ -19,29 +18,17 @@ impl Tree {
             .map(Vec::as_slice)
     }
 
-    // The tree that an answer tells.
-    pub(crate) fn read(answer: &Answer) -> Result<Tree, Error> {
-        let (count, lines) = answer.counted("tree")?;
-        let mut rest = lines.into_iter();
-        let mut files = BTreeMap::new();
-        for _ in 0..count {
-            let (path, lines) = read_file(&mut rest).ok_or_else(|| answer.unexpected())?;
-            files.insert(path, lines);
-        }
-        Ok(Tree { files })
-    }
-}
-
-// A file: `file PATH LINES`, and its lines, each behind `=`.
-fn read_file<'a>(rest: &mut impl Iterator<Item = &'a [u8]>) -> Option<(FilePath, Vec<Line>)> {
-    match words(rest.next()?).as_slice() {
-        [b"file", path, count] => {
-            let path = FilePath::new(std::str::from_utf8(path).ok()?).ok()?;
-            let lines =
-                (0..number(count)?).map(|_| Line::new(rest.next()?.strip_prefix(b"=")?).ok());
-            Some((path, lines.collect::<Option<Vec<Line>>>()?))
-        }
-        _ => None,
+    // So many files: `file PATH LINES`, and the lines after `=`.
+    pub(crate) fn read(count: u64, lines: &mut Lines) -> Option<Tree> {
+        let file = |_| match lines.words()?.as_slice() {
+            [b"file", path, count] => {
+                let read = lines.signed(number(count)?, b"=")?;
+                Some((read_path(path)?, read))
+            }
+            _ => None,
+        };
+        let files = (0..count).map(file).collect::<Option<BTreeMap<_, _>>>()?;
+        Some(Tree { files })
     }
 }
 

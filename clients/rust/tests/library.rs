@@ -1,8 +1,8 @@
-//! The crate over the library.
+//! The crate over the library: values, texts, errors, views and threads. calls.rs has the table of calls.
 
 use camp::{
-    Change, Conflict, Error, Fault, FilePath, Line, Name, Part, Place, Questions, Refusal,
-    Repository, Side, View,
+    Change, Conflict, Error, Fault, FilePath, Hunk, HunkSide, Line, Name, Part, Questions, Refusal,
+    Repository, View,
 };
 use std::thread;
 
@@ -10,160 +10,109 @@ fn name(text: &str) -> Name {
     Name::new(text).unwrap()
 }
 
-fn edit(line: u32, old: &[&str], new: &[&str]) -> Change {
-    Change::edit("f", line, old, new).unwrap()
+fn path(text: &str) -> FilePath {
+    FilePath::new(text).unwrap()
+}
+
+fn lines(texts: &[&str]) -> Vec<Line> {
+    texts.iter().map(|text| Line::new(*text).unwrap()).collect()
+}
+
+fn edit(old: &[&str], new: &[&str]) -> Change {
+    Change::edit("f", 1, old, new).unwrap()
 }
 
 // main has f with the line `one`, which main's `english` and other's `german` replace.
 fn two_branches() -> Repository {
+    let (main, other) = (name("main"), name("other"));
     let mut repository = Repository::new().unwrap();
-    let start = [Change::add("f").unwrap(), edit(1, &[], &["one"])];
+    let start = [Change::add("f").unwrap(), edit(&[], &["one"])];
+    assert_eq!(repository.record(&main, &name("start"), &start), Ok(1));
+    assert_eq!(repository.branch(&other, &main), Ok(2));
+    let (english, german) = (edit(&["one"], &["first"]), edit(&["one"], &["erstens"]));
     assert_eq!(
-        repository.record(&name("main"), &name("start"), &start),
-        Ok(1)
-    );
-    assert_eq!(repository.branch(&name("other"), &name("main")), Ok(2));
-    assert_eq!(
-        repository.record(
-            &name("main"),
-            &name("english"),
-            &[edit(1, &["one"], &["first"])]
-        ),
+        repository.record(&main, &name("english"), &[english]),
         Ok(3)
     );
-    assert_eq!(
-        repository.record(
-            &name("other"),
-            &name("german"),
-            &[edit(1, &["one"], &["erstens"])]
-        ),
-        Ok(4)
-    );
+    assert_eq!(repository.record(&other, &name("german"), &[german]), Ok(4));
     repository
 }
 
 #[test]
-fn a_conflict_is_pulled_and_settled() {
+fn a_conflict_is_seen_and_resolved() {
+    let (main, english, german) = (name("main"), name("english"), name("german"));
     let mut repository = two_branches();
-    assert_eq!(repository.pull(&name("other"), &name("main")), Ok(5));
-    assert_eq!(
-        repository.conflicts(&name("main")),
-        Ok(vec![(name("english"), name("german"))])
-    );
-    assert_eq!(
-        repository.tree(&name("main")).unwrap().lines("f"),
-        Some(&[Line::new("one").unwrap()][..])
-    );
-    let both = edit(1, &["one"], &["both"]);
-    assert_eq!(
-        repository.record(&name("main"), &name("decided"), &[both]),
-        Ok(6)
-    );
-    assert_eq!(repository.conflicts(&name("main")).unwrap().len(), 1);
-    let line = Line::new("both").unwrap();
-    assert_eq!(
-        repository.tree(&name("main")).unwrap().lines("f"),
-        Some(&[line][..])
-    );
-    let all = ["start", "english", "german", "decided"].map(name);
-    assert_eq!(repository.names(&name("main")), Ok(all.to_vec()));
-}
-
-#[test]
-fn a_conflict_has_sides() {
-    let mut repository = two_branches();
-    assert_eq!(repository.pull(&name("other"), &name("main")), Ok(5));
-    let side = |patch: &str, line: &str| Side {
-        name: name(patch),
-        changes: vec![edit(1, &["one"], &[line])],
-    };
+    let mut before = repository.view().unwrap();
+    assert_eq!(repository.pull(&name("other"), &main), Ok(5));
     let conflict = Conflict {
-        left: side("english", "first"),
-        right: side("german", "erstens"),
+        left: english.clone(),
+        right: german.clone(),
+    };
+    assert_eq!(repository.open(&main), Ok(vec![conflict]));
+    let sides = vec![
+        HunkSide {
+            name: english,
+            lines: lines(&["first"]),
+        },
+        HunkSide {
+            name: german.clone(),
+            lines: lines(&["erstens"]),
+        },
+    ];
+    let hunk = Hunk {
+        lines: lines(&["one"]),
+        sides,
     };
     assert_eq!(
-        repository.open_conflicts(&name("main")),
-        Ok(vec![conflict.clone()])
+        repository.view().unwrap().marks(&main, &path("f")),
+        Ok(Some(vec![Part::Hunk(hunk)]))
     );
-    let lines = |text: &str| vec![Line::new(text).unwrap()];
-    let place = Place {
-        lines: lines("one"),
-        sides: vec![
-            (name("english"), lines("first")),
-            (name("german"), lines("erstens")),
-        ],
-    };
-    let path = FilePath::new("f").unwrap();
+    let side = repository.side(&main, &german).unwrap();
+    assert_eq!(side, [edit(&["one"], &["erstens"])]);
+    assert_eq!(repository.record(&main, &name("decided"), &side), Ok(6));
+    assert_eq!(repository.open(&main), Ok(vec![]));
     assert_eq!(
-        repository.view().unwrap().marks(&name("main"), &path),
-        Ok(Some(vec![Part::Place(place)]))
+        repository.tree(&main).unwrap().lines("f"),
+        Some(&lines(&["erstens"])[..])
     );
-    let none = FilePath::new("g").unwrap();
-    assert_eq!(repository.marks(&name("main"), &none), Ok(None));
-    assert_eq!(
-        repository.record(&name("main"), &name("decided"), &conflict.right.changes),
-        Ok(6)
-    );
-    assert_eq!(repository.open_conflicts(&name("main")), Ok(vec![]));
-    let line = Line::new("erstens").unwrap();
-    assert_eq!(
-        repository.marks(&name("main"), &path),
-        Ok(Some(vec![Part::Line(line.clone())]))
-    );
-    assert_eq!(
-        repository.side(&name("main"), &name("none")),
-        Err(Error::Refused(Refusal::NoPatch(name("none"))))
-    );
-    assert_eq!(
-        repository.tree(&name("main")).unwrap().lines("f"),
-        Some(&[line][..])
-    );
+    assert_eq!(before.file(&main, &path("f")), Ok(Some(lines(&["first"]))));
 }
 
 #[test]
-fn what_is_refused_is_an_enum() {
+fn a_refusal_has_its_names_and_its_cause() {
     let mut repository = two_branches();
-    let refused = |result: Result<u64, Error>, refusal: Refusal| {
-        assert_eq!(result, Err(Error::Refused(refusal)))
-    };
-    let (main, other, none) = (name("main"), name("other"), name("none"));
-    refused(
-        repository.branch(&name("x"), &none),
-        Refusal::NoBranch(none.clone()),
-    );
-    refused(
-        repository.branch(&main, &other),
-        Refusal::BranchExists(main.clone()),
-    );
-    refused(
-        repository.record(&main, &name("german"), &[Change::add("g").unwrap()]),
-        Refusal::PatchExists(name("german")),
-    );
-    refused(
-        repository.obliterate(&main, std::slice::from_ref(&none)),
-        Refusal::NoPatch(none.clone()),
-    );
-    refused(
-        repository.pull_some(&other, &main, &[name("start")]),
-        Refusal::NothingToDo,
-    );
-    refused(
-        repository.record(&main, &name("y"), &[Change::remove("f").unwrap()]),
-        Refusal::DoesNotApply,
-    );
-    let stands = Refusal::StandsOn {
+    let error = repository
+        .obliterate(&name("main"), &[name("start")])
+        .unwrap_err();
+    let depends = Refusal::Depends {
         patch: name("english"),
         on: name("start"),
     };
-    refused(repository.obliterate(&main, &[name("start")]), stands);
-    refused(
-        repository.pull(&main, &main),
-        Refusal::SameBranch(main.clone()),
+    assert_eq!(error.refusal(), Some(&depends));
+    assert_eq!(error.to_string(), "refused: english depends on start");
+    let Error::Refused(refused) = error else {
+        panic!()
+    };
+    assert!(
+        refused
+            .why
+            .starts_with("refused 11 english start\n>obliterate main start\n"),
+        "{}",
+        refused.why
     );
+    let error = repository
+        .view()
+        .unwrap()
+        .needs(&name("main"), &[name("german")])
+        .unwrap_err();
+    let Error::Refused(refused) = error else {
+        panic!()
+    };
     assert_eq!(
-        repository.tree(&none).unwrap_err().to_string(),
-        "refused: there is no branch none"
+        (refused.refusal, refused.why.as_str()),
+        (Refusal::NoPatch(name("german")), "")
     );
+    assert_eq!(repository.names(&name("main")).unwrap().len(), 2);
 }
 
 #[test]
@@ -178,39 +127,40 @@ fn texts_are_asked_and_answered() {
     );
     assert_eq!(answer.lines().count(), 3);
     assert_eq!(repository.ask("").unwrap().lines().count(), 0);
-    let fault = Fault {
-        line: 2,
-        kind: "bad group".to_owned(),
+    let error = repository
+        .record(&name("main"), &name("a"), &[])
+        .unwrap_err();
+    let Error::Fault(Fault { line, kind, why }) = error else {
+        panic!()
     };
-    assert_eq!(
-        repository.record(&name("main"), &name("a"), &[]),
-        Err(Error::Fault(fault))
-    );
+    assert_eq!((line, kind.as_str()), (2, "bad group"));
+    assert!(why.starts_with("fault 2 bad group\n"), "{why}");
     let bytes = repository
-        .ask_bytes(b"record main a group\nadd f\nedit f 1\n+\xff\x00\r\nend\ndone\n")
+        .ask(b"record main a group\nadd f\nedit f 1\n+\xff\x00\r\nend\ndone\n")
         .unwrap();
     assert_eq!(bytes.as_bytes(), b"ok 1\n");
     let line = Line::new(&b"\xff\x00\r"[..]).unwrap();
     assert_eq!(
-        repository.tree(&name("main")).unwrap().lines("f"),
-        Some(&[line][..])
+        repository.file(&name("main"), &path("f")),
+        Ok(Some(vec![line]))
     );
 }
 
 #[test]
-fn a_text_keeps_a_repository() {
+fn a_script_keeps_a_repository() {
     let mut repository = two_branches();
     repository.pull(&name("other"), &name("main")).unwrap();
     let kept = repository.keep().unwrap();
-    let mut again = Repository::new().unwrap();
-    assert_eq!(
-        again.ask_bytes(&kept).unwrap().as_bytes(),
-        b"ok 1\nok 2\nok 3\nok 4\nok 5\n"
-    );
-    for branch in ["main", "other"].map(name) {
-        assert_eq!(again.tree(&branch), repository.tree(&branch));
-        assert_eq!(again.conflicts(&branch), repository.conflicts(&branch));
-    }
+    let mut again = Repository::load(&kept).unwrap();
+    assert_eq!(again.keep().unwrap(), kept);
+    assert_eq!(again.open(&name("main")), repository.open(&name("main")));
+    let refused = Repository::load("branch a none\n").err().unwrap();
+    assert_eq!(refused.refusal(), Some(&Refusal::NoBranch(name("none"))));
+    assert!(matches!(Repository::load("what\n"), Err(Error::Fault(_))));
+    assert!(matches!(
+        Repository::load("branches\n"),
+        Err(Error::Unexpected(_))
+    ));
 }
 
 #[test]
@@ -220,15 +170,12 @@ fn words_are_checked() {
         assert!(Name::new(text).is_err(), "{text}");
     }
     assert!(Name::new(&long[1..]).is_ok() && Name::new("0-").is_ok());
-    for path in ["", "/a", "a/", "a//b", ".", "a/../b", "a b", "a\n", "ä"] {
-        assert!(Change::add(path).is_err(), "{path}");
+    for text in ["", "/a", "a/", "a//b", ".", "a/../b", "a b", "a\n", "ä"] {
+        assert!(Change::add(text).is_err(), "{text}");
     }
     assert!(Change::add("a/b.c/..d").is_ok());
-    assert!(
-        Line::new("a\nb").is_err()
-            && Line::new("x".repeat(4097)).is_err()
-            && Line::new("x".repeat(4096)).is_ok()
-    );
+    assert!(Line::new("a\nb").is_err() && Line::new("x".repeat(4097)).is_err());
+    assert!(Line::new("x".repeat(4096)).is_ok());
 }
 
 #[test]
@@ -246,15 +193,8 @@ fn views_go_to_threads() {
                 assert_eq!(view.names(&name("main")).unwrap().len(), count);
                 assert_eq!(again.tree(&name("main")).unwrap().files.len(), count);
             }
-            let fault = Fault {
-                line: 1,
-                kind: "not asked of a view".to_owned(),
-            };
             let answer = view.ask("record main x add x\n").unwrap();
-            assert_eq!(
-                answer.to_string(),
-                format!("fault {} {}\n", fault.line, fault.kind)
-            );
+            assert_eq!(answer.as_bytes(), b"fault 1 not asked of a view\n");
         }));
         let (patch, file) = (name(&format!("p{count}")), format!("f{count}"));
         repository
