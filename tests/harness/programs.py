@@ -57,3 +57,8 @@ def end(process):
         except (subprocess.TimeoutExpired, ProcessLookupError):
             process.kill()
     process.wait()
+
+
+def is_plain(program):
+    """Whether a program was proved and has no run-time checks, which take an address space that no limit leaves room for."""
+    return run(limited([program], v=1_000_000), b"").returncode == 0
