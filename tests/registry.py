@@ -21,22 +21,23 @@ class Test:
         self.gate_words = list(getattr(self.module, "GATE_WORDS", []))
         self.run = self.module.run
 
-    def is_named(self, name):
-        return self.name == name or self.name.startswith(f"{name}/")
+
+def names():
+    paths = sorted(glob.glob(f"{HERE}/*/*.py"))
+    found = [os.path.relpath(it, HERE)[: -len(".py")] for it in paths if not it.endswith("__init__.py")]
+    return [it for it in found if not it.startswith("harness/")]
 
 
 def all_tests():
-    paths = sorted(glob.glob(f"{HERE}/*/*.py"))
-    names = [os.path.relpath(it, HERE)[: -len(".py")] for it in paths if not it.endswith("__init__.py")]
-    return [Test(it) for it in names if not it.startswith("harness/")]
+    return [Test(it) for it in names()]
 
 
-def named(names):
-    """The tests of some names or folders, in this order; None where a name is of none."""
-    tests, found = all_tests(), []
-    for name in names:
-        some = [it for it in tests if it.is_named(name.rstrip("/").replace("tests/", "", 1))]
+def named(words):
+    """The tests of some names or folders, in this order; None where a word is the name of none."""
+    found = []
+    for word in (it.rstrip("/").replace("tests/", "", 1) for it in words):
+        some = [it for it in names() if it == word or it.startswith(f"{word}/")]
         if not some:
             return None
         found += [it for it in some if it not in found]
-    return found
+    return [Test(it) for it in found]

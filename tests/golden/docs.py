@@ -1,8 +1,7 @@
-#!/usr/bin/env python3
-"""Runs the sessions of the documents and compares what comes with what the page shows. Also checks that each link of a page
-leads to a file, and to a heading of it, and that the pictures are what their scripts draw (docs/pictures/*.py --check).
+"""The sessions of the documents write what the page shows; each link leads to a file and a heading; pictures are as drawn.
 
-A session is a fenced block of one of two kinds, in README.md, docs/, examples/, clients/ and crates/*/README.md:
+Words: pages; none: README.md, docs/ and the READMEs of examples/, clients/ and crates/, and the pictures of docs/pictures/*.py.
+A session is a fenced block of one of two kinds:
 
 ```console   Each line `$ COMMAND` is a command for bash; the lines below it, up to the next one, are what it writes to
              standard output and standard error. A command goes on over a `\\` at its end, and over a here-document. A line
@@ -12,10 +11,6 @@ A session is a fenced block of one of two kinds, in README.md, docs/, examples/,
 ```camp      Commands of `camp_shell`; the lines that begin with `#` are its answers. (It skips such lines as comments, so
              that a whole block can be pasted.) All blocks of a page are one conversation. An answer `ok NUMBER`
              may be left out. A block "```camp new" starts another conversation.
-
-SHELL_CAMP and CAMP name the two programs; without them those of ./build, of crates/*/out, or of ./play, are taken. A page whose
-session needs a program that is not there is skipped, and named. With arguments, runs only these pages.
-Prints what differs, and one line; the exit status is 0 where nothing does.
 """
 
 import glob
@@ -25,18 +20,13 @@ import subprocess
 import sys
 import tempfile
 
-TOP = os.path.abspath(os.path.join(os.path.dirname(__file__), "../.."))
+from tests.harness import programs
+from tests.harness.paths import TOP
+
+SECONDS, GATE = 20, "after"
 BLOCK = re.compile(r"^```(console|camp)( new)?\n(.*?)^```$", re.M | re.S)
 ANY_BLOCK = re.compile(r"^```.*?^```$", re.M | re.S)
 MARK = "== end of command "
-
-
-def program(variable, *places):
-    """The path of a program, or None."""
-    for path in [os.environ.get(variable, ""), *(f"{TOP}/{place}" for place in places)]:
-        if path and os.access(path, os.X_OK):
-            return os.path.abspath(path)
-    return None
 
 
 def commands_of(block):
@@ -164,8 +154,8 @@ def check_pictures():
     return sum(subprocess.run([sys.executable, it, "--check"]).returncode != 0 for it in scripts)
 
 
-def check_page(page, shell, camp, path):
-    """How many sessions and commands of a page there are, how many differ, and whether some were skipped."""
+def check_page(page, shell, path):
+    """How many sessions and commands of a page there are, and how many differ."""
     with open(f"{TOP}/{page}", encoding="utf-8") as it:
         found = BLOCK.findall(it.read())
     consoles = [text for kind, _, text in found if kind == "console"]
@@ -174,38 +164,24 @@ def check_page(page, shell, camp, path):
         if new or not conversations:
             conversations.append("")
         conversations[-1] += text
-    needs_shell = conversations or any("camp_shell" in it for it in consoles)
-    needs_camp = any(re.search(r"\bcamp( |$)(?!store)", it, re.M) and "$ camp " in it for it in consoles)
-    if (needs_shell and not shell) or (needs_camp and not camp):
-        return len(found), 0, 1
     wrong = check_console(page, consoles, path) if consoles else 0
     wrong += sum(check_conversation(page, it, shell) for it in conversations)
-    return len(found), wrong, 0
+    return len(found), wrong
 
 
-def main(pages):
-    shell = program("SHELL_CAMP", "out/bin/camp_shell", "crates/camp_shell/out/camp_shell", "out/play/camp_shell")
-    camp = program("CAMP", "out/bin/camp", "crates/camp/out/camp", "out/play/camp")
-    os.chdir(TOP)
+def run(test, pages):
+    shell, camp = programs.path("camp_shell"), programs.path("camp")
     all_pages = not pages
     pages = pages or sorted([*glob.glob("*.md"), *glob.glob("docs/*.md"), "examples/README.md",
                              *glob.glob("clients/**/README.md", recursive=True), *glob.glob("crates/*/README.md")])
-    blocks = 0
     wrong = sum(check_links(it) for it in pages) + (check_pictures() if all_pages else 0)
-    skipped = []
     with tempfile.TemporaryDirectory(prefix="docs-bin-") as folder:
         for name, target in (("camp_shell", shell), ("camp", camp)):
-            if target:
-                os.symlink(target, f"{folder}/{name}")
+            os.symlink(target, f"{folder}/{name}")
         for page in pages:
-            count, bad, left = check_page(page, shell, camp, f"{folder}:{os.environ['PATH']}")
-            blocks, wrong = blocks + count, wrong + bad
-            skipped += [page] * left
-    for page in skipped:
-        print(f"docs: {page}: skipped, since a program of its session is not built")
-    print(f"docs: {blocks} blocks, {wrong} that differ, {len(skipped)} pages skipped")
-    return 1 if wrong or not blocks else 0
-
-
-if __name__ == "__main__":
-    sys.exit(main(sys.argv[1:]))
+            count, bad = check_page(page, shell, f"{folder}:{os.environ['PATH']}")
+            wrong += bad
+            test.count("blocks", count)
+    test.count("pages", len(pages))
+    if wrong:
+        test.fail(f"{wrong} sessions, links or pictures differ")

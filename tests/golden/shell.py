@@ -12,7 +12,6 @@ from tests.harness.conversation import ask
 from tests.harness.paths import DATA, EXAMPLES, TOP, read, read_text
 
 SECONDS, GATE = 10, "after"
-LONGEST = 1_048_576
 
 
 class Shell:
@@ -57,11 +56,12 @@ def example(shell, name):
 
 
 def page(shell, name, commands, answers):
-    """A page of docs/ has the commands of its example after four blanks, and after eight the answers, but for the first ones,
+    """A page of docs/ has the commands of its example in its blocks `camp`, and after # the answers, but for the first ones,
     which are only `ok`."""
-    lines = read(f"{TOP}/docs/{name}.md").splitlines(keepends=True)
-    shell.report.expect(f"the commands of docs/{name}.md", b"".join(it[4:] for it in lines if re.match(rb"    \S", it)), commands)
-    shown = b"".join(it[8:] for it in lines if it.startswith(b"        "))
+    blocks = re.findall(rb"^```camp\n(.*?)^```$", read(f"{TOP}/docs/{name}.md"), re.M | re.S)
+    lines = b"".join(blocks).splitlines(keepends=True)
+    shell.report.expect(f"the commands of docs/{name}.md", b"".join(it for it in lines if not it.startswith(b"#")), commands)
+    shown = b"".join(it[2:] for it in lines if it.startswith(b"# "))
     if not (answers.endswith(shown) and re.fullmatch(rb"(ok \d+\n)*", answers[: len(answers) - len(shown)])):
         shell.report.fail(f"the answers of docs/{name}.md are not those of its example")
 
@@ -137,103 +137,21 @@ def load(shell, lines, folder):
 
 
 def lines(shell):
-    long_lines(shell)
+    """The conversations of tests/data/long_lines: those of one line with another one after it, and without LF."""
+    for title, _, commands, answers in golden.cases("long_lines"):
+        is_line = commands.count(b"\n") == 1
+        shell.expect(title, commands + b"names x\n" * is_line, answers + b"refused 4 x\n" * is_line)
+        if is_line:
+            shell.expect(f"{title}, without LF", commands[:-1], answers)
+        shell.report.count("long conversations")
     endless_line(shell)
-    limits(shell)
-    long_causes(shell)
-
-
-def long_lines(shell):
-    """Lines of the most bytes that one may have, and of more: what follows them is answered as ever."""
-    names = b"pull main x" + b" a" * ((LONGEST - 11) // 2) + b" "
-    edit, group = b"record main b edit f 1\n", b"record main b group\nadd f\n"
-    unknown = b"fault 1 unknown command\n"
-    cases = [
-        (names[:LONGEST], b"refused 4 x\n"),
-        (names[:LONGEST] + b"a", unknown),
-        (b" " * LONGEST, b""),
-        (b" " * (LONGEST + 1), unknown),
-        (b"#" * (3 * LONGEST), b""),
-        (b"names main" + b" " * (LONGEST - 10), b"names 0\n"),
-        (b"help" + b" " * LONGEST, unknown),
-        (b"x" * (20 * LONGEST), unknown),
-        (edit + b"+" + b"x" * (2 * LONGEST) + b"\n+one\nend", b"fault 2 bad line\n"),
-        (edit + b"*" + b"x" * (2 * LONGEST) + b"\n+one\nend", b"fault 2 bad edit\n"),
-        (edit + b"+one\nend" + b" " * (2 * LONGEST) + b"\nend", b"fault 3 bad edit\n"),
-        (group + b"# " + b"x" * (2 * LONGEST) + b"\ndone", b"ok 1\n"),
-        (group + b"add g" + b" " * (2 * LONGEST) + b"\ndone", b"fault 3 bad group\n"),
-        (group + b"done" + b" " * (2 * LONGEST) + b"\nadd g\ndone", b"fault 3 bad group\n"),
-    ]
-    for commands, wanted in cases:
-        what = f"{commands[:30]!r}, {len(commands)} bytes"
-        shell.expect(what, commands + b"\nnames x\n", wanted + b"refused 4 x\n")
-        if b"\n" not in commands:
-            shell.expect(f"{what}, without LF", commands, wanted)
-        shell.report.count("long lines")
 
 
 def endless_line(shell):
     """A line that does not end, in an address space without room for it."""
     words = programs.limited(["sh", "-c", 'head -c 400000000 /dev/zero | "$0"', shell.program], v=65536)
     shell.report.expect_run("a line of 400 MB", programs.run(words), b"fault 1 unknown command\n")
-    shell.report.count("long lines")
-
-
-def limits(shell):
-    """What `why` says of each limit of a repository."""
-    group = lambda at, count: b"record main p%d group\n" % at + b"".join(b"add f%d-%d\n" % (at, it) for it in range(count)) + b"done\n"
-    edit = lambda count: b"+\n" * count + b"end\n"
-    full = b"".join(group(at, 64) for at in range(64))
-    start = b"record main start add notes\n"
-    long_file = start + b"".join(b"record main e%d edit notes 1\n" % at + edit(62_500) for at in range(16))
-    anna = b"branch anna main\nrecord anna one add one\nrecord anna two group\nadd two\nadd three\ndone\n" + full
-    hint = b"Record in a branch with fewer changes, or take patches out of this one by obliterate.\n"
-    pull_hint = b"Pull fewer patches, or take patches out of TO by obliterate.\n"
-    cases = [
-        (b"".join(b"branch b%d main\n" % at for at in range(255)) + b"branch more main\n", b"branch more main",
-         b"FROM is main.\nThere are 256 branches, and 256 is the most.\nRecord in one of the branches that there are.\n"),
-        (full + b"record main more add notes\n", b"record main more add notes",
-         b"BRANCH is main.\nThe branch has 4096 changes, and the patch 1 more: 4096 is the most.\n" + hint),
-        (group(99, 60) + full, b"record main p63 group",
-         b"BRANCH is main.\nThe branch has 4092 changes, and the patch 64 more: 4096 is the most.\n" + hint),
-        (anna + b"pull anna main\n", b"pull anna main",
-         b"FROM is anna, and TO is main.\nTO has 4096 changes, and the pull brings 3 more: 4096 is the most.\n" + pull_hint),
-        (anna + b"pull anna main two two\n", b"pull anna main two two",
-         b"FROM is anna, and TO is main.\nTO has 4096 changes, and the pull brings 2 more: 4096 is the most.\n" + pull_hint),
-        (start + b"record main long group\nadd other\nedit notes 1\n" + edit(65_536) + b"done\n", b"record main long group",
-         b"BRANCH is main.\nChange 2, file notes: the edit has 0 old lines and 65536 new ones, and 65535 is the most of each.\nCut the edit in parts.\n"),
-        (long_file + b"record main more edit notes 1\n" + edit(1), b"record main more edit notes 1",
-         b"BRANCH is main.\nChange 1, file notes: it would have 1000001 lines, and 1000000 is the most.\nPut some of the lines into another file.\n"),
-    ]
-    for commands, line, cause in cases:
-        wanted = b"refused 9\n>%s\nrefused 9: a limit would be passed\n%s" % (line, cause)
-        wanted = b"refused 9\nwhy %d\n" % wanted.count(b"\n") + wanted
-        shell.report.expect(f"why, of {cause!r}", shell.answer(commands + b"why\n")[-len(wanted) :], wanted)
-        shell.report.count("causes of long commands")
-
-
-def long_causes(shell):
-    """What `why` shows of a line that is longer than one may be, and of one that is as long as it is shown."""
-    rule = (b"A line begins with a command; a record says BRANCH, NAME, and then add, remove, edit or group:\n"
-            b"help tells all. A name has no blank. A line of a body stands only behind an edit whose first\n"
-            b"line has no fault. A line of more than 1048576 bytes is no command.\n")
-    body_rule = b"A line of a body has 4096 bytes at most behind its sign. Cut it in two.\n"
-    edit_rule = b"A body has old lines, each behind -, then new ones, each behind +, one at least in\nall, and then a line that is just end.\n"
-    more = b"Its first 200 bytes are shown, and it has more.\n"
-    cut = b"It has 4098 bytes, the second is ?: a line of more than 1048576 bytes is read like that.\n"
-    head = b"record main a edit f 1\n"
-    cases = [
-        (b"names " + b"x" * 1_048_571, b"1 unknown command", b"n?mes " + b"x" * 194, cut + rule),
-        (b"n?mes " + b"x" * 4092, b"1 unknown command", b"n?mes " + b"x" * 194, cut + rule),
-        (b"n?mes " + b"x" * 4091, b"1 unknown command", b"n?mes " + b"x" * 194, rule),
-        (head + b"+" + b"x" * 1_048_576 + b"\nend", b"2 bad line", b"+?" + b"x" * 198, cut + body_rule),
-        (head + b"+" + b"x" * 1_048_575 + b"\nend", b"2 bad line", b"+x" + b"x" * 198, body_rule),
-        (head + b"x" * 1_048_577 + b"\nend", b"2 bad edit", b"x?" + b"x" * 198, cut + edit_rule),
-    ]
-    for commands, fault, line, cause in cases:
-        told = b"fault %s\n>%s\n%s%s" % (fault, line, more, cause)
-        shell.expect(f"why, of {commands[-60:]!r}", commands + b"\nwhy\n", b"fault %s\nwhy %d\n%s" % (fault, told.count(b"\n"), told))
-        shell.report.count("causes of long commands")
+    shell.report.count("long conversations")
 
 
 def peers(shell):

@@ -6,12 +6,26 @@ from tests.harness.paths import DATA, read, read_text
 
 ESCAPE = re.compile(rb"\\(x[0-9a-fA-F]{1,2}|[0-7]{1,4}|.)", re.S)
 LETTERS = {b"n": b"\n", b"r": b"\r", b"t": b"\t", b"v": b"\v", b"f": b"\f", b"a": b"\a", b"b": b"\b", b"\\": b"\\", b'"': b'"'}
+REPETITION = re.compile(rb"\\\{(?:(\d+)\.\.)?(\d+) ")
 
 
 def unescape(text):
-    """The bytes of a text with the escapes of printf; `\\c` at the end of a line leaves out its LF."""
-    plain = text.encode().replace(b"\\c\n", b"")
-    return ESCAPE.sub(lambda it: escaped(it[1]), plain)
+    """The bytes of a text with the escapes of printf; `\\c` at the end of a line leaves out its LF. `\\{COUNT TEXT}` repeats a text,
+    and so does `\\{FIRST..LAST TEXT}`, where each # is the number; in a repetition within another one each @ is."""
+    return expanded(text.encode().replace(b"\\c\n", b""), b"#")
+
+
+def expanded(text, counter):
+    found = REPETITION.search(text)
+    if not found:
+        return ESCAPE.sub(lambda it: escaped(it[1]), text)
+    end, depth = found.end(), 1
+    while depth:
+        depth += 1 if text.startswith(b"\\{", end) else -1 if text[end : end + 1] == b"}" else 0
+        end += 1
+    inner, first, last = expanded(text[found.end() : end - 1], b"@"), found[1], int(found[2])
+    repeated = inner * last if first is None else b"".join(inner.replace(counter, b"%d" % it) for it in range(int(first), last + 1))
+    return expanded(text[: found.start()], counter) + repeated + expanded(text[end:], counter)
 
 
 def escaped(code):

@@ -15,7 +15,8 @@ JOBS = int(os.environ.get("JOBS", 0)) or len(os.sched_getaffinity(0))
 
 def path(crate):
     """The program of a crate: the file that the environment variable of its name gives (CAMP, CAMP_SHELL, WORKED); else the
-    proved one in the tree that CAMP_TREE names, or in this one, unless a source is newer; else one that is built without proofs, once."""
+    proved one in the tree that CAMP_TREE names, or of this one (as a check or ./build left it), unless a source is newer; else
+    one that is built without proofs, once."""
     named = os.environ.get(crate.upper())
     if named:
         return os.path.abspath(named)
@@ -23,6 +24,8 @@ def path(crate):
     proved = f"{tree or TOP}/crates/{crate}/out/{crate}"
     if tree or unproved.is_newer(proved):
         return proved
+    if unproved.is_newer(f"{TOP}/out/bin/{crate}"):
+        return f"{TOP}/out/bin/{crate}"
     return unproved.program(crate)
 
 
@@ -57,3 +60,8 @@ def end(process):
         except (subprocess.TimeoutExpired, ProcessLookupError):
             process.kill()
     process.wait()
+
+
+def is_plain(program):
+    """Whether a program was proved and has no run-time checks, which take an address space that no limit leaves room for."""
+    return run(limited([program], v=1_000_000), b"").returncode == 0

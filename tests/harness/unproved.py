@@ -2,7 +2,7 @@
 
 The kit's `rt try` compiles a program with run-time checks, runs it once, and removes it: it has no flag to keep it. So
 `build` gives it a folder for temporary files, makes a hard link to the program as soon as the linker has put it there,
-and lets `rt try` come to its end. What it is given on standard input keeps the program running for some seconds, which is
+and lets `rt try` come to its end. What it is given on standard input keeps the program running for a second or more, which is
 many looks at that folder. The last line of `rt try` then says that the program ran to its end; if no link was made, or
 the line is another one, the build fails with what `rt try` said: a kit that works in another way is noticed at once.
 """
@@ -23,9 +23,12 @@ from tests.harness.paths import TOP, read
 FOLDER = f"{TOP}/out/unproved"
 # Seconds between two looks at the folder, and of two looks at the processes of `rt try` one each so many.
 PAUSE, LOOKS = 0.02, 50
-# What keeps each program running for a while: commands that its input repeats.
-BUSY = {"camp_shell": b"tree main\n" * 400_000, "camp": b"tree main\n" * 400_000}
-ENDED = re.compile(rb"^run=ended status=\d+ .*proved=no$", re.M)
+# What keeps a program running for a second or more: commands that its input repeats; or where an allocation fails, a comment that is
+# read in pieces. Other programs are given the file `stdin` of their crate.
+BUSY = {"camp_shell": b"tree main\n" * 60_000, "camp": b"tree main\n" * 60_000}
+BUSY_WITH_FAULT = {"camp_shell": b"#" * 100_000_000 + b"\n"}
+# The last line of `rt try` where the program ran.
+RAN = re.compile(rb"^(?:run=(?!none)|calls=).*proved=no$", re.M)
 
 
 def program(crate, fail_alloc=None, tell=None):
@@ -51,12 +54,17 @@ def is_newer(path):
 def build(crate, path, words=(), tell=None):
     """Builds the program of a crate's folder as a file; `tell` is called with the seconds that it takes, again and again."""
     name = os.path.basename(crate)
-    busy = BUSY[name] if name in BUSY else read(f"{crate}/stdin")
+    busy = (BUSY_WITH_FAULT if words else BUSY).get(name) or read(f"{crate}/stdin")
+    new, started = path + ".new", time.time()
+    with contextlib.suppress(FileNotFoundError):
+        os.remove(new)
     with tempfile.TemporaryDirectory(prefix="unproved-", dir=os.path.dirname(path)) as folder:
-        status, _, said = try_crate(crate, words, busy, folder, path + ".new", tell)
-    if not os.path.exists(path + ".new") or not ENDED.search(said):
+        status, _, said = try_crate(crate, words, busy, folder, new, tell)
+    if not os.path.exists(new) or not RAN.search(said):
         sys.exit(f"{said[-4000:].decode(errors='replace')}\n{name}: rt try left no program (status {status}): see tests/harness/unproved.py")
-    os.replace(path + ".new", path)
+    # A source that was changed meanwhile is newer.
+    os.utime(new, (started, started))
+    os.replace(new, path)
 
 
 def try_crate(crate, words=(), given=b"", folder=None, link=None, tell=None):
@@ -102,3 +110,25 @@ def spare_processors(process):
             else:
                 with open(f"/proc/{child}/autogroup", "w", encoding="ascii") as file:
                     file.write(str(os.nice(0)))
+
+
+class Steps:
+    """Says every ten seconds that a build goes on."""
+
+    def __init__(self, crate):
+        self.crate, self.said = crate, -10.0
+
+    def __call__(self, seconds):
+        if seconds < self.said + 10:
+            return
+        if self.said < 0:
+            print(f"Building {self.crate} without proofs, once: some 100 seconds where the machine has nothing else to do.")
+        self.said = seconds
+        print(f"  {seconds:3.0f} s: {'compiling' if seconds < 150 else 'still compiling: the machine is busy'}", flush=True)
+
+
+if __name__ == "__main__":
+    try:
+        program(sys.argv[1], tell=Steps(sys.argv[1]))
+    except KeyboardInterrupt:
+        sys.exit("stopped")

@@ -1,0 +1,191 @@
+"""git reads each exported branch as camp has it: commits, parents and trees; it finds no fault, and what it cannot hold is refused.
+
+Words: FILE ..: these scripts, or those in these folders; --random FIRST LAST: random scripts; none: examples/ and 50 random ones.
+Each branch is exported by `camp_shell --export` into `git fast-import`.
+"""
+
+import os
+import shutil
+import tempfile
+from concurrent.futures import ThreadPoolExecutor
+
+from tests.harness import programs
+from tests.harness.conversation import responses
+from tests.harness.paths import EXAMPLES, read, write
+from tests.harness.scripts import script_of
+
+SECONDS, GATE = 14, "after"
+# A branch of so many copies is asked in one conversation.
+STEP = 60
+
+
+def run(report, words):
+    if shutil.which("git") is None:
+        return report.skip("git is not here")
+    program = programs.path("camp_shell")
+    with ThreadPoolExecutor(programs.JOBS) as pool:
+        list(pool.map(lambda it: Export(report, program, it[0]).try_script(it[1]), scripts(words)))
+
+
+def scripts(words):
+    if words[:1] == ["--random"]:
+        return random_scripts(int(words[1]), int(words[2]))
+    if words:
+        return of_files(words)
+    files = [f"{EXAMPLES}/{it}" for it in sorted(os.listdir(EXAMPLES)) if it.endswith((".camp", ".talk"))]
+    return [*of_files(files), *random_scripts(1, 50)]
+
+
+def random_scripts(first, last):
+    return ((f"random {seed}", script_of(seed)) for seed in range(first, last + 1))
+
+
+def of_files(names):
+    for name in names:
+        if os.path.isdir(name):
+            yield from of_files(f"{name}/{it}" for it in sorted(os.listdir(name)))
+        else:
+            yield name, read(name)
+
+
+class Repository:
+    """A repository of git, and its commits."""
+
+    def __init__(self, folder):
+        os.mkdir(folder)
+        self.folder = folder
+        self.git("init", "--quiet", "--bare")
+
+    def git(self, *words, given=b""):
+        return programs.run(["git", "-C", self.folder, *words], given)
+
+    def commits(self, branch):
+        """The commits of a branch, the oldest first: each its name, its parents, its committer and its message."""
+        log = self.git("log", "--reverse", "--format=%H%x01%P%x01%cn <%ce> %cd%x01%B%x00", "--date=raw", branch)
+        return [entry.lstrip(b"\n").split(b"\x01") for entry in log.stdout.split(b"\0")[:-1]]
+
+    def tree(self, commit):
+        """The files of a commit: each path with its content; all are plain ones."""
+        paths, wanted = [], b""
+        for entry in self.git("ls-tree", "-r", "-z", commit.decode()).stdout.split(b"\0")[:-1]:
+            told, path = entry.split(b"\t", 1)
+            mode, kind, name = told.split()
+            assert (mode, kind) == (b"100644", b"blob"), entry
+            paths.append(path)
+            wanted += name + b"\n"
+        found, at, tree = self.git("cat-file", "--batch", given=wanted).stdout, 0, {}
+        for path in paths:
+            end = found.index(b"\n", at)
+            size = int(found[at:end].split()[2])
+            tree[path] = found[end + 1 : end + 1 + size]
+            at = end + size + 2
+        return tree
+
+
+def tree_of(lines):
+    """The files of a response to `tree`: each path with its content."""
+    files, at = {}, 0
+    while at < len(lines):
+        _, path, count = lines[at].split()
+        files[path] = b"".join(line[1:] + b"\n" for line in lines[at + 1 : at + 1 + int(count)])
+        at += 1 + int(count)
+    return files
+
+
+def unheld(files):
+    """The paths that git cannot hold."""
+    folders = {path[:at] for path in files for at in range(len(path)) if path[at : at + 1] == b"/"}
+    return {path for path in files if path in folders or b".git" in path.lower().split(b"/")}
+
+
+class Export:
+    """A script, and the exports of its branches."""
+
+    def __init__(self, report, program, name):
+        self.report, self.program, self.name, self.kept = report, program, name, None
+
+    def ask(self, commands):
+        """The responses of a conversation over the script's repository."""
+        done = programs.run([self.program, "--load", self.kept], b"".join(it + b"\n" for it in commands))
+        found = responses(done.stdout)
+        assert (done.returncode, len(found)) == (0, len(commands)), (self.name, done.stderr, len(found))
+        return found
+
+    def try_script(self, script):
+        """The script may have faults and refusals: what is kept of a conversation is loaded then."""
+        with tempfile.TemporaryDirectory(prefix="git-") as folder:
+            done = programs.run([self.program], script + b"\nend\ndone\nbranches\nkeep\n")
+            branches, kept = last_two(done.stdout)
+            self.kept = f"{folder}/kept"
+            write(self.kept, b"".join(line + b"\n" for line in kept))
+            repository = Repository(f"{folder}/repository")
+            names = [lines for _, lines in self.ask([b"names " + it for it in branches])]
+            for branch, patches in zip(branches, names):
+                fault = self.fault_of(repository, branch, patches)
+                if fault:
+                    self.report.fail(f"{self.name}: {branch.decode()}: {fault}")
+            self.check(repository)
+            self.report.count("scripts")
+
+    def check(self, repository):
+        head = repository.git("for-each-ref", "--count=1", "--format=%(refname)").stdout.decode().strip()
+        if head:
+            repository.git("symbolic-ref", "HEAD", head)
+            self.report.expect_run(f"{self.name}: git fsck", repository.git("fsck", "--strict", "--no-progress"), b"")
+
+    def trees_of_prefixes(self, branch, names):
+        """The tree of a branch up to each of its patches: those after it are taken out of a copy."""
+        trees = []
+        for first in range(0, len(names), STEP):
+            commands = []
+            for at in range(first, min(first + STEP, len(names))):
+                copy, after = b"git-%d" % at, names[at + 1 :]
+                commands.append(b"branch %s %s" % (copy, branch))
+                commands += [b"obliterate %s %s" % (copy, b" ".join(after))] if after else []
+                commands.append(b"tree " + copy)
+            found = self.ask(commands)
+            assert {words[0] for words, _ in found} <= {b"ok", b"tree"}, found
+            trees += [tree_of(lines) for words, lines in found if words[0] == b"tree"]
+        return trees
+
+    def fault_of(self, repository, branch, names):
+        """What is wrong with the export of a branch, or None."""
+        trees = self.trees_of_prefixes(branch, names)
+        done = programs.run([self.program, "--load", self.kept, "--export", branch.decode()])
+        bad = [at for at, tree in enumerate(trees) if unheld(tree)]
+        if bad:
+            wanted = [b"camp_shell: %s: git can't hold %s\n" % (names[bad[0]], path) for path in unheld(trees[bad[0]])]
+            is_refused = done.returncode == 1 and not done.stdout and done.stderr in wanted
+            return None if is_refused else f"not refused: {done.returncode} {done.stderr!r}"
+        if done.returncode or done.stderr:
+            return f"status {done.returncode}, {done.stderr!r}"
+        if not names:
+            return "a stream of no patch" if done.stdout else None
+        taken = repository.git("fast-import", "--quiet", given=done.stdout)
+        if taken.returncode or taken.stderr:
+            return f"git does not take it: {taken.stderr[:200]!r}"
+        return self.compare(repository, repository.commits(branch.decode()), names, trees)
+
+    def compare(self, repository, commits, names, trees):
+        if [commit[3] for commit in commits] != [name + b"\n" for name in names]:
+            return f"other commits: {[commit[3] for commit in commits]} in place of {names}"
+        before = b""
+        for commit, name, tree in zip(commits, names, trees):
+            if commit[1] != before or commit[2] != b"camp <camp> 0 +0000":
+                return f"{name}: parent {commit[1]}, committer {commit[2]}"
+            if repository.tree(commit[0]) != tree:
+                return f"{name}: another tree"
+            before = commit[0]
+        self.report.count("commits", len(commits))
+        return None
+
+
+def last_two(text):
+    """The lines of the last two responses of a conversation, to `branches` and `keep`."""
+    lines = text.split(b"\n")[:-1]
+    found = []
+    for word in (b"keep", b"branches"):
+        at = next(at for at in range(len(lines)) if lines[at] == b"%s %d" % (word, len(lines) - at - 1))
+        found.insert(0, lines[at + 1 :])
+        del lines[at:]
+    return found

@@ -1,0 +1,80 @@
+"""An operation makes as many allocations as crates/worked/allocations says, on a small value and on a large one.
+
+What two tables allocate, one without the operation and one with it, differs by what it allocates; the program with a failing
+allocation tells how many it can still make after a table.
+"""
+
+import subprocess
+from concurrent.futures import ThreadPoolExecutor
+
+from tests.harness import programs
+from tests.harness.paths import WORKED, read_text
+from tests.harness.worked import REFUSED, failing_program
+
+SECONDS, GATE = 4, "after"
+
+
+class Row:
+    """Two lines, each after those that stand before both, for a value of a size; and how much more the second one allocates."""
+
+    def __init__(self, before, size, without, operation, count):
+        self.title, self.count = f"{operation} of {size}", count
+        texts = [filled("\n".join([*before, it, ""]), size) for it in (without, operation)]
+        # A comment makes both equally long, so that they are read into as much memory.
+        length = max(map(len, texts))
+        self.tables = [b"table x\n#" + b"." * (length - len(it)) + b"\n" + it for it in texts]
+
+
+def rows_of(text):
+    before, sizes = [], []
+    for line in text.splitlines():
+        if line.startswith("sizes "):
+            before, sizes = [], line.split()[1:]
+        elif line.startswith("< "):
+            before.append(line[2:])
+        elif line and not line.startswith("#"):
+            counts, without, operation = line.split(" | ")
+            assert len(counts.split()) == len(sizes), line
+            for size, count in zip(sizes, counts.split()):
+                yield Row(before, int(size), without, operation, int(count))
+
+
+def filled(text, size):
+    """The text with what its words in capitals mean for a size."""
+    name = lambda at: f"f{1_000_000 + at}"
+    words = {
+        "RECORDS": "\n".join(f"0 record main {name(at)} add {name(at)}" for at in range(size)),
+        "FILES": ", ".join(f"{name(at)}: []" for at in range(size)),
+        "LINES": ", ".join(["line"] * size),
+        "FILE": name(size // 2),
+        "LAST": name(size - 1),
+        "HALF": str(size // 2),
+        "NEXT": str(size // 2 + 1),
+        "BEHIND": str(size + 1),
+        "SIZE": str(size),
+    }
+    for word, meaning in words.items():
+        text = text.replace(word, meaning)
+    return text.encode()
+
+
+def allocations_left(program, table):
+    """How many allocations can be made after the table, and the answer of its last line."""
+    done = programs.run([program, str(REFUSED)], table, stderr=subprocess.DEVNULL)
+    *_, answer, left = done.stdout.decode(errors="replace").splitlines()
+    return (int(left.split()[1]) if done.returncode == 0 else None), answer
+
+
+def count_of(program, row):
+    """How much more the second line allocates, where it does something and nothing was refused; else its answer."""
+    (without, _), (rest, answer) = (allocations_left(program, it) for it in row.tables)
+    is_done = None not in (without, rest) and answer.startswith(("= made", "ok ", "refused 4", "accepted "))
+    return without - rest if is_done else answer
+
+
+def run(report, words):
+    program, rows = failing_program(), list(rows_of(read_text(f"{WORKED}/allocations")))
+    with ThreadPoolExecutor(programs.JOBS) as pool:
+        for row, count in zip(rows, pool.map(lambda it: count_of(program, it), rows)):
+            report.expect(row.title, count, row.count)
+            report.count("operations")

@@ -1,0 +1,181 @@
+"""A store has the documented bytes: each kind of call, frames, prompts, exports and refused words; 300,000 calls are reopened.
+
+Words: whole, forms, pieces, long name parts; all: cuts the input of `pieces` at each byte.
+"""
+
+import os
+import selectors
+import subprocess
+import tempfile
+import time
+
+from tests.harness import programs
+from tests.harness.paths import read, write
+from tests.harness.store import TITLE, Store, calls, digest_of, encode, long_script, oks
+
+SECONDS, GATE = 20, "after"
+
+
+def run(report, words):
+    parts = {"whole": whole, "forms": forms, "pieces": pieces, "long": long}
+    for name in [it for it in words if it in parts] or parts:
+        with tempfile.TemporaryDirectory(prefix="store-") as folder:
+            parts[name](Store(report, folder, "all" in words))
+            report.count("parts")
+
+
+def whole(store):
+    """A file byte for byte, with each kind of call; it is opened again, checked, and made of a file that is loaded."""
+    path, expect = store.path("whole"), store.expect
+    commands = [
+        b"record main a add f\n",
+        b"record main b edit f 1\n+one\nend\n",
+        b"branch x main\n",
+        b"record x q group\nadd g\nedit g 1\n+two\nend\ndone\n",
+        b"pull x main q\n",
+        b"obliterate main b\n",
+    ]
+    asked = commands[0] + b"# a note\n" + b"tree main\nrecord main a add h\nnonsense\n" + b"".join(commands[1:])
+    answers = b"ok 1\ntree 1\nfile f 0\nrefused 6 a\nfault 5 unknown command\n" + oks(6, 2)
+    store.report.expect_run("each kind of call", store.run(path, asked), answers)
+    expect("file", read(path), encode([TITLE, *commands]))
+    expect("files beside it", os.listdir(store.folder), ["whole"])
+    text = b"".join(commands)
+    expect("keep", store.run(path, b"keep\nhistory\n").stdout.split(b"history")[0], b"keep %d\n%s" % (text.count(b"\n"), text))
+    expect("file after questions", read(path), encode([TITLE, *commands]))
+    texts = [TITLE, *commands]
+    wanted = b"calls 6\nbytes %d\ndigest %s\nend whole\n" % (len(encode(texts)), digest_of(texts).hex().encode())
+    store.report.expect_run("check", programs.run([store.program, "--check-store", path]), wanted)
+    load, other = store.path("load"), store.path("other")
+    write(load, b"".join(calls(3)))
+    expect("load", store.run(other, b"record main z add z\n", ("--load", load)).stdout, b"ok 4\n")
+    expect("loaded", read(other), encode([TITLE, *calls(3), b"record main z add z\n"]))
+
+
+def framed(*parts):
+    return b"".join(b"%d\n%s" % (len(part), part) for part in parts)
+
+
+def forms(store):
+    """Frames, prompts, exports and loaded files over a store, ends that fail, and words that do not go together."""
+    path = store.path("store")
+    frames(store, path)
+    prompts_and_exports(store, path)
+    failing_ends(store, path)
+    refused_words(store, path)
+
+
+def frames(store, path):
+    asked = (b"".join(calls(2)), b"", b"names main\n", b"record main p0 add g\nrecord main p2 add f2\n")
+    answers = framed(b"ok 1\nok 2\n", b"", b"names 2\np0\np1\n", b"refused 6 p0\nok 3\n")
+    store.report.expect_run("frames", store.run(path, framed(*asked), ("--frames",)), answers)
+    store.expect("frames", read(path), encode([TITLE, *calls(3)]))
+    # A request that is cut off is not executed; those before it are durable.
+    done = store.run(path, framed(calls(1, 3)[0]) + b"40\nrecord main", ("--frames",))
+    store.expect("a request that is cut off", (done.returncode, done.stdout, store.check(path)), (1, framed(b"ok 4\n"), 4))
+
+
+def prompts_and_exports(store, path):
+    done = store.run(path, calls(1, 4)[0] + b"quit\n", ("--prompt",))
+    store.expect("prompts", (done.returncode, done.stdout.split(b"\n", 1)[1], store.check(path)), (0, b"camp> ok 5\ncamp> ", 5))
+    text = store.path("text")
+    write(text, b"".join(calls(5)))
+    wanted = programs.run([store.program, "--load", text, "--export", "main"]).stdout
+    store.expect("export", store.run(path, b"", ("--export", "main")).stdout, wanted)
+    store.expect("export of no branch", store.run(path, b"", ("--export", "none")).returncode, 1)
+
+
+def failing_ends(store, path):
+    """A load that has a refusal, an input that fails and an output that fails: what the file has then."""
+    text, content = store.path("text"), read(path)
+    write(text, calls(1, 5)[0] + calls(1)[0])
+    done = store.run(path, calls(1, 9)[0], ("--load", text))
+    store.expect("a load that is refused", (done.returncode, done.stdout, read(path)), (1, b"", content))
+    source = os.open(store.folder, os.O_RDONLY)
+    store.expect("an input that fails", (store.run(path, stdin=source).returncode, read(path)), (3, content))
+    os.close(source)
+    with open("/dev/full", "wb") as full:
+        done = store.run(path, calls(1, 5)[0], stdout=full)
+    store.expect("an output that fails: the call is durable", (done.returncode, store.check(path)), (3, 6))
+
+
+def refused_words(store, path):
+    text, second = store.path("text"), store.path("second")
+    check = ("--check-store", path)
+    for words in ((*check, "--store", path), (*check, "--frames"), (*check, "--prompt"), (*check, "--load", text), ("--store",), ("--store", path, "--store", path)):
+        done = programs.run([store.program, *words], stdin=subprocess.DEVNULL)
+        store.expect(f"{words}", (done.returncode, done.stdout), (2, b""))
+    os.link(path, second)
+    for words in (("--store", store.folder), ("--check-store", store.folder), ("--store", "/dev/full"), ("--check-store", "/dev/full"), ("--store", second)):
+        done = programs.run([store.program, *words], stdin=subprocess.DEVNULL)
+        store.expect(f"{words}", (done.returncode, done.stderr), (3, b"camp_shell: %s: no plain file of one name\n" % words[1].encode()))
+    os.remove(second)
+    store.expect("files beside it", sorted(os.listdir(store.folder)), ["store", "text"])
+
+
+def pieces(store):
+    """Commands come in two pieces, cut at each byte: no answer is buffered while the second one is awaited."""
+    commands = [
+        b"record main a add f\n",
+        b"# a note on an edit of a group\n",
+        b"\n",
+        b"record main b edit f 1\n+one\nend\n",
+        b"record main q group\nadd g\nedit g 1\n+done\n+end\nend\ndone\n",
+        b"record main edit add group\n",
+        b"record main r edit f 1\nnonsense\nend\n",
+        b"record main s group\nadd g\nnonsense\ndone\n",
+        b"names main\n",
+    ]
+    text, answers = b"".join(commands), [b"ok 1\n", b"", b"", b"ok 2\n", b"ok 3\n", b"ok 4\n"]
+    found = programs.run([store.program], text).stdout
+    rest = found[len(b"".join(answers)) :]
+    fault = rest.index(b"fault", 1)
+    answers += [rest[:fault], rest[fault : rest.index(b"names")], rest[rest.index(b"names") :]]
+    store.expect("answers", found, b"".join(answers))
+    for cut in range(0, len(text) + 1, 1 if store.is_all else 4):
+        ready = sum(1 for n in range(1, len(commands) + 1) if len(b"".join(commands[:n])) <= cut)
+        two_pieces(store, text, cut, b"".join(answers[:ready]), b"".join(answers))
+        store.count("cuts")
+
+
+def two_pieces(store, text, cut, ready, answers):
+    path = store.path(f"cut-{cut}")
+    peer = store.start(path)
+    programs.send(peer, text[:cut])
+    found = read_until(peer.stdout, len(ready))
+    store.expect(f"cut at {cut}", found, ready)
+    store.expect(f"cut at {cut}, and the rest", found + peer.communicate(text[cut:])[0], answers)
+    os.remove(path)
+
+
+def read_until(stream, size):
+    """So many bytes of a pipe; fewer where they have not come in the time after which a program counts as hanging."""
+    found, until = b"", time.time() + programs.TIMEOUT
+    with selectors.DefaultSelector() as selector:
+        selector.register(stream, selectors.EVENT_READ)
+        while len(found) < size and selector.select(max(0, until - time.time())):
+            piece = os.read(stream.fileno(), size - len(found))
+            if not piece:
+                break
+            found += piece
+    return found
+
+
+def long(store):
+    """Stores of many calls, made in a pipe and opened again; their seconds."""
+    for number in (65536, 300000):
+        path, load, what = store.path(f"long-{number}"), store.path("text"), f"{number} calls"
+        text = b"".join(long_script(number))
+        write(load, text)
+        seconds = []
+        for step in (
+            lambda: programs.run([store.program, "--load", load]),
+            lambda: store.expect(what, store.run(path, text).stdout, oks(number)),
+            lambda: store.expect(what, (store.check(path), os.path.getsize(path)), (number, 27 + 13 + len(text) + 27 * number + 1)),
+            lambda: store.expect(what, store.run(path, b"branch last main\n").stdout, b"ok %d\n" % (number + 1)),
+        ):
+            started = time.time()
+            step()
+            seconds.append(time.time() - started)
+        store.report.note("{}: loaded in {:.2f} s, stored in {:.2f} s, checked in {:.2f} s, reopened in {:.2f} s".format(what, *seconds))
+        os.remove(path)

@@ -1,0 +1,123 @@
+"""Mutants for the prover: wrong bodies of crates/NAME/must-fail/*.edit and crates/NAME/planted.edits, and how they are applied.
+
+A file of must-fail/ is one mutant: lines `file:`, and pairs of lines `old:` and `new:`. In planted.edits each mutant stands after a
+line `edit: FUNCTION-what_is_wrong`, with an empty line between two.
+"""
+
+import glob
+import os
+import re
+
+from tests.harness.paths import read_text
+
+FUNCTION = re.compile(r"^\s*(?:pub(?:\([a-z]+\))?\s+)?(?:const\s+)?(?:unsafe\s+)?(?:extern\s+\"\w+\"\s+)?fn\s+(\w+)")
+# Functions that `derive` writes, each with the trait that it writes them for.
+DERIVED = {"clone": "Clone", "cmp": "Ord", "eq": "PartialEq", "fmt": "Debug", "partial_cmp": "PartialOrd"}
+# An impl of a type's own methods, on one line.
+IMPL = re.compile(r"impl(?:<.*?>)? (\w+)(?:<.*>)? {$")
+
+
+def mutants_of(crate, is_all):
+    """The mutants of a crate's folder by name: those of must-fail/, and if `is_all` the planted ones; each its name and text."""
+    found = [(os.path.basename(it)[: -len(".edit")], read_text(it)) for it in glob.glob(f"{crate}/must-fail/*.edit")]
+    if is_all:
+        found += [(os.path.basename(it)[: -len(".edit")], read_text(it)) for it in glob.glob(f"{crate}/planted/*.edit")]
+    if is_all and os.path.exists(f"{crate}/planted.edits"):
+        found += [tuple(it.split("\n", 1)) for it in re.split(r"^edit: ", read_text(f"{crate}/planted.edits"), flags=re.M)[1:]]
+    return sorted(found)
+
+
+def pairs_of(text):
+    """The replacements of a mutant: file, old text, new text; and the lines that belong to none."""
+    pairs, strays, file, old = [], [], None, None
+    for line in text.splitlines():
+        word, _, rest = line.partition(":")
+        if line.startswith("file: "):
+            file = rest.strip()
+        elif line.startswith("old: "):
+            old = rest[1:]
+        elif line.startswith("new:"):
+            pairs.append((file, old, rest[1:]))
+        elif line:
+            strays.append(line)
+    return pairs, strays
+
+
+def times_in(text, part):
+    """The occurrences of a part, which may overlap, as those of `aa` in `aaa`."""
+    return len(re.findall(f"(?={re.escape(part)})", text)) if part else 0
+
+
+class Mutant:
+    """A mutant of a crate: its replacements, and the functions that it changes."""
+
+    def __init__(self, name, text, crate):
+        self.name, self.crate, self.functions, self.paths = name, crate, set(), {}
+        self.pairs, _ = pairs_of(text)
+        self.can_be_applied = self.applied_to({}) is not None
+        function = name.partition("-")[0]
+        # The functions that a check is asked for.
+        self.asked = {self.paths[function]} if function in self.paths else set(self.paths.values())
+
+    def applied_to(self, texts):
+        """The texts with this mutant applied, by their files; None where an old text does not stand in its file once."""
+        texts = dict(texts)
+        for file, old, new in self.pairs:
+            if file not in texts:
+                texts[file] = read_text(f"{self.crate}/{file}")
+            if old is None or texts[file].count(old) != 1:
+                return None
+            self.note_function(function_at(texts[file], texts[file].index(old)), file)
+            texts[file] = texts[file].replace(old, new)
+        return texts
+
+    def note_function(self, function, file):
+        """A check is asked for a function by its name where no other has it, and else with its type or its module."""
+        if not file.endswith(".rt"):
+            self.functions.add(file)
+        elif function:
+            self.functions.add(function)
+            texts = [read_text(it) for it in sources(self.crate)]
+            is_alone = sum(names_in(it).count(function) + is_derived(function, it) for it in texts) == 1
+            self.paths[function] = function if is_alone else path_of(function, file, self.crate)
+
+
+def sources(crate):
+    return glob.glob(f"{crate}/src/**/*.rt", recursive=True)
+
+
+def names_in(text):
+    return [it[1] for it in map(FUNCTION.match, text.splitlines()) if it]
+
+
+def is_derived(function, text):
+    return bool(function in DERIVED and re.search(rf"derive\(.*\b{DERIVED[function]}\b", text))
+
+
+def function_at(text, place):
+    """The function in which a place stands: the last one that begins at or before its line."""
+    end = text.find("\n", place)
+    return ([None] + names_in(text[: end if end >= 0 else None]))[-1]
+
+
+def path_of(function, file, crate):
+    """The function's path, if its file has one of its name and that is of no trait, and else the module's."""
+    owners = [owner for name, owner, _ in functions_in(read_text(f"{crate}/{file}")) if name == function]
+    module = "::".join(it for it in file[len("src/") : -len(".rt")].split("/") if it not in ("lib", "main", "mod"))
+    owner = owners[0] or module if len(owners) == 1 and owners[0] != "trait" else ""
+    return f"{owner}::{function}" if owner else module
+
+
+def functions_in(text):
+    """The functions of a file, each with the type whose impl has it, or "trait", or None, and its text up to the next one."""
+    found, owner = [], None
+    for line in text.splitlines():
+        name = FUNCTION.match(line)
+        if line[:1] not in ("", " "):
+            of_type = IMPL.match(line)
+            owner = of_type[1] if of_type else "trait" if line.startswith("impl") or "trait " in line else None
+        if name:
+            found.append((name[1], owner, ""))
+        if found:
+            found[-1] = (*found[-1][:2], found[-1][2] + line + "\n")
+    return found

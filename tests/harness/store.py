@@ -1,0 +1,72 @@
+"""A repository in a file: the program over it, the file byte for byte, and the calls that the tests ask."""
+
+import hashlib
+import os
+
+from tests.harness import programs
+
+TITLE = b"camp store 1\n"
+NO_STORE = "no store of camp"
+
+
+def chain(texts):
+    """The digest of each record: that of the one before it and its own text."""
+    digest = bytes(32)
+    for text in texts:
+        digest = hashlib.sha256(digest + text).digest()
+        yield text, digest
+
+
+def encode(texts):
+    """The file of these texts, as docs/store.md has it."""
+    return b"".join(b"=%08x %s\n%s" % (len(text), digest[:8].hex().encode(), text) for text, digest in chain(texts)) + b"~"
+
+
+def digest_of(texts):
+    return [digest for _, digest in chain(texts)][-1]
+
+
+def calls(number, first=0):
+    return [b"record main p%d add f%d\n" % (n, n) for n in range(first, first + number)]
+
+
+def oks(last, first=1):
+    return b"".join(b"ok %d\n" % n for n in range(first, last + 1))
+
+
+def long_script(number):
+    """So many calls, on several branches: a branch has 4,096 changes at most."""
+    found = []
+    while len(found) < number:
+        branch = len(found)
+        found.append(b"branch b%d main\n" % branch)
+        found.extend(b"record b%d p%d add f%d\n" % (branch, n, n) for n in range(branch, branch + 4000))
+    return found[:number]
+
+
+class Store:
+    """The program, the report of a test, a folder for its files, and whether all is tried that can be."""
+
+    def __init__(self, report, folder, is_all=False):
+        self.report, self.folder, self.is_all = report, folder, is_all
+        self.program = programs.path("camp_shell")
+        self.expect, self.count, self.fail = report.expect, report.count, report.fail
+
+    def path(self, name):
+        return os.path.join(self.folder, name)
+
+    def words(self, path, *words):
+        return [self.program, "--store", path, *words]
+
+    def run(self, path, commands=b"", words=(), **how):
+        return programs.run(self.words(path, *words), commands, **how)
+
+    def start(self, path, **how):
+        return programs.start(self.words(path), **how)
+
+    def check(self, path):
+        """The number of calls in a file, or the error why it is no store."""
+        done = programs.run([self.program, "--check-store", path])
+        if done.returncode == 0:
+            return int(done.stdout.split()[1])
+        return done.stderr.decode(errors="replace").strip()

@@ -1,0 +1,22 @@
+"""The tables of crates/worked, and its program with an allocation that fails."""
+
+from tests.harness import unproved
+from tests.harness.paths import WORKED, read
+
+# The number of the allocation that fails.
+REFUSED = 4_000
+
+
+def tables(name):
+    """The tables of crates/worked/stdin, or of stdout, by their names."""
+    found, table = {}, None
+    for line in read(f"{WORKED}/{name}").splitlines(keepends=True):
+        if line.startswith(b"table "):
+            table = line.split()[1].decode()
+        if table:
+            found[table] = found.get(table, b"") + line
+    return found
+
+
+def failing_program():
+    return unproved.program("worked", fail_alloc=REFUSED)

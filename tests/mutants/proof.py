@@ -1,0 +1,232 @@
+"""The prover refuses each mutant of a crate: a wrong body of must-fail/ or planted.edits (its contract is strong enough).
+
+Words: none: all mutants, on copies of the repository with what checks left in out/; CRATE or CRATE/NAME ..: those of the crate, or
+those whose names begin so; --over TREE: those of must-fail/, over the libraries that `rt ci` has built in TREE, as the gate does.
+
+The prover judges each function alone, so mutants of functions of different names stand in one copy, of which only these functions
+are checked, with those that they call. Where one that it calls is refused, a function is not judged, so what is not judged is tried
+again with what is left, and at last alone. In each check of many one of two other functions has to be proved as it stands.
+
+A mutant is refused; by a proof: only because a written proof names what it took away, which says little; let through: the crate is
+proved with it; or no mutant: it can't be applied, or doesn't reach the prover. The last two, and no proved function, are failures.
+"""
+
+import os
+import re
+import shutil
+import subprocess
+import tempfile
+from collections import Counter
+from concurrent.futures import ThreadPoolExecutor
+
+from tests.harness import programs
+from tests.harness.crates import below, uses_of
+from tests.harness.mutants import Mutant, function_at, functions_in, mutants_of, sources
+from tests.harness.paths import TOP, read_text, write_text
+from tests.harness.verdicts import VERDICT, errors_in, functions_with
+
+SECONDS, GATE = 540, "beside"
+# A call, or the function's own head.
+CALL = re.compile(r"(\w+)(?:::<.*?>|<.*?>)?\(")
+# Signs that call a function without its name.
+SIGNS = {"?": "from", "==": "eq", "!=": "eq", "for ": "next"}
+# What an error in a proof file says of a name that the mutant took away.
+NAMES_WHAT_IS_GONE = re.compile(r"(\./)?proofs/.*(has no field|is not in scope|has no `|was not admitted|that depends? on )")
+
+
+def run(report, words):
+    tree = os.path.abspath(words[1]) if words[:1] == ["--over"] else None
+    wanted = {}
+    for word in words[2:] if tree else words:
+        crate, _, begin = word.partition("/")
+        wanted.setdefault(crate, []).append(begin)
+    crates = {name: [it for it in mutants_of(f"{TOP}/crates/{name}", not tree) if it[0].startswith(tuple(begins))]
+              for name, begins in (wanted or {it: [""] for it in uses_of()}).items()}
+    crates = {name: some for name, some in crates.items() if some}
+    with ThreadPoolExecutor(programs.JOBS) as pool:
+        jobs = max(1, programs.JOBS // max(1, len(crates)))
+        names = sorted(crates, key=lambda it: -len(crates[it]))
+        list(pool.map(lambda name: try_crate(report, name, crates[name], tree, jobs), names))
+
+
+def try_crate(report, name, mutants, tree, jobs):
+    """Tries the mutants of a crate in a copy of it, over the tree's libraries, or in a copy of the repository."""
+    with tempfile.TemporaryDirectory(prefix="mutants-") as folder:
+        if tree:
+            shutil.copytree(f"{TOP}/crates/{name}", f"{folder}/{name}", ignore=shutil.ignore_patterns("out", "planted*"))
+            check = Check(f"{folder}/{name}", words_over(name, tree))
+        else:
+            copy_repository(folder)
+            check = Check(f"{folder}/crates/{name}", ["rt", "check", "--jobs", str(jobs)])
+        Trial(report, check, [Mutant(*it, check.crate) for it in mutants]).try_all()
+
+
+def copy_repository(folder):
+    """Copies the repository with what checks left in out/."""
+    listed = "git ls-files --cached --others --exclude-standard -z; find crates -path '*/out/*' -type f -print0"
+    words = f"({listed}) | tar --null --ignore-failed-read --files-from=- -cf - 2>/dev/null | tar -xf - -C '{folder}'"
+    subprocess.run(words, shell=True, cwd=TOP, check=True)
+
+
+def words_over(name, tree):
+    """The words of a check of a crate over the libraries that `rt ci` built in the tree."""
+    kit = os.path.dirname(subprocess.run(["rt", "doc"], cwd=tree, stdout=subprocess.PIPE, check=True).stdout.decode().strip())
+    uses = uses_of(tree)
+    rlib = lambda it: f"{tree}/crates/{it}/out/rlib/{it}.rlib" if it in uses else f"{kit}/rlibs/{it}.rlib"
+    words = [f"{kit}/bin/rattle", "check", "--crate-name", name, "src/lib.rt"]
+    words += ["--crate-type", "staticlib"] if f"{name} staticlib:" in read_text(f"{tree}/crates.txt") else []
+    for it in ["std", *uses[name]]:
+        words += ["--extern", f"{it}={rlib(it)}"]
+    for it in [f"{kit}/rlibs", *(os.path.dirname(rlib(it)) for it in sorted(below(name, uses)))]:
+        words += ["-L", f"dependency={it}"]
+    words += ["--antt-project", f"{kit}/rattle/logic/antt-project.json", "--logic-built", f"{kit}/logic_built"]
+    return [*words, "--jobs", "1", "--incremental", "kept"]
+
+
+class Check:
+    """Checks of a crate's folder, by a command."""
+
+    def __init__(self, crate, words):
+        self.crate, self.words = crate, words
+
+    def of(self, texts, functions=()):
+        """What a check prints with these texts in place of the crate's own: of some functions, or of the whole crate."""
+        own = {file: read_text(f"{self.crate}/{file}") for file in texts}
+        self.write(texts)
+        words = [*self.words, *(it for name in sorted(functions) for it in ("--only", name))]
+        how = {"stdin": subprocess.DEVNULL, "stdout": subprocess.PIPE, "stderr": subprocess.STDOUT}
+        printed = subprocess.run(words, cwd=self.crate, **how).stdout.decode(errors="replace")
+        self.write(own)
+        return printed
+
+    def write(self, texts):
+        for file, text in texts.items():
+            write_text(f"{self.crate}/{file}", text)
+
+
+class Batch:
+    """Mutants that stand in one copy: no two are in functions of one name, and two other functions are left as they stand."""
+
+    def __init__(self, controls):
+        self.controls, self.texts, self.functions, self.mutants = controls, {}, set(), []
+
+    def unchanged(self, functions):
+        """The first two functions from which none of these is reached, as far as names tell."""
+        return [name for name, reached in self.controls if not reached & functions][:2]
+
+    def take(self, mutant):
+        """Adds a mutant, unless it does not fit. The first one always does."""
+        functions = self.functions | mutant.functions
+        if self.mutants and (self.functions & mutant.functions or len(self.unchanged(functions)) < 2):
+            return False
+        texts = mutant.applied_to(self.texts)
+        if texts is None:
+            return False
+        self.texts, self.functions = texts, functions
+        self.mutants.append(mutant)
+        return True
+
+
+class Trial:
+    """The mutants of one crate, and the verdicts."""
+
+    def __init__(self, report, check, mutants):
+        self.report, self.check, self.mutants, self.verdicts, self.checks = report, check, mutants, {}, 0
+        self.name = os.path.basename(check.crate)
+
+    def try_all(self):
+        left = [it for it in self.mutants if it.can_be_applied]
+        left = self.try_together(left, controls_of(self.check.crate))
+        for mutant in left:
+            self.verdicts[mutant] = self.verdict_alone(mutant)
+        for mutant in self.mutants:
+            verdict = self.verdicts.get(mutant, "no mutant")
+            self.report.count(verdict)
+            if verdict == "by a proof":
+                self.report.note(f"{self.name} {mutant.name}: {verdict}")
+            elif verdict != "refused":
+                self.report.fail(f"{verdict}: {self.name} {mutant.name}")
+        counts = Counter(self.verdicts.values())
+        self.report.note(f"{self.name}: {len(self.mutants)} mutants, {counts['refused']} refused; {self.checks} checks of many, {len(left)} of one")
+
+    def try_together(self, left, controls):
+        """Tries mutants in batches, as long as a round judges some. Returns those that are left."""
+        while left:
+            batches = []
+            for mutant in left:
+                if not any(it.take(mutant) for it in batches):
+                    batches.append(Batch(controls))
+                    batches[-1].take(mutant)
+            for batch in batches:
+                self.try_batch(batch)
+            unjudged = [it for it in left if it not in self.verdicts]
+            if len(unjudged) == len(left):
+                break
+            left = unjudged
+        return left
+
+    def try_batch(self, batch):
+        unchanged = set(batch.unchanged(batch.functions))
+        if not unchanged:
+            return
+        printed = self.check.of(batch.texts, unchanged.union(*(it.asked for it in batch.mutants)))
+        self.checks += 1
+        if not unchanged & functions_with(printed, "proved"):
+            self.report.fail(f"{self.name}: {' or '.join(unchanged)} is not proved as it stands")
+        for mutant in batch.mutants:
+            verdict = verdict_of(mutant, batch.texts, printed)
+            if verdict:
+                self.verdicts[mutant] = verdict
+
+    def verdict_alone(self, mutant):
+        """What a check of the whole crate says of the mutant alone."""
+        printed = self.check.of(mutant.applied_to({}))
+        if "logic=proved" in printed:
+            return "let through"
+        if "logic=not-proved" not in printed or not VERDICT.search(printed):
+            return "no mutant"
+        errors = [it[0] for it in errors_in(printed)]
+        return by_errors(errors) if errors else "refused"
+
+
+def function_of(error, texts):
+    """The function that an error is about: of the source by its line, of a proof by its folder."""
+    if error[1].startswith("src/") and error[1] in texts:
+        return function_at(texts[error[1]], sum(len(it) + 1 for it in texts[error[1]].split("\n")[: int(error[2]) - 1]))
+    return os.path.basename(os.path.dirname(error[1]))
+
+
+def verdict_of(mutant, texts, printed):
+    """What the check of a batch says of one of its mutants; None where it says nothing."""
+    if mutant.functions & functions_with(printed, "no proof: expected"):
+        return "refused"
+    unproved = mutant.functions & functions_with(printed, "not proved")
+    errors = [it[0] for it in errors_in(printed) if function_of(it, texts) in unproved]
+    return by_errors(errors) if errors else None
+
+
+def by_errors(errors):
+    return "by a proof" if all(NAMES_WHAT_IS_GONE.match(it) for it in errors) else "refused"
+
+
+def controls_of(crate):
+    """Functions that a batch may leave as they stand, the shortest first, each with all names of functions that are reached from
+    it: those with a name of their own, of no trait, and with a body."""
+    known = [it for file in sources(crate) for it in functions_in(read_text(file))]
+    names = Counter(it[0] for it in known)
+    calls = {name: set() for name in names}
+    for name, _, text in known:
+        calls[name] |= {*CALL.findall(text), *(it for sign, it in SIGNS.items() if sign in text)} & set(names)
+    alone = [it for it in known if names[it[0]] == 1 and it[1] != "trait" and "{}" not in it[2]]
+    return [(name, reached(name, calls)) for name, _, _ in sorted(alone, key=lambda it: (len(it[2]), it[0]))]
+
+
+def reached(name, calls):
+    """The name, all that its function names, and those that these name."""
+    found, left = set(), [name]
+    while left:
+        it = left.pop()
+        if it not in found:
+            found.add(it)
+            left += calls[it]
+    return found
