@@ -1,19 +1,15 @@
 //! The gate: a hook at the steps of calls.
-/// Is notified of the steps of calls, and may wait there, as clients that run in turns do. It changes no
+/// Is notified of the steps of calls, and may wait at each of them, as clients that take turns do. It changes no
 /// reply. That it is notified of each step, and with which numbers, is only tested.
 pub trait Gate {
-    /// Called before a call of a seat, with the call's index and whether it writes.
-    fn before(&self, seat: u32, call: u32, writes: bool);
+    /// Called before a call of a seat, with the index of the call in its section, from 0.
+    fn before(&self, seat: u32, call: u32);
 
-    /// Called just before a compare-exchange, with the number that this call has lost so far.
+    /// Called just before each compare-exchange of a call, with the number that this call has lost so far.
     fn exchange(&self, seat: u32, lost: u32);
 
-    /// Called after a call.
+    /// Called after a call of a seat, with the index of the call.
     fn after(&self, seat: u32, call: u32);
-
-    /// Called after the last call of a seat, once the seat has published its snapshot. A caller that drives a
-    /// seat by hand need not call it.
-    fn end(&self, _seat: u32) {}
 }
 
 /// A gate that does nothing.
@@ -21,7 +17,7 @@ pub trait Gate {
 pub struct NoGate;
 
 impl Gate for NoGate {
-    fn before(&self, _seat: u32, _call: u32, _writes: bool) {}
+    fn before(&self, _seat: u32, _call: u32) {}
 
     fn exchange(&self, _seat: u32, _lost: u32) {}
 
