@@ -1,19 +1,17 @@
-#!/usr/bin/env python3
-"""Lists definitions of the specs that have one name in several crates: a name means one thing in the whole repository.
+"""No more names of definitions stand in several crates than are known: a name means one thing in the whole repository.
 
-Reads crates/*/specs/**/*.antt: `abbrev`, `record` and `data`, and functions that have a signature of their own. Fields
-of records, constructors and re-exports (`pub use`) are no definitions. Prints each name with the files that define it,
-and a line of counts; the exit status is 0 where no name is listed. Takes a second.
+Words: list, to print each such name with the files that define it. Reads crates/*/specs/**/*.antt: `abbrev`, `record`
+and `data`, and functions that have a signature of their own. Fields of records, constructors and re-exports (`pub use`)
+are no definitions.
 """
 
 import glob
-import os
 import re
-import sys
 from collections import defaultdict
 
-# Names that may stand in several crates, each with its reason.
-ALLOWED = {}
+SECONDS, GATE = 1, "before"
+# How many names stand in several crates today. The number only goes down.
+KNOWN = 88
 
 DEFINITION = re.compile(r"^(?P<indent> *)(?:(?:abbrev pub|pub abbrev|abbrev|pub record|record|pub data|data|pub) )(?P<name>[^\s:{(,]+)")
 BLOCK = re.compile(r"^(?P<indent> *)(?:pub )?(?:record|data) ")
@@ -40,20 +38,16 @@ def definitions(path):
     return names
 
 
-def main():
-    os.chdir(os.path.join(os.path.dirname(os.path.abspath(__file__)), "..", ".."))
+def run(report, words):
     places = defaultdict(lambda: defaultdict(list))
-    total = 0
     for path in sorted(glob.glob("crates/*/specs/**/*.antt", recursive=True)):
         crate = path.split("/")[1]
         for name in definitions(path):
-            total += 1
+            report.count("definitions")
             places[name][crate].append(path)
-    shared = {it: crates for it, crates in places.items() if len(crates) > 1 and it not in ALLOWED}
-    for name, crates in sorted(shared.items()):
-        print(f"definitions: {name}: {' '.join(path for paths in crates.values() for path in paths)}")
-    print(f"definitions: {total}, {len(shared)} names in several crates")
-    return 1 if shared or not total else 0
-
-
-sys.exit(main())
+    shared = {name: crates for name, crates in places.items() if len(crates) > 1}
+    if "list" in words:
+        for name, crates in sorted(shared.items()):
+            report.note(f"{name}: {' '.join(path for paths in crates.values() for path in paths)}")
+    report.expect("at most as many names in several crates as are known", len(shared) <= KNOWN, True)
+    report.note(f"{len(shared)} names stand in several crates")
