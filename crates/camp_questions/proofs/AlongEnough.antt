@@ -122,7 +122,7 @@ none_goes false decision goes = goes
 
 goes : (state : Contents) (from to : List ℕ) (names told : List (List ℕ)) (theirs ours : List Catch) → Has state from theirs → Has state to ours → from ≢ to → first_lacked theirs names ≡ None → ComesAlong theirs ours names told → Goes (step state (call.Pull from to (Some told)))
 goes state from to names told theirs ours is_from is_to two none comes =
-    rw is_from (rw is_to (rw (names_differ from to two) (rw (none_left theirs ours names told none comes) (none_goes (is_empty (wanted ours told)) _ (full_goes (is_full_with ours theirs (wanted ours told)) _ (becomes_goes state to (pulled theirs ours (wanted ours told)) (is_free theirs ours names told none comes)))))))
+    rw is_from (rw is_to (rw (names_differ from to two) (rw (none_left theirs ours names told none comes) (none_goes (is_empty (wanted ours told)) _ (full_goes (is_full_with state.limits.catches ours theirs (wanted ours told)) _ (becomes_goes state to (pulled theirs ours (wanted ours told)) (is_free theirs ours names told none comes)))))))
 
 pub along_is_enough : AlongIsEnough
 along_is_enough state from to names told w =

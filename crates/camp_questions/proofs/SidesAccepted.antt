@@ -31,13 +31,13 @@ module _ (state : Contents) (branch new_name : List ℕ) (catches : List Catch) 
   led_from c from = record_leads state branch (c ++ recorded new_name 1 changes) (changed changes from)
 
   by_size_of : List Catch → Decision
-  by_size_of c = refused_if (is_too_large c changes) TooLarge (option_map_or (led_from c) (tree_of c) (refused DoesNotApply))
+  by_size_of c = refused_if (is_too_large state.limits.catches c changes) TooLarge (option_map_or (led_from c) (tree_of c) (refused DoesNotApply))
 
   goes_on : List Catch → Decision
   goes_on c = refused_if (stands state.branches new_name) (PatchExists new_name) (by_size_of c)
 
   -- what the record comes to, by its size and by what its changes lead to
-  comes_to : (large : Bool) (led : Result Files Refusal) → is_too_large catches changes ≡ large → changed changes tree ≡ led
+  comes_to : (large : Bool) (led : Result Files Refusal) → is_too_large state.limits.catches catches changes ≡ large → changed changes tree ≡ led
       → step state (call.Record branch new_name changes) ≡ refused_if large TooLarge (record_leads state branch (catches ++ recorded new_name 1 changes) led)
   unfolding led_from by_size_of goes_on
   comes_to large led is leads_to =
@@ -47,12 +47,12 @@ module _ (state : Contents) (branch new_name : List ℕ) (catches : List Catch) 
       ∙ ap (λ o. refused_if large TooLarge (option_map_or (led_from catches) o (refused DoesNotApply))) (tree_found catches tree leads)
       ∙ ap (λ r. refused_if large TooLarge (record_leads state branch (catches ++ recorded new_name 1 changes) r)) leads_to
 
-  recorded_so : (next : Files) → is_too_large catches changes ≡ false → changed changes tree ≡ Ok next → Accepted
+  recorded_so : (next : Files) → is_too_large state.limits.catches catches changes ≡ false → changed changes tree ≡ Ok next → Accepted
   recorded_so next small led =
       (after state (with_catches state.branches branch (catches ++ recorded new_name 1 changes)), comes_to false (Ok next) small led)
 
   accepted_or_large : (next : Files) → AppliesEach changes tree next → Accepted ⊎ (step state (call.Record branch new_name changes) ≡ refused TooLarge)
-  accepted_or_large next applies = elim (cases_Bool (is_too_large catches changes)) [
+  accepted_or_large next applies = elim (cases_Bool (is_too_large state.limits.catches catches changes)) [
     | inl large ↦ inr (comes_to true (changed changes tree) large refl)
     | inr small ↦ elim (leads_or_large changes tree next applies) [
       | inl led ↦ inl (recorded_so next small led)

@@ -277,7 +277,7 @@ pub record SidesAreAccepted : Type 0 where
   pub within :
       (state : Contents) (branch name new_name : List ℕ) (catches : List Catch) (tree : Files) (side : List Named) →
       IsLawfulState state → Has state branch catches → LeadsTo catches tree → IsSideIn catches name side →
-      stands state.branches new_name ≡ false → is_too_large catches (changes_in side) ≡ false →
+      stands state.branches new_name ≡ false → is_too_large state.limits.catches catches (changes_in side) ≡ false →
       KeepFilesShort (changes_in side) tree →
       (next : Contents) × (step state (call.Record branch new_name (changes_in side)) ≡ Next next)
   pub else_too_large :

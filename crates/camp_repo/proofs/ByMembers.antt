@@ -39,8 +39,8 @@ module _ (names others : List (List ℕ)) (alike : AreAlike names others) where
       filter_alike (λ k. is_among names (name_of k)) (λ k. is_among others (name_of k)) (λ k. alike (name_of k)) branch
 
   -- a branch is as full with the same names
-  pub full_alike : (ours theirs : List Catch) → is_full_with ours theirs names ≡ is_full_with ours theirs others
-  full_alike ours theirs = ap (λ list. nat_lt 4_096 (length ours + length list)) (named_alike theirs)
+  pub full_alike : (most : ℕ) (ours theirs : List Catch) → is_full_with most ours theirs names ≡ is_full_with most ours theirs others
+  full_alike most ours theirs = ap (λ list. nat_lt most (length ours + length list)) (named_alike theirs)
 
   empty_names : (ns os : List (List ℕ)) → ns ≡ names → os ≡ others → is_empty ns ≡ is_empty os
   empty_names [] [] e f = refl

@@ -23,7 +23,7 @@ conflicts_shown state name catches pairs has are =
 pub next_lawful : (state : Contents) (call : Call) (next : Contents) → IsLawfulState state → Next next ≡ step state call → IsLawfulState next
 next_lawful state call next lawful e = steps_lawful state call next lawful (sym e)
 
-module _ (state : Contents) (branch name : List ℕ) (changes : List Primitive) (catches : List Catch) (tree : Files) (has : Has state branch catches) (free : stands state.branches name ≡ false) (small : is_too_large catches changes ≡ false) (leads : LeadsTo catches tree) where
+module _ (state : Contents) (branch name : List ℕ) (changes : List Primitive) (catches : List Catch) (tree : Files) (has : Has state branch catches) (free : stands state.branches name ≡ false) (small : is_too_large state.limits.catches catches changes ≡ false) (leads : LeadsTo catches tree) where
   -- the record comes to what its changes lead to
   pub record_comes : record_leads state branch (catches ++ recorded name 1 changes) (changed changes tree) ≡ step_record state branch name changes
   record_comes =
@@ -44,10 +44,10 @@ module _ (state : Contents) (from to : List ℕ) (names : Option (List (List ℕ
 
   module _ (some : is_empty (wanted ours (listed theirs names)) ≡ false) where
     -- the branch would be too long
-    pub pull_too_large : is_full_with ours theirs (wanted ours (listed theirs names)) ≡ true → refused Refusal.TooLarge ≡ step_pull state from to names
+    pub pull_too_large : is_full_with state.limits.catches ours theirs (wanted ours (listed theirs names)) ≡ true → refused Refusal.TooLarge ≡ step_pull state from to names
     pull_too_large full = rw has_theirs (rw has_ours (rw two (rw all (rw some (rw full refl)))))
 
-    module _ (few : is_full_with ours theirs (wanted ours (listed theirs names)) ≡ false) (set : List (List ℕ)) (alike : AreAlike set (wanted ours (listed theirs names))) (outcome : Outcome) (gives : PullGives theirs ours set outcome) where
+    module _ (few : is_full_with state.limits.catches ours theirs (wanted ours (listed theirs names)) ≡ false) (set : List (List ℕ)) (alike : AreAlike set (wanted ours (listed theirs names))) (outcome : Outcome) (gives : PullGives theirs ours set outcome) where
       is_pulled : outcome ≡ pulled theirs ours (wanted ours (listed theirs names))
       is_pulled =
           (outcomes_are_determined.pulls theirs ours (wanted ours (listed theirs names))).2 outcome

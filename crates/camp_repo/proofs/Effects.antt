@@ -1,5 +1,5 @@
 -- What each accepted call does.
-use Rattle.camp_repo.proofs.Words.{◌≡◌, ℕ, ◌+◌, AreDistinct, Branches, Call, all_append, false, not, List, [], ◌∷◌, ◌++◌, Option, None, Some, Ok, is_some, length, nat_le, bytes_eq, refl, sym, ap, ◌∙◌, subst, same_Some, Files, Primitive, Catch, LeadsTo, has_patch, is_among, names_of, recorded, AreLacked, ObliterateGives, PullGives, conflicts_are_determined, among_kept, outcomes_are_determined, BranchExists, NothingToDo, PatchExists, SameBranch, TooLarge, Next, IsLawfulState, IsLawfulBy, names_of_branches, obliterated, pulled, Contents, catches_of, stands, tree_of, with_catches, accepted, is_empty, is_full_with, is_too_large, listed, shown, step, wanted, obliterates_keep_lawful, pulls_keep_lawful, pulled_by, AcceptedCallsHaveEffect, ChangesOne, Copies, Effect, Has, Obliterates, OutcomesAreDefined, Pulls, Records, and_parts, not-true}
+use Rattle.camp_repo.proofs.Words.{◌≡◌, ℕ, ◌+◌, AreDistinct, Branches, Call, all_append, false, not, List, [], ◌∷◌, ◌++◌, Option, None, Some, Ok, is_some, length, nat_le, bytes_eq, refl, sym, ap, ◌∙◌, subst, same_Some, Files, Primitive, Catch, LeadsTo, has_patch, is_among, names_of, recorded, AreLacked, ObliterateGives, PullGives, conflicts_are_determined, among_kept, outcomes_are_determined, BranchExists, NothingToDo, PatchExists, SameBranch, TooLarge, Next, IsLawfulState, IsLawfulBy, names_of_branches, obliterated, pulled, Contents, after, catches_of, stands, tree_of, with_catches, accepted, is_empty, is_full_with, is_too_large, listed, shown, step, wanted, obliterates_keep_lawful, pulls_keep_lawful, pulled_by, AcceptedCallsHaveEffect, ChangesOne, Copies, Effect, Has, Obliterates, OutcomesAreDefined, Pulls, Records, and_parts, not-true}
 use Rattle.std.proofs.lemmas.List.{map-append}
 use Rattle.camp_call.specs.declared.calls.Call.TheVariants as call
 use Rattle.camp_repo.proofs.AcceptedSteps.{becomes_other, has_branch, has_tree, lacks_none, leads_on, next_is, passes}
@@ -29,6 +29,7 @@ module _ (state next : Contents) (branch : List ℕ) (old new : List Catch) wher
       let same = next_is state next (with_catches state.branches branch new) e in (
         record {
           counted = ap (λ s. s.count) (sym same);
+          limits = ap (λ s. s.limits) (sym same);
           names = ap (λ s. names_of_branches s.branches) (sym same) ∙ names_stay state.branches branch new;
           others = λ other differs. ap (λ s. catches_of s.branches other) (sym same) ∙ others_stay state.branches branch other new differs;
         },
@@ -49,7 +50,7 @@ with_lawful state next branch catches changes_of lawful each new e = subst IsLaw
 })
 
 -- a copy of a branch under a new name
-pub copy_lawful : (state : Contents) (new from : List ℕ) (catches : List Catch) → IsLawfulState state → Has state from catches → catches_of state.branches new ≡ None → IsLawfulState (record { branches = state.branches ++ (new, catches) ∷ []; count = state.count + 1 })
+pub copy_lawful : (state : Contents) (new from : List ℕ) (catches : List Catch) → IsLawfulState state → Has state from catches → catches_of state.branches new ≡ None → IsLawfulState (after state (state.branches ++ (new, catches) ∷ []))
 copy_lawful state new from catches lawful has fresh = record {
   distinct =
       subst AreDistinct (sym (map-append (λ (branch : List ℕ × List Catch). branch.0) state.branches ((new, catches) ∷ [])))
@@ -76,10 +77,11 @@ copies : (state next : Contents) (new from : List ℕ) → IsLawfulState state �
 copies state next new from lawful e =
     let there = has_branch state next from _ e in
     let fresh = passes state next (is_some (catches_of state.branches new)) (BranchExists new) _ there.2 in
-    let few = passes state next (nat_le 256 (length state.branches)) TooLarge _ fresh.1 in
+    let few = passes state next (nat_le state.limits.branches (length state.branches)) TooLarge _ fresh.1 in
     let same = next_is state next (state.branches ++ (new, there.0) ∷ []) few.1 in (
       record {
         counted = ap (λ s. s.count) (sym same);
+        limits = ap (λ s. s.limits) (sym same);
         catches = there.0;
         was = there.1;
         becomes = ap (λ s. s.branches) (sym same);
@@ -91,8 +93,8 @@ records : (state next : Contents) (branch name : List ℕ) (changes : List Primi
 records state next branch name changes lawful e =
     let there = has_branch state next branch _ e in
     let free = passes state next (stands state.branches name) (PatchExists name) _ there.2 in
-    let small = passes state next (is_too_large there.0 changes) TooLarge _ free.1 in
-    let sized = sized_of there.0 changes small.0 in
+    let small = passes state next (is_too_large state.limits.catches there.0 changes) TooLarge _ free.1 in
+    let sized = sized_of state.limits.catches there.0 changes small.0 in
     let from = has_tree state next (tree_of there.0) _ _ small.1 in
     let on = leads_on state next branch (there.0 ++ recorded name 1 changes) _ from.2 in
     let change = changes_one state next branch there.0 (there.0 ++ recorded name 1 changes) there.1 on.2 in
@@ -125,7 +127,7 @@ pulls state next from to names lawful e =
     let two = passes state next (bytes_eq from to) (SameBranch to) _ ours.2 in
     let all = lacks_none state next theirs.0 (listed theirs.0 names) _ two.1 in
     let some = passes state next (is_empty names_wanted) NothingToDo _ all in
-    let few = passes state next (is_full_with ours.0 theirs.0 names_wanted) TooLarge _ some.1 in
+    let few = passes state next (is_full_with state.limits.catches ours.0 theirs.0 names_wanted) TooLarge _ some.1 in
     let other = becomes_other state next to (pulled theirs.0 ours.0 names_wanted) few.1 in
     let gives = pull_gives theirs.0 ours.0 other.0 names_wanted other.1 in
     let parts = pulled_by theirs.0 ours.0 names_wanted other.0 gives in

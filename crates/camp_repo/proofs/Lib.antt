@@ -7,6 +7,7 @@ pub mod DecideSteps
 pub mod Effects
 pub mod BeginningSteps
 pub mod HistoriesLawful
+pub mod LimitSteps
 pub mod LawfulBranches
 pub mod NameSteps
 pub mod PlaceSteps

@@ -17,6 +17,6 @@ leads_from catches tree old new changes lent leads other same e =
     (subst (λ t. AppliesEach changes t new) (trees_are_determined.one catches tree old leads other) (changes_apply changes tree new (sym e)))
 
 -- the state after the record is lawful
-pub record_keeps : (state : Contents) (branch name : List ℕ) (changes : List Primitive) (catches : List Catch) (tree next : Files) (place : ℕ) → Has state branch catches → stands state.branches name ≡ false → is_too_large catches changes ≡ false → LeadsTo catches tree → Ok next ≡ changed changes tree → ((other : List Catch) → placed state.branches place other ≡ with_catches state.branches branch other) → IsLawfulState state → IsLawfulState (after state (placed state.branches place (catches ++ recorded name 1 changes)))
+pub record_keeps : (state : Contents) (branch name : List ℕ) (changes : List Primitive) (catches : List Catch) (tree next : Files) (place : ℕ) → Has state branch catches → stands state.branches name ≡ false → is_too_large state.limits.catches catches changes ≡ false → LeadsTo catches tree → Ok next ≡ changed changes tree → ((other : List Catch) → placed state.branches place other ≡ with_catches state.branches branch other) → IsLawfulState state → IsLawfulState (after state (placed state.branches place (catches ++ recorded name 1 changes)))
 record_keeps state branch name changes catches tree next place has free small leads e there lawful =
     next_lawful state (call.Record branch name changes) _ lawful (record_accepted state branch name changes catches tree has free small leads next place e there)

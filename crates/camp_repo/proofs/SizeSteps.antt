@@ -1,5 +1,5 @@
 -- The size of a patch, as a test and as a fact.
-use Rattle.camp_repo.proofs.Words.{◌≡◌, ℕ, ◌≤◌, ◌+◌, ◌∙◌, false, Bool, List, [], length, drop, Option, nat_le, nat_lt, refl, sym, ap, arith, list_any, option_map_or, Files, Primitive, Catch, Agree, AreLacked, is_among, name_of, path_of, has_long_file, is_full_with, ◌-◌, leb-true, length-drop, Lines, Applies, has_long_side, is_patch_sized, is_too_large, longest_file, most_catches, and_parts, not-false, or_parts}
+use Rattle.camp_repo.proofs.Words.{◌≡◌, ℕ, ◌≤◌, ◌+◌, ◌∙◌, false, Bool, List, [], length, drop, Option, nat_le, nat_lt, refl, sym, ap, arith, list_any, option_map_or, Files, Primitive, Catch, Agree, AreLacked, is_among, name_of, path_of, has_long_file, is_full_with, ◌-◌, leb-true, length-drop, Lines, Applies, has_long_side, is_patch_sized, is_too_large, longest_file, and_parts, not-false, or_parts}
 use Rattle.std.proofs.lemmas.Bool.Decides.{nat_tests}
 use Rattle.std.proofs.lemmas.List.Sums.{count_by-le-length, length-filter}
 use Rattle.camp_prim.proofs.Maps.{get_inserted, get_removed}
@@ -9,10 +9,10 @@ use Rattle.camp_repo.proofs.NameSteps.{named_behind}
 use Rattle.camp_call.specs.Patches.{IsPatchSized}
 
 -- a record that is not too large has the size of a patch
-pub sized_of : (catches : List Catch) (changes : List Primitive) → is_too_large catches changes ≡ false
+pub sized_of : (most : ℕ) (catches : List Catch) (changes : List Primitive) → is_too_large most catches changes ≡ false
     → IsPatchSized changes
-sized_of catches changes small =
-    let few = or_parts (nat_lt 4_096 (length catches + length changes)) _ small in
+sized_of most catches changes small =
+    let few = or_parts (nat_lt most (length catches + length changes)) _ small in
     let short = or_parts (list_any has_long_side changes) _ few.1 in
     let sized = not-false (is_patch_sized changes) short.1 in
     let ends = and_parts (nat_le 1 (length changes)) (nat_le (length changes) 64) sized in
@@ -28,8 +28,8 @@ short_or_gone (Remove path) old tree never removes = sym (ap (has_long_file path
 short_or_gone (Hunk edit) old tree never applies = absurd (never edit refl)
 
 -- a branch has room for what another one has behind beginnings that agree, and so for those of some names
-pub has_room : (ours theirs : List Catch) (long : ℕ) (names : List (List ℕ)) → Agree theirs ours long → AreLacked ours names → length ours + (length theirs - long) ≤ most_catches → false ≡ is_full_with ours theirs names
-has_room ours theirs long names agree lacked room =
+pub has_room : (most : ℕ) (ours theirs : List Catch) (long : ℕ) (names : List (List ℕ)) → Agree theirs ours long → AreLacked ours names → length ours + (length theirs - long) ≤ most → false ≡ is_full_with most ours theirs names
+has_room most ours theirs long names agree lacked room =
     let behind = drop long theirs in
     let named = ap length (named_behind theirs ours long names agree lacked) ∙ length-filter (λ k. is_among names (name_of k)) behind in
     let few = count_by-le-length (λ k. is_among names (name_of k)) behind in

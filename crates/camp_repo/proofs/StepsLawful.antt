@@ -4,7 +4,7 @@ use Rattle.camp_repo.proofs.Effects.{called, lawful_branch}
 use Rattle.camp_repo.proofs.TreeSteps.{tree_found}
 
 pub initial_lawful : InitialIsLawful
-initial_lawful = record {
+initial_lawful limits = record {
   distinct = (refl, tt);
   changes_of = λ name. 1;
   lawful = (record { patches = []; has = record { distinct = tt; sized = tt; labels = refl }; agree = tt; tree = empty; leads = refl }, tt);

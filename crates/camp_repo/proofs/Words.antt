@@ -30,12 +30,14 @@ pub use Rattle.camp_prim.specs.Commuting.{path_of}
 pub use Rattle.camp_prim.specs.declared.primitives.Primitive.{Primitive}
 pub use Rattle.camp_repo.specs.Beginnings.{AgreesIn, AllHold, catches_in}
 pub use Rattle.camp_repo.specs.Lawful.{IsLawfulBy, IsLawfulState, names_of_branches}
-pub use Rattle.camp_repo.specs.Laws.{Has, AcceptedCallsHaveEffect, ChangesOne, Copies, Effect, HistoriesAreCounted, HistoriesAreLawful, HistoriesTellTrees, InitialIsLawful, Obliterates, OutcomesAreDefined, Pulls, Records, StepsKeepLawful, TreesAreAnswered}
-pub use Rattle.camp_repo.specs.ObjectLaws.{repository_is_lawful}
+pub use Rattle.camp_repo.specs.Laws.{Has, AcceptedCallsHaveEffect, ChangesOne, Copies, Effect, HistoriesAreCounted, HistoriesAreLawful, HistoriesKeepLimits, HistoriesTellTrees, InitialIsLawful, Obliterates, OutcomesAreDefined, Pulls, Records, StepsKeepLawful, StepsKeepLimits, TreesAreAnswered}
+pub use Rattle.camp_repo.specs.LimitLaws.{CanPull, DefaultLimitsHold, Holds, StatesHoldTheirLimits}
+pub use Rattle.camp_repo.specs.ObjectLaws.{repositories_are_lawful}
 pub use Rattle.camp_repo.specs.Outcomes.{obliterated, pulled}
 pub use Rattle.camp_repo.specs.Placing.{placed, settled}
-pub use Rattle.camp_repo.specs.States.{Branches, Contents, after, catches_of, initial, stands, tree_of, with_catches, tree_after}
-pub use Rattle.camp_repo.specs.Steps.{Decision, accepted, becomes, catches_named, changed, has_long_file, is_empty, is_full_with, is_too_large, led_to, listed, refused, shown, step, then_from, wanted, has_long_side, is_patch_sized, longest_file, most_catches, record_leads, refused_if, step_obliterate, step_pull, step_record, with_branch, with_patches}
+pub use Rattle.camp_repo.specs.States.{Branches, Contents, after, catches_of, new_within, stands, tree_of, with_catches, tree_after}
+pub use Rattle.camp_repo.specs.Limits.{Bounds, default_bounds}
+pub use Rattle.camp_repo.specs.Steps.{Decision, accepted, becomes, catches_named, changed, has_long_file, is_empty, is_full_with, is_too_large, led_to, listed, refused, shown, step, then_from, wanted, has_long_side, is_patch_sized, longest_file, record_leads, refused_if, step_obliterate, step_pull, step_record, with_branch, with_patches}
 pub use Rattle.camp_share.specs.Maps.{map_of}
 pub use Rattle.camp_branch.proofs.AgreedFronts.{agree_grown, agree_itself, agree_none, agreed_has, split_has}
 pub use Rattle.camp_branch.proofs.BranchTrees.{left_tree, pulled_tree, recorded_tree, tree_of_effects}

@@ -7,7 +7,7 @@ use Rattle.camp_repo.specs.declared.states.State.TheInside.{Inside}
 
 -- the names and the branches stand side by side, in order of creation
 abbrev pub contents_of : Inside → Contents
-contents_of state = record { branches = zip state.names.keys state.branches; count = state.count }
+contents_of state = record { branches = zip state.names.keys state.branches; count = state.count; limits = state.limits }
 
 -- there are as many names as branches, the state is lawful, and what is known of beginnings of its branches holds
 pub record IsState (state : Inside) : Type 0 where

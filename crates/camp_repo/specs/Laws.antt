@@ -15,24 +15,27 @@ use Rattle.camp_object.specs.Histories.{replay}
 use Rattle.camp_object.specs.Objects as object
 use Rattle.camp_object.specs.declared.objects.Decided.TheVariants.{Next, Answer}
 use Rattle.camp_repo.specs.Lawful.{IsLawfulState, names_of_branches}
-use Rattle.camp_repo.specs.Objects.{repository}
+use Rattle.camp_repo.specs.Limits.{Bounds}
+use Rattle.camp_repo.specs.Objects.{repository_within}
 use Rattle.camp_repo.specs.Outcomes.{conflicts_of, obliterated, pulled}
-use Rattle.camp_repo.specs.States.{Contents, catches_of, initial, tree_of}
+use Rattle.camp_repo.specs.States.{Contents, catches_of, new_within, tree_of}
 use Rattle.camp_repo.specs.Steps.{listed, step, wanted}
 
 -- a branch has these catches
 abbrev pub Has : Contents → List ℕ → List Catch → Type 0
 Has state branch catches = catches_of state.branches branch ≡ Some catches
 
--- one more call is counted, and no branch but this one changes, comes or goes
+-- one more call is counted, the limits stay, and no branch but this one changes, comes or goes
 pub record ChangesOne (branch : List ℕ) (old new : Contents) : Type 0 where
   pub counted : new.count ≡ old.count + 1
+  pub limits : new.limits ≡ old.limits
   pub names : names_of_branches new.branches ≡ names_of_branches old.branches
   pub others : (other : List ℕ) → other ≢ branch → catches_of new.branches other ≡ catches_of old.branches other
 
--- a new branch comes last, with the catches of another; one more call is counted
+-- a new branch comes last, with the catches of another; one more call is counted, and the limits stay
 pub record Copies (new_branch from : List ℕ) (old new : Contents) : Type 0 where
   pub counted : new.count ≡ old.count + 1
+  pub limits : new.limits ≡ old.limits
   pub catches : List Catch
   pub was : Has old from catches
   pub becomes : new.branches ≡ old.branches ++ (new_branch, catches) ∷ []
@@ -88,9 +91,9 @@ AcceptedCallsHaveEffect =
     (state : Contents) (call : Call) (next : Contents) → IsLawfulState state → step state call ≡ Next next →
     Effect call state next
 
--- a new repository is lawful
+-- a new repository is lawful, whatever its limits
 abbrev pub InitialIsLawful : Type 0
-InitialIsLawful = IsLawfulState initial
+InitialIsLawful = (limits : Bounds) → IsLawfulState (new_within limits)
 
 -- from a lawful state each accepted call leads to a lawful one
 abbrev pub StepsKeepLawful : Type 0
@@ -106,25 +109,36 @@ TreesAreAnswered =
     (tree : Files) × LeadsTo catches tree × (tree_of catches ≡ Some tree)
     × (step state (call.Tree branch) ≡ Answer (reply.Tree tree))
 
--- every legal history leads to a lawful state
+-- every legal history leads to a lawful state, whatever the limits
 abbrev pub HistoriesAreLawful : Type 0
 HistoriesAreLawful =
-    (history : List (ℕ × Call)) (state : Contents) → replay repository history ≡ Some state → IsLawfulState state
+    (limits : Bounds) (history : List (ℕ × Call)) (state : Contents) → replay (repository_within limits) history ≡ Some state →
+    IsLawfulState state
 
 -- after a legal history each branch has a tree: the effects of its catches, in their order, applied to the
 -- empty tree; with it the question for the tree is answered
 abbrev pub HistoriesTellTrees : Type 0
 HistoriesTellTrees =
-    (history : List (ℕ × Call)) (state : Contents) (branch : List ℕ) (catches : List Catch)
-    → replay repository history ≡ Some state → Has state branch catches →
+    (limits : Bounds) (history : List (ℕ × Call)) (state : Contents) (branch : List ℕ) (catches : List Catch)
+    → replay (repository_within limits) history ≡ Some state → Has state branch catches →
     (tree : Files) × LeadsTo catches tree × (tree_of catches ≡ Some tree)
     × (step state (call.Tree branch) ≡ Answer (reply.Tree tree))
 
 -- a state counts the calls of the history that leads to it, so the number that an accepted call is told is its place
 abbrev pub HistoriesAreCounted : Type 0
 HistoriesAreCounted =
-    (history : List (ℕ × Call)) (state : Contents) → replay repository history ≡ Some state →
+    (limits : Bounds) (history : List (ℕ × Call)) (state : Contents) → replay (repository_within limits) history ≡ Some state →
     state.count ≡ length history
+
+-- an accepted call keeps the limits
+abbrev pub StepsKeepLimits : Type 0
+StepsKeepLimits = (state : Contents) (call : Call) (next : Contents) → step state call ≡ Next next → next.limits ≡ state.limits
+
+-- after a legal history the limits are those of a new repository
+abbrev pub HistoriesKeepLimits : Type 0
+HistoriesKeepLimits =
+    (limits : Bounds) (history : List (ℕ × Call)) (state : Contents) → replay (repository_within limits) history ≡ Some state →
+    state.limits ≡ limits
 
 -- a pull, an obliteration and the conflicts of a branch come to what their definitions say
 pub record OutcomesAreDefined : Type 0 where
@@ -133,6 +147,6 @@ pub record OutcomesAreDefined : Type 0 where
       → ObliterateGives branch names (obliterated branch names)
   pub conflicts : (branch : List Catch) → AreConflicts branch (conflicts_of branch)
 
--- the repository is an object
+-- a repository is an object, whatever its limits
 abbrev pub RepositoryIsLawful : Type 0
-RepositoryIsLawful = object.IsLawfulObject repository
+RepositoryIsLawful = (limits : Bounds) → object.IsLawfulObject (repository_within limits)

@@ -2,6 +2,8 @@ pub mod Fields
 pub mod Beginnings
 pub mod Lawful
 pub mod Laws
+pub mod LimitLaws
+pub mod Limits
 pub mod ObjectLaws
 pub mod Objects
 pub mod Outcomes

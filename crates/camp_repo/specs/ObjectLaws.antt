@@ -17,11 +17,12 @@ use Rattle.camp_call.specs.declared.replies.Refusal.TheVariants.{BranchExists, D
 use Rattle.camp_call.specs.declared.replies.Refusal.TheVariants.{NothingToDo, PatchExists, SameBranch, TooLarge}
 use Rattle.camp_object.specs.Objects.{IsLawfulObject}
 use Rattle.camp_object.specs.declared.objects.Decided.TheVariants.{Next, Answer}
-use Rattle.camp_repo.specs.Objects.{next_of, number_told, repository}
+use Rattle.camp_repo.specs.Limits.{Bounds, default_bounds}
+use Rattle.camp_repo.specs.Objects.{next_of, number_told, repository, repository_within}
 use Rattle.camp_repo.specs.Outcomes.{obliterated, pulled}
 use Rattle.camp_repo.specs.States.{Contents, after, catches_of, stands, tree_of, with_catches}
 use Rattle.camp_repo.specs.Steps.{Decision, becomes, changed, is_empty, is_full_with, is_too_large}
-use Rattle.camp_repo.specs.Steps.{listed, most_branches, record_leads, refused, refused_if, shown, step, wanted}
+use Rattle.camp_repo.specs.Steps.{listed, record_leads, refused, refused_if, shown, step, wanted}
 
 -- one thing of the next state, another of the answer
 abbrev pub Comes : (Contents → Type 0) → (Reply → Type 0) → Decision → Type 0
@@ -63,9 +64,10 @@ module _ (P : Contents → Type 0) (Q : Reply → Type 0) (refusals : (refusal :
   by_shown None on = refusals DoesNotApply
   by_shown (Some tree) on = on tree
 
--- the next state counts one more call, which writes
+-- the next state counts one more call, which writes, and has the same limits
 abbrev pub CountsOne : Contents → Call → Contents → Type 0
-CountsOne state call next = (next.count ≡ state.count + 1) × (is_writing call ≡ true)
+CountsOne state call next =
+    (next.count ≡ state.count + 1) × (is_writing call ≡ true) × (next.limits ≡ state.limits)
 
 -- the answer tells no number
 abbrev pub TellsNone : Reply → Type 0
@@ -79,15 +81,15 @@ step_comes state (call.Branch new from) =
     let P = CountsOne state (call.Branch new from) in
     of_branch P TellsNone none_told from _ (catches_of state.branches from)
     (λ catches. past_test P TellsNone none_told (is_some (catches_of state.branches new)) (BranchExists new) _
-    (past_test P TellsNone none_told (nat_le most_branches (length state.branches)) TooLarge _ (refl, refl)))
+    (past_test P TellsNone none_told (nat_le state.limits.branches (length state.branches)) TooLarge _ (refl, refl, refl)))
 step_comes state (call.Record branch name changes) =
     let P = CountsOne state (call.Record branch name changes) in
     of_branch P TellsNone none_told branch _ (catches_of state.branches branch)
     (λ catches. past_test P TellsNone none_told (stands state.branches name) (PatchExists name) _
-    (past_test P TellsNone none_told (is_too_large catches changes) TooLarge _
+    (past_test P TellsNone none_told (is_too_large state.limits.catches catches changes) TooLarge _
     (from_tree P TellsNone none_told (tree_of catches) _
     (λ tree. by_tree P TellsNone none_told state branch (catches ++ recorded name 1 changes) (changed changes tree)
-    (refl, refl)))))
+    (refl, refl, refl)))))
 step_comes state (call.Pull from to names) =
     let P = CountsOne state (call.Pull from to names) in
     of_branch P TellsNone none_told from _ (catches_of state.branches from)
@@ -95,15 +97,15 @@ step_comes state (call.Pull from to names) =
     (λ ours. past_test P TellsNone none_told (bytes_eq from to) (SameBranch to) _
     (past_names P TellsNone none_told (first_lacked theirs (listed theirs names)) _
     (past_test P TellsNone none_told (is_empty (wanted ours (listed theirs names))) NothingToDo _
-    (past_test P TellsNone none_told (is_full_with ours theirs (wanted ours (listed theirs names))) TooLarge _
+    (past_test P TellsNone none_told (is_full_with state.limits.catches ours theirs (wanted ours (listed theirs names))) TooLarge _
     (by_outcome P TellsNone none_told state to (pulled theirs ours (wanted ours (listed theirs names))) (λ catches.
-    (refl, refl))))))))
+    (refl, refl, refl))))))))
 step_comes state (call.Obliterate branch names) =
     let P = CountsOne state (call.Obliterate branch names) in
     of_branch P TellsNone none_told branch _ (catches_of state.branches branch)
     (λ catches. past_names P TellsNone none_told (first_lacked catches names) _
     (past_test P TellsNone none_told (is_empty names) NothingToDo _
-    (by_outcome P TellsNone none_told state branch (obliterated catches names) (λ left. (refl, refl)))))
+    (by_outcome P TellsNone none_told state branch (obliterated catches names) (λ left. (refl, refl, refl)))))
 step_comes state (call.Tree branch) =
     let P = CountsOne state (call.Tree branch) in
     of_branch P TellsNone none_told branch _ (catches_of state.branches branch)
@@ -120,6 +122,11 @@ on_next : (P : Contents → Type 0) (Q : Reply → Type 0) (d : Decision) (next 
 on_next P Q (Next state) next comes is = subst P (same_Some _ _ is) comes
 on_next P Q (Answer answer) next comes is = cc
 
+-- an accepted call keeps the limits
+pub limits_stay : (state : Contents) (call : Call) (next : Contents) → next_of (step state call) ≡ Some next
+    → next.limits ≡ state.limits
+limits_stay state call next is = (on_next (CountsOne state call) TellsNone (step state call) next (step_comes state call) is).2
+
 tells_exactly : (answer : Reply) (at : ℕ) → number_told answer ≡ Some at → answer ≡ reply.Done at
 tells_exactly (reply.Done other) at is = cc
 tells_exactly (reply.Refused refusal) at is = cc
@@ -127,8 +134,8 @@ tells_exactly (reply.Tree tree) at is = cc
 tells_exactly (reply.Conflicts pairs) at is = cc
 tells_exactly (reply.Names names) at is = cc
 
-pub repository_is_lawful : IsLawfulObject repository
-repository_is_lawful = record {
+pub repositories_are_lawful : (limits : Bounds) → IsLawfulObject (repository_within limits)
+repositories_are_lawful limits = record {
   starts = refl;
   counts = λ state call next is. (on_next (CountsOne state call) TellsNone (step state call) next
       (step_comes state call) is).0;
@@ -138,3 +145,6 @@ repository_is_lawful = record {
   tells_exactly = tells_exactly;
   tells_none = λ state call answer is. subst (Comes (CountsOne state call) TellsNone) is (step_comes state call);
 }
+
+pub repository_is_lawful : IsLawfulObject repository
+repository_is_lawful = repositories_are_lawful default_bounds

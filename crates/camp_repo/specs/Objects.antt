@@ -6,7 +6,8 @@ use Rattle.camp_call.specs.declared.replies.Reply.{Reply}
 use Rattle.camp_call.specs.declared.replies.Reply.TheVariants as reply
 use Rattle.camp_object.specs.Objects.{Sequential}
 use Rattle.camp_object.specs.declared.objects.Decided.TheVariants.{Next, Answer}
-use Rattle.camp_repo.specs.States.{Contents, initial}
+use Rattle.camp_repo.specs.Limits.{Bounds, default_bounds}
+use Rattle.camp_repo.specs.States.{Contents, new_within}
 use Rattle.camp_repo.specs.Steps.{Decision, step}
 
 -- the state that a decision leads to, if it leads on
@@ -22,10 +23,10 @@ number_told (reply.Tree tree) = None
 number_told (reply.Conflicts pairs) = None
 number_told (reply.Names names) = None
 
--- the repository as an object: a call is accepted where it comes to a next state
-abbrev pub repository : Sequential Contents Call Reply
-repository = record {
-  initial = initial;
+-- a repository with these limits as an object: a call is accepted where it comes to a next state
+abbrev pub repository_within : Bounds → Sequential Contents Call Reply
+repository_within limits = record {
+  initial = new_within limits;
   after = λ state call. next_of (step state call);
   answers = λ state call answer. step state call ≡ Answer answer;
   count = λ state. state.count;
@@ -33,6 +34,10 @@ repository = record {
   done = reply.Done;
   done_at = number_told;
 }
+
+-- a repository that was given no limits
+abbrev pub repository : Sequential Contents Call Reply
+repository = repository_within default_bounds
 
 -- the reply that a decision gives: an accepted call is told its number
 abbrev pub reply_of : Decision → Reply

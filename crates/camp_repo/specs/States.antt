@@ -9,23 +9,29 @@ use Rattle.camp_prim.specs.declared.named.Named.{Named}
 use Rattle.camp_catch.specs.Catches.{effect_of}
 use Rattle.camp_catch.specs.declared.catches.Catch.{Catch}
 use Rattle.camp_branch.specs.Branches.{has_patch}
+use Rattle.camp_repo.specs.Limits.{Bounds, default_bounds}
 
 -- branches, each a name and its catches
 abbrev pub Branches : Type 0
 Branches = List (List ℕ × List Catch)
 
--- the branches in order of creation, and how many calls were accepted
+-- the branches in order of creation, how many calls were accepted, and the limits, which no call changes
 pub record Contents : Type 0 where
   pub branches : Branches
   pub count : ℕ
+  pub limits : Bounds
 
 -- the state after one more accepted call, which leaves these branches
 abbrev pub after : Contents → Branches → Contents
-after state branches = record { branches = branches; count = state.count + 1 }
+after state branches = record { branches = branches; count = state.count + 1; limits = state.limits }
 
--- a new repository: one branch `main` without a patch, and no call accepted
+-- a new repository with these limits: one branch `main` without a patch, and no call accepted
+abbrev pub new_within : Bounds → Contents
+new_within limits = record { branches = (codes "main", []) ∷ []; count = 0; limits = limits }
+
+-- a new repository that was given no limits
 abbrev pub initial : Contents
-initial = record { branches = (codes "main", []) ∷ []; count = 0 }
+initial = new_within default_bounds
 
 -- the catches of the branch of a name
 abbrev pub catches_of : Branches → List ℕ → Option (List Catch)

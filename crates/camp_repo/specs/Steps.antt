@@ -60,21 +60,13 @@ abbrev pub becomes : Contents → List ℕ → Outcome → Decision
 becomes state branch (Ok catches) = accepted state (with_catches state.branches branch catches)
 becomes state branch (Err why) = refused (refusal_of why)
 
--- branches in a repository
-abbrev pub most_branches : ℕ
-most_branches = 256
-
--- a branch is copied; the copy comes last, and there are so many branches at most
+-- a branch is copied; the copy comes last, and there are at most as many branches as the limits of the state say
 abbrev pub step_branch : Contents → List ℕ → List ℕ → Decision
 step_branch state new from =
     with_branch state from (λ catches.
     refused_if (is_some (catches_of state.branches new)) (BranchExists new) (
-    refused_if (nat_le most_branches (length state.branches)) TooLarge (
+    refused_if (nat_le state.limits.branches (length state.branches)) TooLarge (
     accepted state (state.branches ++ (new, catches) ∷ []))))
-
--- catches in a branch
-abbrev pub most_catches : ℕ
-most_catches = 4_096
 
 -- lines of a side of a hunk that a record takes
 abbrev pub longest_side : ℕ
@@ -118,18 +110,18 @@ record_leads state branch catches (Err refusal) = refused refusal
 abbrev pub is_patch_sized : List Primitive → Bool
 is_patch_sized changes = nat_le 1 (length changes) && nat_le (length changes) most_changes
 
--- whether a record is too large for a branch: it would have too many catches, or a side of a hunk is too long;
--- or it has not the size of a patch, which no program comes to
-abbrev pub is_too_large : List Catch → List Primitive → Bool
-is_too_large catches changes =
-    nat_lt most_catches (length catches + length changes) || (list_any has_long_side changes || not (is_patch_sized changes))
+-- whether a record is too large for a branch of at most so many catches: it would have more, or a side of a hunk is too
+-- long; or it has not the size of a patch, which no program comes to
+abbrev pub is_too_large : ℕ → List Catch → List Primitive → Bool
+is_too_large most catches changes =
+    nat_lt most (length catches + length changes) || (list_any has_long_side changes || not (is_patch_sized changes))
 
--- a patch is appended to a branch, whole or not at all
+-- a patch is appended to a branch, whole or not at all; the branch has at most as many catches as the limits of the state say
 abbrev pub step_record : Contents → List ℕ → List ℕ → List Primitive → Decision
 step_record state branch name changes =
     with_branch state branch (λ catches.
     refused_if (stands state.branches name) (PatchExists name) (
-    refused_if (is_too_large catches changes) TooLarge (
+    refused_if (is_too_large state.limits.catches catches changes) TooLarge (
     option_map_or
     (λ tree. record_leads state branch (catches ++ recorded name 1 changes) (changed changes tree))
     (tree_of catches) (refused DoesNotApply))))
@@ -156,15 +148,15 @@ is_empty (name ∷ names) = false
 abbrev pub catches_named : List (List ℕ) → List Catch → List Catch
 catches_named names catches = filter (λ k. is_among names (name_of k)) catches
 
--- whether a branch would have too many catches with those of these names of another
-abbrev pub is_full_with : List Catch → List Catch → List (List ℕ) → Bool
-is_full_with ours theirs names = nat_lt most_catches (length ours + length (catches_named names theirs))
+-- whether a branch would have more than so many catches with those of these names of another
+abbrev pub is_full_with : ℕ → List Catch → List Catch → List (List ℕ) → Bool
+is_full_with most ours theirs names = nat_lt most (length ours + length (catches_named names theirs))
 
--- patches of these names are pulled into a branch
+-- patches of these names are pulled into a branch, which has at most as many catches as the limits of the state say
 abbrev pub pull_wanted : Contents → List ℕ → List Catch → List Catch → List (List ℕ) → Decision
 pull_wanted state to theirs ours names =
     refused_if (is_empty names) NothingToDo (
-    refused_if (is_full_with ours theirs names) TooLarge (
+    refused_if (is_full_with state.limits.catches ours theirs names) TooLarge (
     becomes state to (pulled theirs ours names)))
 
 -- patches of one branch are pulled into another: those listed that it lacks, or all that it lacks

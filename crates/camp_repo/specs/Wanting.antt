@@ -6,7 +6,7 @@ use Rattle.camp_call.specs.declared.calls.Call.{Call}
 use Rattle.camp_call.specs.declared.calls.Call.TheVariants as call
 use Rattle.camp_repo.specs.States.{Contents, catches_of, stands}
 use Rattle.camp_branch.specs.Branches.{first_lacked}
-use Rattle.camp_repo.specs.Steps.{is_empty, is_too_large, listed, most_branches}
+use Rattle.camp_repo.specs.Steps.{is_empty, is_too_large, listed}
 
 -- there is a branch of a name, with such catches
 abbrev pub HasBranch : Contents → List ℕ → (List Catch → Type 0) → Type 0
@@ -25,7 +25,7 @@ lists_none (Some names) = is_empty names
 pub record MayWantCopy (state : Contents) (new from : List ℕ) : Type 0 where
   pub from_stands : HasBranch state from (λ catches. Unit {0})
   pub is_new : catches_of state.branches new ≡ None
-  pub few : length state.branches < most_branches
+  pub few : length state.branches < state.limits.branches
 
 -- a record, where its branch is there, its name is free, and it is not too large for the branch
 pub record MayWantRecord (state : Contents) (branch name : List ℕ) (too_large : List Catch → Bool) : Type 0 where
@@ -48,7 +48,7 @@ pub record MayWantObliterate (state : Contents) (branch : List ℕ) (names : Lis
 abbrev pub MayWant : Contents → Call → Type 0
 MayWant state (call.Branch new from) = MayWantCopy state new from
 MayWant state (call.Record branch name changes) =
-    MayWantRecord state branch name (λ catches. is_too_large catches changes)
+    MayWantRecord state branch name (λ catches. is_too_large state.limits.catches catches changes)
 MayWant state (call.Pull from to names) = MayWantPull state from to names
 MayWant state (call.Obliterate branch names) = MayWantObliterate state branch names
 MayWant state (call.Tree branch) = HasBranch state branch (λ catches. Unit {0})

@@ -1,7 +1,8 @@
 ghost use Rattle.camp_repo.specs.Laws.{AcceptedCallsHaveEffect, HistoriesAreCounted, HistoriesAreLawful, HistoriesTellTrees};
-ghost use Rattle.camp_repo.specs.Laws.{InitialIsLawful, OutcomesAreDefined, RepositoryIsLawful, StepsKeepLawful, TreesAreAnswered};
+ghost use Rattle.camp_repo.specs.LimitLaws.{DefaultLimitsHold, StatesHoldTheirLimits};
+ghost use Rattle.camp_repo.specs.Laws.{HistoriesKeepLimits, InitialIsLawful, OutcomesAreDefined, RepositoryIsLawful, StepsKeepLawful, StepsKeepLimits, TreesAreAnswered};
 
-/// A new repository is lawful.
+/// A new repository is lawful, whatever its limits.
 #[tactic(auto, using(crate::proofs::StepsLawful::initial_lawful))]
 pub fn initial_is_lawful()
     ensures law { InitialIsLawful }
@@ -19,7 +20,7 @@ pub fn accepted_calls_have_effect()
     ensures law { AcceptedCallsHaveEffect }
 {}
 
-/// Every legal history leads to a lawful state.
+/// Every legal history leads to a lawful state, whatever the limits.
 pub fn histories_are_lawful()
     ensures law { HistoriesAreLawful }
 {}
@@ -37,6 +38,25 @@ pub fn histories_are_counted()
     ensures law { HistoriesAreCounted }
 {}
 
+/// No call changes the limits of a repository.
+pub fn calls_keep_limits()
+    ensures steps { StepsKeepLimits }
+    ensures histories { HistoriesKeepLimits }
+{}
+
+/// A call that passes the tests before those of the limits is refused as too large exactly where a branch
+/// would have more catches, or the repository more branches, than its limits say; and else it goes on.
+#[tactic(auto, using(crate::proofs::LimitSteps::states_hold))]
+pub fn states_hold_their_limits()
+    ensures law { StatesHoldTheirLimits }
+{}
+
+/// Where a repository was given no limits, these are 4,096 catches of a branch and 256 branches.
+#[tactic(auto, using(crate::proofs::LimitSteps::default_limits_hold))]
+pub fn default_limits_hold()
+    ensures law { DefaultLimitsHold }
+{}
+
 /// Each branch of a lawful state has a tree, with which the question for it is answered.
 pub fn trees_are_answered()
     ensures law { TreesAreAnswered }
@@ -49,9 +69,9 @@ pub fn outcomes_are_defined()
     ensures law { OutcomesAreDefined }
 {}
 
-/// The repository is an object: it counts its accepted calls, and only calls that write are
+/// A repository is an object, whatever its limits: it counts its accepted calls, and only calls that write are
 /// accepted.
-#[tactic(auto, using(crate::specs::ObjectLaws::repository_is_lawful))]
+#[tactic(auto, using(crate::specs::ObjectLaws::repositories_are_lawful))]
 pub fn repository_is_lawful()
     ensures law { RepositoryIsLawful }
 {}

@@ -2,7 +2,9 @@
 #![tactic(auto)]
 
 mod beginnings;
+mod faults;
 mod laws;
+mod limits;
 mod name_lists;
 mod objects;
 mod sizes;
@@ -12,19 +14,15 @@ mod steps;
 pub use camp_branch::Branch;
 pub use camp_call::{Call, Changes, Conflicts, Names, Refusal, Reply};
 pub use camp_object::{Book, BookDesk, Decided, Desk, Fault, Object};
+pub use faults::LimitFault;
 pub use laws::{
-    accepted_calls_have_effect, histories_are_counted, histories_are_lawful, histories_tell_trees,
-    initial_is_lawful, outcomes_are_defined, repository_is_lawful, steps_keep_lawful,
-    trees_are_answered,
+    accepted_calls_have_effect, calls_keep_limits, default_limits_hold, histories_are_counted,
+    histories_are_lawful, histories_tell_trees, initial_is_lawful, outcomes_are_defined,
+    repository_is_lawful, states_hold_their_limits, steps_keep_lawful, trees_are_answered,
 };
+pub use limits::Limits;
 pub use name_lists::count_brought;
 pub use states::State;
-
-/// The most branches of a repository.
-pub const MAX_BRANCHES: usize = 256;
-
-/// The most catches of a branch.
-pub const MAX_CATCHES: usize = 4_096;
 
 /// The most lines of a side of a hunk that is recorded.
 pub const MAX_SIDE_LINES: usize = 65_535;

@@ -6,7 +6,7 @@ ghost use Rattle.camp_branch.specs.Laws.{AreLacked};
 ghost use Rattle.camp_repo.specs.Wanting.{lists_none};
 ghost use Rattle.camp_repo.specs.Steps.{catches_named, is_full_with, listed, wanted};
 
-use crate::{Branch, MAX_CATCHES, Names};
+use crate::{Branch, Limits, Names};
 use camp_base::Name;
 use camp_branch::{NameSet, set_of};
 use std::alloc::AllocError;
@@ -82,17 +82,24 @@ fn wanted_of(branch: &Branch, names: &[Name]) -> Result<NameSet, AllocError>
 /// Whether a branch would be too long with the catches that another one has of these names. The
 /// branch lacks the names, and beginnings of the two, of this length, agree: so only what stands
 /// behind those is counted.
-pub(crate) fn is_full_with(ours: &Branch, theirs: &Branch, names: &NameSet, long: usize) -> bool
+pub(crate) fn is_full_with(
+    limits: Limits,
+    ours: &Branch,
+    theirs: &Branch,
+    names: &NameSet,
+    long: usize,
+) -> bool
     requires agree { Agree theirs.now ours.now long }
     requires lacked { AreLacked ours.now (names_in names.now) }
-    ensures { result ≡ is_full_with ours.now theirs.now (names_in names.now) }
+    ensures { result ≡ is_full_with limits.catches ours.now theirs.now (names_in names.now) }
 {
+    let most = limits.catches();
     let len = ours.catches().len();
-    if len.saturating_add(theirs.catches().len() - long) <= MAX_CATCHES {
+    if len.saturating_add(theirs.catches().len() - long) <= most {
         return false;
     }
     let more = count_behind(theirs, names, long);
-    len.saturating_add(more) > MAX_CATCHES
+    len.saturating_add(more) > most
 }
 
 /// How many catches a pull of these names from `theirs` brings to `ours`.

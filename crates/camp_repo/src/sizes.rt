@@ -7,17 +7,18 @@ ghost use Rattle.camp_prim.specs.Commuting.{path_of};
 ghost use Rattle.camp_catch.specs.Making.{ComesTo};
 ghost use Rattle.camp_repo.specs.Steps.{changed, has_long_file, has_long_side, is_too_large};
 
-use crate::{Branch, MAX_CATCHES, MAX_FILE_LINES, MAX_SIDE_LINES, Refusal};
+use crate::{Branch, Limits, MAX_FILE_LINES, MAX_SIDE_LINES, Refusal};
 use camp_base::{Apply, Path, Tree};
 use camp_catch::Unmade;
 use camp_prim::Primitive;
 
 /// Whether a record is too large for a branch.
-pub(crate) fn is_too_large(branch: &Branch, changes: &[Primitive]) -> bool
+pub(crate) fn is_too_large(limits: Limits, branch: &Branch, changes: &[Primitive]) -> bool
     requires { IsPatchSized changes.now }
-    ensures { result ≡ is_too_large branch.now changes.now }
+    ensures { result ≡ is_too_large limits.catches branch.now changes.now }
 {
-    branch.catches().len().saturating_add(changes.len()) > MAX_CATCHES || has_long_side(changes)
+    branch.catches().len().saturating_add(changes.len()) > limits.catches()
+        || has_long_side(changes)
 }
 
 fn has_long_side(changes: &[Primitive]) -> bool

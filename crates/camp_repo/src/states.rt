@@ -6,24 +6,25 @@ ghost use Rattle.camp_catch.specs.declared.catches.Catch.{Catch};
 ghost use Rattle.camp_repo.specs.Beginnings.{AllHold, catches_in};
 ghost use Rattle.camp_repo.specs.Lawful.{IsLawfulState};
 ghost use Rattle.camp_repo.specs.Placing.{placed};
-ghost use Rattle.camp_repo.specs.States.{after, catches_of, initial, stands, with_catches};
+ghost use Rattle.camp_repo.specs.States.{after, catches_of, initial, new_within, stands, with_catches};
 
-use crate::Branch;
 use crate::beginnings::KnownBeginnings;
+use crate::{Branch, Limits};
 use camp_base::Name;
 use camp_share::{Share, Shared, SharedList};
 use indexmap::IndexSet;
 use std::alloc::{AllocError, Global};
 use std::marker::Model;
 
-/// The branches of a repository in order of creation, and how many calls it has accepted. A state
-/// shares with those that it was made from all that stayed the same.
+/// The branches of a repository in order of creation, how many calls it has accepted, and its limits,
+/// which no call changes. A state shares with those that it was made from all that stayed the same.
 #[derive(Drop)]
 pub struct State {
     names: Shared<IndexSet<Name>>,
     branches: SharedList<Shared<Branch>>,
     known: KnownBeginnings,
     count: u64,
+    limits: Limits,
 }
 
 impl Model for State {
@@ -43,9 +44,16 @@ impl Model for State {
 }
 
 impl State {
-    /// A new repository: one branch `main` without a patch, and no call accepted.
+    /// A new repository with the default limits: one branch `main` without a patch, and no call accepted.
     pub fn new(alloc: Global) -> Result<State, AllocError>
         ensures exact { IfOk result (λ state. state ≡ initial) }
+    {
+        State::with_limits(alloc, Limits::default())
+    }
+
+    /// A new repository with these limits: one branch `main` without a patch, and no call accepted.
+    pub fn with_limits(alloc: Global, limits: Limits) -> Result<State, AllocError>
+        ensures exact { IfOk result (λ state. state ≡ new_within limits) }
     {
         let mut names = IndexSet::new(alloc);
         names.insert(main_name())?;
@@ -57,6 +65,7 @@ impl State {
             branches,
             known: KnownBeginnings::none(alloc),
             count: 0,
+            limits,
         })
     }
 
@@ -66,6 +75,13 @@ impl State {
         ensures lawful { IsLawfulState self.now }
     {
         self.count
+    }
+
+    /// The limits of the repository.
+    pub fn limits(&self) -> Limits
+        ensures exact { result ≡ self.now.limits }
+    {
+        self.limits
     }
 
     /// The names of the branches, in order of creation.
@@ -98,6 +114,7 @@ impl State {
             branches,
             known,
             count: self.count,
+            limits: self.limits,
         })
     }
 
@@ -216,6 +233,7 @@ impl State {
             branches,
             known,
             count: self.count + 1,
+            limits: self.limits,
         })
     }
 
@@ -243,6 +261,7 @@ impl State {
             branches,
             known,
             count: self.count + 1,
+            limits: self.limits,
         })
     }
 }

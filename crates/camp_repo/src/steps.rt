@@ -4,9 +4,7 @@ ghost use Rattle.camp_repo.specs.Wanting.{HasBranch, MayWant, MayWantCopy, MayWa
 
 use crate::name_lists::{first_lacked, is_full_with, lists_none, wanted};
 use crate::sizes::{changed, is_too_large};
-use crate::{
-    Branch, Call, Changes, Conflicts, Decided, MAX_BRANCHES, Names, Refusal, Reply, State,
-};
+use crate::{Branch, Call, Changes, Conflicts, Decided, Names, Refusal, Reply, State};
 use camp_base::Name;
 use camp_branch::{Blocked, set_of};
 use camp_catch::Unmade;
@@ -46,7 +44,7 @@ impl State {
         if self.branch(new).is_some() {
             return Ok(refused(Refusal::BranchExists(*new)));
         }
-        if self.len() >= MAX_BRANCHES {
+        if self.len() >= self.limits().branches() {
             return Ok(refused(Refusal::TooLarge));
         }
         let next = self.with_copy(new, place, branch)?;
@@ -61,7 +59,7 @@ impl State {
     ) -> Result<Decided<State, Reply>, AllocError>
         requires { self.now.count < 2 ^ 64 - 1 }
         ensures exact { IfOk result (λ decided. decided ≡ step_record self.now branch.now name.now changes.now) }
-        ensures memory { IfErr result (λ error. MayWantRecord self.now branch.now name.now (λ catches. is_too_large catches changes.now)) }
+        ensures memory { IfErr result (λ error. MayWantRecord self.now branch.now name.now (λ catches. is_too_large self.now.limits.catches catches changes.now)) }
     {
         let Some((place, old)) = self.find(branch) else {
             return Ok(refused(Refusal::NoBranch(*branch)));
@@ -69,7 +67,7 @@ impl State {
         if self.stands(name) {
             return Ok(refused(Refusal::PatchExists(*name)));
         }
-        if is_too_large(old, changes.prims()) {
+        if is_too_large(self.limits(), old, changes.prims()) {
             return Ok(refused(Refusal::TooLarge));
         }
         let tree = match changed(old.tree(), changes.prims()) {
@@ -112,7 +110,7 @@ impl State {
         if wanted.is_empty() {
             return Ok(refused(Refusal::NothingToDo));
         }
-        if is_full_with(ours, theirs, &wanted, known) {
+        if is_full_with(self.limits(), ours, theirs, &wanted, known) {
             return Ok(refused(Refusal::TooLarge));
         }
         let agreed = ours.agreed(theirs, known)?;

@@ -205,14 +205,18 @@ hindrance_text (hindrance.TooLong count) =
 abbrev pub change_text : ℕ → List ℕ → List ℕ
 change_text change path = codes "Change " ++ decimal change ++ codes ", file " ++ path
 
+-- that a number is the most
+abbrev pub most_text : ℕ → List ℕ
+most_text most = decimal most ++ codes " is the most.\n"
+
 -- what stands against a command; of a record that stops, where and why
 abbrev pub cause_text : Cause → List ℕ
-cause_text (cause.FullRepository count) =
-    codes "There are " ++ decimal count ++ codes " branches, and 256 is the most.\n"
-cause_text (cause.FullBranch has more) =
-    two_numbers (codes "The branch has ") has (codes " changes, and the patch ") more (codes " more: 4096 is the most.\n")
-cause_text (cause.FullWithPull has more) =
-    two_numbers (codes "TO has ") has (codes " changes, and the pull brings ") more (codes " more: 4096 is the most.\n")
+cause_text (cause.FullRepository count most) =
+    two_numbers (codes "There are ") count (codes " branches, and ") most (codes " is the most.\n")
+cause_text (cause.FullBranch has more most) =
+    two_numbers (codes "The branch has ") has (codes " changes, and the patch ") more (codes " more: ") ++ most_text most
+cause_text (cause.FullWithPull has more most) =
+    two_numbers (codes "TO has ") has (codes " changes, and the pull brings ") more (codes " more: ") ++ most_text most
 cause_text (cause.LongSide change path old new) =
     change_text change path
     ++ two_numbers (codes ": the edit has ") old (codes " old lines and ") new (codes " new ones, and 65535 is the most of each.\n")
@@ -250,10 +254,10 @@ against_text state asked found reason = sides_text (about asked) (target asked) 
 
 -- what can be done where a limit would be passed
 abbrev pub limit_cure : Cause → List ℕ
-limit_cure (cause.FullRepository count) = page (codes "Record in one of the branches that there are." ∷ [])
-limit_cure (cause.FullBranch has more) = page (
+limit_cure (cause.FullRepository count most) = page (codes "Record in one of the branches that there are." ∷ [])
+limit_cure (cause.FullBranch has more most) = page (
     codes "Record in a branch with fewer changes, or take patches out of this one by obliterate." ∷ [])
-limit_cure (cause.FullWithPull has more) = page (codes "Pull fewer patches, or take patches out of TO by obliterate." ∷ [])
+limit_cure (cause.FullWithPull has more most) = page (codes "Pull fewer patches, or take patches out of TO by obliterate." ∷ [])
 limit_cure (cause.LongSide change path old new) = page (codes "Cut the edit in parts." ∷ [])
 limit_cure (cause.Stops stop) = page (codes "Put some of the lines into another file." ∷ [])
 

@@ -4,7 +4,7 @@ ghost use Rattle.camp_script.specs.Gives.{Gives};
 ghost use Rattle.camp_script.specs.Lines.{lines_of, words_of};
 ghost use Rattle.camp_script.specs.declared.faults.LineFault.{LineFault as SaidFault};
 ghost use Rattle.camp_talk.specs.Asking.{first_of};
-ghost use Rattle.camp_talk.specs.Whys.{against_text, cause_found, cause_text, cause_told, cause_with, change_text, cure_at, ends_text, facts_text, found_text, hindrance_text, is_failure, lacks_text, limit_cure, met_text, misfit_text, reason_in, refusal_lines, refusal_told, trimmed, two_numbers, why_told};
+ghost use Rattle.camp_talk.specs.Whys.{against_text, cause_found, cause_text, cause_told, cause_with, change_text, cure_at, ends_text, facts_text, found_text, hindrance_text, is_failure, lacks_text, limit_cure, met_text, misfit_text, most_text, reason_in, refusal_lines, refusal_told, trimmed, two_numbers, why_told};
 ghost use Rattle.camp_talk.specs.declared.questions.Asked.{Asked as SaidAsked};
 ghost use Rattle.camp_why.specs.declared.misfits.Misfit.TheVariants.{EndsBefore};
 
@@ -177,7 +177,7 @@ fn limit_cure(cause: &Cause) -> &'static str
     ensures { result.now ≡ limit_cure cause.now }
 {
     match cause {
-        Cause::FullRepository(_) => "Record in one of the branches that there are.\n",
+        Cause::FullRepository { .. } => "Record in one of the branches that there are.\n",
         Cause::FullBranch { .. } => {
             "Record in a branch with fewer changes, or take patches out of this one by obliterate.\n"
         }
@@ -217,24 +217,35 @@ fn cause_text(alloc: Global, cause: &Cause) -> Result<Vec<u8>, AllocError>
     ensures { IfOk result (λ text. text.items ≡ cause_text cause.now) }
 {
     match cause {
-        Cause::FullRepository(count) => made(format!(in alloc;
-            "There are {count} branches, and 256 is the most.\n"
-        )),
-        Cause::FullBranch { has, more } => two_numbers(
+        Cause::FullRepository { count, most } => two_numbers(
             alloc,
-            "The branch has ",
-            *has,
-            " changes, and the patch ",
-            *more,
-            " more: 4096 is the most.\n",
+            "There are ",
+            *count,
+            " branches, and ",
+            *most,
+            " is the most.\n",
         ),
-        Cause::FullWithPull { has, more } => two_numbers(
-            alloc,
-            "TO has ",
-            *has,
-            " changes, and the pull brings ",
-            *more,
-            " more: 4096 is the most.\n",
+        Cause::FullBranch { has, more, most } => both(
+            two_numbers(
+                alloc,
+                "The branch has ",
+                *has,
+                " changes, and the patch ",
+                *more,
+                " more: ",
+            ),
+            most_text(alloc, *most),
+        ),
+        Cause::FullWithPull { has, more, most } => both(
+            two_numbers(
+                alloc,
+                "TO has ",
+                *has,
+                " changes, and the pull brings ",
+                *more,
+                " more: ",
+            ),
+            most_text(alloc, *most),
         ),
         Cause::LongSide {
             change,
@@ -250,6 +261,14 @@ fn cause_text(alloc: Global, cause: &Cause) -> Result<Vec<u8>, AllocError>
             hindrance_text(alloc, &stop.why),
         ),
     }
+}
+
+// That a number is the most.
+fn most_text(alloc: Global, most: usize) -> Result<Vec<u8>, AllocError>
+    ensures { IfOk result (λ text. text.items ≡ most_text most) }
+{
+    let mut digits = Buffer::new();
+    joined(alloc, &[digits.format(most).as_bytes(), b" is the most.\n"])
 }
 
 // A text with two numbers.

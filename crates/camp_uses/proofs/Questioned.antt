@@ -169,7 +169,7 @@ module _ (state : Contents) (from to : List ℕ) (names told : List (List ℕ)) 
 
   by_lacked : (o : Option (List ℕ)) → o ≡ None → UnlessHeld state from to names (option_map_or (λ name. refused (NoPatch name)) o (pull_wanted state to along.theirs along.ours (wanted along.ours told)))
   by_lacked None e free =
-      by_tests (is_empty (wanted along.ours told)) (is_full_with along.ours along.theirs (wanted along.ours told)) (pulled along.theirs along.ours (wanted along.ours told)) refl free
+      by_tests (is_empty (wanted along.ours told)) (is_full_with state.limits.catches along.ours along.theirs (wanted along.ours told)) (pulled along.theirs along.ours (wanted along.ours told)) refl free
   by_lacked (Some name) e free = cc
 
   by_two : (b : Bool) → bytes_eq from to ≡ b → UnlessHeld state from to names (refused_if b (SameBranch to) (with_patches along.theirs told (pull_wanted state to along.theirs along.ours (wanted along.ours told))))

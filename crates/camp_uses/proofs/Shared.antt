@@ -3,6 +3,7 @@ use Rattle.camp_uses.proofs.Words.{◌≡◌, ℕ, false, true, List, Option, No
 use Rattle.camp_call.specs.declared.calls.Call.TheVariants as call
 use Rattle.camp_object.specs.Asking.{Accepts}
 use Rattle.camp_object.proofs.Asks.{accepted_before, accepted_writes}
+use Rattle.camp_repo.specs.Limits.{default_bounds}
 use Rattle.camp_repo.specs.ObjectLaws.{repository_is_lawful}
 use Rattle.camp_uses.specs.Shared.{Grows, HoldsTree, LacksBranch, tree_in}
 
@@ -27,7 +28,7 @@ is_there state branch tree None is comes = let none = rw is at comes in cc
 pub holds : HistoriesTellTrees → (history : List (ℕ × Call)) (branch : List ℕ) (tree : Files) → IsAnswered repository history (call.Tree branch) (Tree tree) → HoldsTree history branch tree
 holds law history branch tree answered =
     let there = is_there answered.state branch tree (catches_of answered.state.branches branch) refl answered.gives in
-    let told = law history answered.state branch there.0 answered.replays there.1 in
+    let told = law default_bounds history answered.state branch there.0 answered.replays there.1 in
     record {
       state = answered.state;
       replays = answered.replays;
@@ -60,7 +61,7 @@ module _ (law : HistoriesTellTrees) (history : List (ℕ × Call)) (branch : Lis
   lacks_by : (found : Option (List Catch)) → catches_of answered.state.branches branch ≡ found → LacksBranch history branch
   lacks_by None is = record { state = answered.state; replays = answered.replays; lacks = is }
   lacks_by (Some catches) is =
-      let told = law history answered.state branch catches answered.replays is in
+      let told = law default_bounds history answered.state branch catches answered.replays is in
       let same = same_answer answer (Tree told.0) _ answered.gives told.3 in
       let some : Some told.0 ≡ None = subst (λ reply. tree_in reply ≡ None) same none in
       cc

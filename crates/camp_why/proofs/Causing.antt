@@ -13,7 +13,7 @@ use Rattle.camp_call.specs.declared.replies.Refusal.TheVariants.{TooLarge}
 use Rattle.camp_repo.proofs.TreeSteps.{tree_found}
 use Rattle.camp_repo.specs.Laws.{Has}
 use Rattle.camp_repo.specs.States.{Contents, catches_of, tree_of}
-use Rattle.camp_repo.specs.Steps.{has_long_side, is_patch_sized, is_too_large, most_catches}
+use Rattle.camp_repo.specs.Steps.{has_long_side, is_patch_sized, is_too_large}
 use Rattle.camp_why.specs.Causes.{IsSo, RecordsIn, cause_or, first_long, is_of_changes, record_cause, refusal_by, stop_cause, stop_from}
 use Rattle.camp_why.specs.Stops.{first_stop, refusal_at}
 use Rattle.camp_why.specs.declared.stops.Hindrance.{Hindrance}
@@ -101,26 +101,27 @@ module _ (state : Contents) (branch name : List ℕ) (changes : List Primitive) 
   in_branch : RecordsIn state asked catches changes
   in_branch = record { branch = branch; name = name; records = refl; has = has }
 
-  explains : (cause : Cause) → record_cause changes (Some catches) ≡ Some cause → IsSo state asked cause → IsExplained state asked (refusal_by cause)
+  explains : (cause : Cause) → record_cause state.limits.catches changes (Some catches) ≡ Some cause → IsSo state asked cause → IsExplained state asked (refusal_by cause)
   explains cause told is_so = record {
     cause = cause;
-    told = cond-true (is_of_changes (refusal_by cause)) (record_cause changes (catches_of state.branches branch)) None (by_cause cause)
-        ∙ ap (record_cause changes) has ∙ told;
+    told = cond-true (is_of_changes (refusal_by cause)) (record_cause state.limits.catches changes (catches_of state.branches branch)) None (by_cause cause)
+        ∙ ap (record_cause state.limits.catches changes) has ∙ told;
     of = refl;
     is_so = is_so;
   }
 
-  fills : nat_lt most_catches (length catches + length changes) ≡ true → IsExplained state asked TooLarge
-  fills full = explains (FullBranch (length catches) (length changes)) (cond-true _ _ _ full) (record {
+  fills : nat_lt state.limits.catches (length catches + length changes) ≡ true → IsExplained state asked TooLarge
+  fills full = explains (FullBranch (length catches) (length changes) state.limits.catches) (cond-true _ _ _ full) (record {
     catches = catches;
     changes = changes;
     in_branch = in_branch;
     counts = refl;
     brings = refl;
-    full = ltb-true most_catches (length catches + length changes) full;
+    limit = refl;
+    full = ltb-true state.limits.catches (length catches + length changes) full;
   })
 
-  is_long : nat_lt most_catches (length catches + length changes) ≡ false → list_any has_long_side changes ≡ true → IsExplained state asked TooLarge
+  is_long : nat_lt state.limits.catches (length catches + length changes) ≡ false → list_any has_long_side changes ≡ true → IsExplained state asked TooLarge
   is_long few any = by_first (first_long 1 changes) refl (finds 0 changes)
     where
       by_first : (found : Option Cause) → first_long 1 changes ≡ found → Finds 0 changes found → IsExplained state asked TooLarge
@@ -146,19 +147,19 @@ module _ (state : Contents) (branch name : List ℕ) (changes : List Primitive) 
           })
 
   -- too many changes, or too long sides
-  large_by : (full long : Bool) → nat_lt most_catches (length catches + length changes) ≡ full → list_any has_long_side changes ≡ long
+  large_by : (full long : Bool) → nat_lt state.limits.catches (length catches + length changes) ≡ full → list_any has_long_side changes ≡ long
       → full || (long || not (is_patch_sized changes)) ≡ true → IsPatchSized changes → IsExplained state asked TooLarge
   large_by true long full any e size = fills full
   large_by false true few any e size = is_long few any
   large_by false false few none e size = absurd (false≢true (sym (is_sized changes size) ∙ e))
 
-  pub is_large : is_too_large catches changes ≡ true → IsPatchSized changes → IsExplained state asked TooLarge
-  is_large e size = large_by (nat_lt most_catches (length catches + length changes)) (list_any has_long_side changes) refl refl e size
+  pub is_large : is_too_large state.limits.catches catches changes ≡ true → IsPatchSized changes → IsExplained state asked TooLarge
+  is_large e size = large_by (nat_lt state.limits.catches (length catches + length changes)) (list_any has_long_side changes) refl refl e size
 
-  pub stops : is_too_large catches changes ≡ false → (tree : Files) → LeadsTo catches tree → (refusal : Refusal) → (with_stop : StopsWith 1 changes tree refusal)
+  pub stops : is_too_large state.limits.catches catches changes ≡ false → (tree : Files) → LeadsTo catches tree → (refusal : Refusal) → (with_stop : StopsWith 1 changes tree refusal)
       → IsExplained state asked (refusal_at with_stop.stop.why)
   stops small tree leads refusal with_stop =
-      let (few, others) = or_parts (nat_lt most_catches (length catches + length changes)) _ small in
+      let (few, others) = or_parts (nat_lt state.limits.catches (length catches + length changes)) _ small in
       let short = (or_parts (list_any has_long_side changes) _ others).0 in
       let told : cause_or (first_long 1 changes) (stop_from changes (tree_of catches)) ≡ Some (Stops with_stop.stop) =
       (λ j. cause_or (none_found changes (first_long 1 changes) (finds 0 changes) short j) (stop_from changes (tree_found catches tree leads j))) ∙ ap stop_cause with_stop.first in
@@ -174,11 +175,11 @@ module _ (state : Contents) (branch name : List ℕ) (changes : List Primitive) 
 -- ---- in a branch
 
 -- where the branch has room and no side is too long, a record stops at a change or does not
-pub stops_in : (catches : List Catch) (changes : List Primitive) (tree : Files)
-    → nat_lt most_catches (length catches + length changes) ≡ false → first_long 1 changes ≡ None → LeadsTo catches tree
-    → (found : Option Stop) → found ≡ first_stop 1 changes tree → stop_cause found ≡ record_cause changes (Some catches)
-stops_in catches changes tree few short leads found is =
+pub stops_in : (most : ℕ) (catches : List Catch) (changes : List Primitive) (tree : Files)
+    → nat_lt most (length catches + length changes) ≡ false → first_long 1 changes ≡ None → LeadsTo catches tree
+    → (found : Option Stop) → found ≡ first_stop 1 changes tree → stop_cause found ≡ record_cause most changes (Some catches)
+stops_in most catches changes tree few short leads found is =
     ap stop_cause is
-    ∙ sym (cond-false (nat_lt most_catches (length catches + length changes)) (Some (FullBranch (length catches) (length changes)))
+    ∙ sym (cond-false (nat_lt most (length catches + length changes)) (Some (FullBranch (length catches) (length changes) most))
     (cause_or (first_long 1 changes) (stop_from changes (tree_of catches))) few
     ∙ (λ j. cause_or (short j) (stop_from changes (tree_found catches tree leads j))))

@@ -23,7 +23,7 @@ use Rattle.camp_repo.specs.Laws.{Has}
 use Rattle.camp_repo.specs.Lawful.{IsLawfulState}
 use Rattle.camp_repo.specs.Outcomes.{obliterated, pulled}
 use Rattle.camp_repo.specs.States.{Contents, catches_of, stands}
-use Rattle.camp_repo.specs.Steps.{Decision, accepted, becomes, changed, is_empty, is_full_with, is_too_large, listed, most_branches, most_catches, record_leads, refusal_of, refused, refused_if, shown, step, wanted}
+use Rattle.camp_repo.specs.Steps.{Decision, accepted, becomes, changed, is_empty, is_full_with, is_too_large, listed, record_leads, refusal_of, refused, refused_if, shown, step, wanted}
 use Rattle.std.proofs.lemmas.Bool.{leb-true}
 use Rattle.camp_why.specs.Causes.{brought, full_with_pull, is_of_changes, is_of_limit}
 use Rattle.camp_why.specs.declared.causes.Cause.TheVariants.{FullRepository, FullWithPull}
@@ -112,12 +112,12 @@ module _ (state : Contents) (lawful : IsLawfulState state) (refusal : Refusal) w
       (λ none same. ground asked (NoBranch from) same (refl, none))
       (λ catches has e1. by_test refusal (is_some (catches_of state.branches new)) (BranchExists new) _ e1
       (λ there same. ground asked (BranchExists new) same (refl, found_some (catches_of state.branches new) there))
-      (λ free e2. by_test refusal (nat_le most_branches (length state.branches)) TooLarge _ e2
+      (λ free e2. by_test refusal (nat_le state.limits.branches (length state.branches)) TooLarge _ e2
       (λ full same. ground asked TooLarge same (record {
-        cause = FullRepository (length state.branches);
+        cause = FullRepository (length state.branches) state.limits.branches;
         told = refl;
         of = refl;
-        is_so = record { new = new; from = from; copies = refl; counts = refl; full = leb-true most_branches (length state.branches) full };
+        is_so = record { new = new; from = from; copies = refl; counts = refl; limit = refl; full = leb-true state.limits.branches (length state.branches) full };
       }))
       (λ room e3. not_refused refusal (accepted state (state.branches ++ (new, catches) ∷ [])) refl e3)))
 
@@ -129,7 +129,7 @@ module _ (state : Contents) (lawful : IsLawfulState state) (refusal : Refusal) w
       (λ none same. ground asked (NoBranch branch) same (refl, none))
       (λ catches has e1. by_test refusal (stands state.branches name) (PatchExists name) _ e1
       (λ there same. ground asked (PatchExists name) same (refl, there))
-      (λ free e2. by_test refusal (is_too_large catches changes) TooLarge _ e2
+      (λ free e2. by_test refusal (is_too_large state.limits.catches catches changes) TooLarge _ e2
       (λ large same. ground asked TooLarge same (is_large state branch name changes catches has large size))
       (λ small e3.
       let by = lawful_branch state lawful branch catches has in
@@ -137,7 +137,7 @@ module _ (state : Contents) (lawful : IsLawfulState state) (refusal : Refusal) w
       (ap (λ found. option_map_or (λ tree. record_leads state branch (catches ++ recorded name 1 changes) (changed changes tree)) found (refused DoesNotApply))
       (sym (tree_found catches by.tree by.leads)) ∙ e3))))
     where
-      by_led : (catches : List Catch) → Has state branch catches → is_too_large catches changes ≡ false → (tree : Files) → LeadsTo catches tree
+      by_led : (catches : List Catch) → Has state branch catches → is_too_large state.limits.catches catches changes ≡ false → (tree : Files) → LeadsTo catches tree
           → (led : Result Files Refusal) → changed changes tree ≡ led
           → record_leads state branch (catches ++ recorded name 1 changes) led ≡ refused refusal → IsGround state (call.Record branch name changes) refusal
       by_led catches has small tree leads (Ok next) is e = not_refused refusal (record_leads state branch (catches ++ recorded name 1 changes) (Ok next)) refl e
@@ -160,10 +160,10 @@ module _ (state : Contents) (lawful : IsLawfulState state) (refusal : Refusal) w
       (λ name lacks same. ground asked (NoPatch name) same (theirs, from_has, lacks))
       (λ all e4. by_test refusal (is_empty (wanted ours (listed theirs names))) NothingToDo _ e4
       (λ none same. ground asked NothingToDo same (theirs, ours, from_has, to_has, none_in (wanted ours (listed theirs names)) none))
-      (λ some e5. by_test refusal (is_full_with ours theirs (wanted ours (listed theirs names))) TooLarge _ e5
+      (λ some e5. by_test refusal (is_full_with state.limits.catches ours theirs (wanted ours (listed theirs names))) TooLarge _ e5
       (λ full same. ground asked TooLarge same (record {
-        cause = FullWithPull (length ours) (length (brought theirs ours names));
-        told = (λ j. full_with_pull (from_has j) (to_has j) names);
+        cause = FullWithPull (length ours) (length (brought theirs ours names)) state.limits.catches;
+        told = (λ j. full_with_pull state.limits.catches (from_has j) (to_has j) names);
         of = refl;
         is_so = record {
           from = from;
@@ -176,7 +176,8 @@ module _ (state : Contents) (lawful : IsLawfulState state) (refusal : Refusal) w
           to_has = to_has;
           counts = refl;
           brings = refl;
-          full = ltb-true most_catches (length ours + length (brought theirs ours names)) full;
+          limit = refl;
+          full = ltb-true state.limits.catches (length ours + length (brought theirs ours names)) full;
         };
       }))
       (λ room e6. by_outcome refusal state to (pulled theirs ours (wanted ours (listed theirs names))) e6

@@ -12,7 +12,7 @@ use Rattle.camp_call.specs.declared.replies.Refusal.{Refusal}
 use Rattle.camp_call.specs.declared.replies.Refusal.TheVariants.{DoesNotApply, TooLarge}
 use Rattle.camp_repo.specs.Laws.{Has}
 use Rattle.camp_repo.specs.States.{Contents, catches_of, tree_of}
-use Rattle.camp_repo.specs.Steps.{catches_named, has_long_side, listed, most_branches, most_catches, wanted}
+use Rattle.camp_repo.specs.Steps.{catches_named, has_long_side, listed, wanted}
 use Rattle.camp_why.specs.Stops.{IsStop, first_stop, refusal_at}
 use Rattle.camp_why.specs.declared.causes.Cause.{Cause}
 use Rattle.camp_why.specs.declared.causes.Cause.TheVariants.{FullBranch, FullRepository, FullWithPull, LongSide, Stops}
@@ -58,37 +58,38 @@ abbrev pub stop_from : List Primitive → Option Files → Option Cause
 stop_from changes None = None
 stop_from changes (Some tree) = stop_cause (first_stop 1 changes tree)
 
--- why changes are not recorded, by the catches that their branch has
-abbrev pub record_cause : List Primitive → Option (List Catch) → Option Cause
-record_cause changes None = None
-record_cause changes (Some catches) =
-    if nat_lt most_catches (length catches + length changes) then Some (FullBranch (length catches) (length changes))
+-- why changes are not recorded in a branch of at most so many catches, by those that it has
+abbrev pub record_cause : ℕ → List Primitive → Option (List Catch) → Option Cause
+record_cause most changes None = None
+record_cause most changes (Some catches) =
+    if nat_lt most (length catches + length changes) then Some (FullBranch (length catches) (length changes) most)
     else cause_or (first_long 1 changes) (stop_from changes (tree_of catches))
 
 -- that a repository has as many branches as it may have
 abbrev pub branch_cause : Contents → Refusal → Option Cause
-branch_cause state refusal = if is_of_limit refusal then Some (FullRepository (length state.branches)) else None
+branch_cause state refusal = if is_of_limit refusal then Some (FullRepository (length state.branches) state.limits.branches) else None
 
 -- the changes that a pull brings, of those that the one branch has: the listed ones that the other lacks
 abbrev pub brought : List Catch → List Catch → Option (List (List ℕ)) → List Catch
 brought theirs ours names = catches_named (wanted ours (listed theirs names)) theirs
 
--- that a branch has so many changes, and a pull brings so many more
-abbrev pub full_with_pull : Option (List Catch) → Option (List Catch) → Option (List (List ℕ)) → Option Cause
-full_with_pull (Some theirs) (Some ours) names = Some (FullWithPull (length ours) (length (brought theirs ours names)))
-full_with_pull theirs ours names = None
+-- that a branch of at most so many catches has some, and a pull brings so many more
+abbrev pub full_with_pull : ℕ → Option (List Catch) → Option (List Catch) → Option (List (List ℕ)) → Option Cause
+full_with_pull most (Some theirs) (Some ours) names =
+    Some (FullWithPull (length ours) (length (brought theirs ours names)) most)
+full_with_pull most theirs ours names = None
 
 -- that a branch would be too long with what is pulled
 abbrev pub pull_cause : Contents → List ℕ → List ℕ → Option (List (List ℕ)) → Refusal → Option Cause
 pull_cause state from to names refusal =
     if is_of_limit refusal
-    then full_with_pull (catches_of state.branches from) (catches_of state.branches to) names else None
+    then full_with_pull state.limits.catches (catches_of state.branches from) (catches_of state.branches to) names else None
 
 -- why a call is refused so at a state; nothing, where the refusal says it all
 abbrev pub explained : Contents → Call → Refusal → Option Cause
 explained state (call.Branch new from) refusal = branch_cause state refusal
 explained state (call.Record branch name changes) refusal =
-    if is_of_changes refusal then record_cause changes (catches_of state.branches branch) else None
+    if is_of_changes refusal then record_cause state.limits.catches changes (catches_of state.branches branch) else None
 explained state (call.Pull from to names) refusal = pull_cause state from to names refusal
 explained state other refusal = None
 
@@ -99,13 +100,14 @@ abbrev pub refusal_by : Cause → Refusal
 refusal_by (Stops stop) = refusal_at stop.why
 refusal_by other = TooLarge
 
--- a repository has so many branches, and no more may be made
-pub record FillsRepository (state : Contents) (asked : Call) (count : ℕ) : Type 0 where
+-- a repository has so many branches, and its limits let no more be made
+pub record FillsRepository (state : Contents) (asked : Call) (count most : ℕ) : Type 0 where
   pub new : List ℕ
   pub from : List ℕ
   pub copies : asked ≡ call.Branch new from
   pub counts : count ≡ length state.branches
-  pub full : most_branches ≤ count
+  pub limit : most ≡ state.limits.branches
+  pub full : most ≤ count
 
 -- changes are recorded in a branch with these catches
 pub record RecordsIn (state : Contents) (asked : Call) (catches : List Catch) (changes : List Primitive) : Type 0 where
@@ -114,17 +116,18 @@ pub record RecordsIn (state : Contents) (asked : Call) (catches : List Catch) (c
   pub records : asked ≡ call.Record branch name changes
   pub has : Has state branch catches
 
--- a branch has so many changes, and with so many more it would have too many
-pub record FillsBranch (state : Contents) (asked : Call) (has more : ℕ) : Type 0 where
+-- a branch has so many changes, and with so many more it would have more than the limits say
+pub record FillsBranch (state : Contents) (asked : Call) (has more most : ℕ) : Type 0 where
   pub catches : List Catch
   pub changes : List Primitive
   pub in_branch : RecordsIn state asked catches changes
   pub counts : has ≡ length catches
   pub brings : more ≡ length changes
-  pub full : most_catches < has + more
+  pub limit : most ≡ state.limits.catches
+  pub full : most < has + more
 
--- a branch has so many changes, and with so many that are pulled it would have too many
-pub record FillsWithPull (state : Contents) (asked : Call) (has more : ℕ) : Type 0 where
+-- a branch has so many changes, and with so many that are pulled it would have more than the limits say
+pub record FillsWithPull (state : Contents) (asked : Call) (has more most : ℕ) : Type 0 where
   pub from : List ℕ
   pub to : List ℕ
   pub names : Option (List (List ℕ))
@@ -135,7 +138,8 @@ pub record FillsWithPull (state : Contents) (asked : Call) (has more : ℕ) : Ty
   pub to_has : Has state to ours
   pub counts : has ≡ length ours
   pub brings : more ≡ length (catches_named (wanted ours (listed theirs names)) theirs)
-  pub full : most_catches < has + more
+  pub limit : most ≡ state.limits.catches
+  pub full : most < has + more
 
 -- the change of a number, counted from 1, is an edit of the file of a path with sides of so many lines, and one of these is too
 -- long
@@ -167,8 +171,8 @@ pub record StopsAt (state : Contents) (asked : Call) (stop : Stop) : Type 0 wher
 
 -- what a cause says of a call and a state is so
 abbrev pub IsSo : Contents → Call → Cause → Type 0
-IsSo state asked (FullRepository count) = FillsRepository state asked count
-IsSo state asked (FullBranch has more) = FillsBranch state asked has more
-IsSo state asked (FullWithPull has more) = FillsWithPull state asked has more
+IsSo state asked (FullRepository count most) = FillsRepository state asked count most
+IsSo state asked (FullBranch has more most) = FillsBranch state asked has more most
+IsSo state asked (FullWithPull has more most) = FillsWithPull state asked has more most
 IsSo state asked (LongSide change path old new) = HasLongSide state asked change path old new
 IsSo state asked (Stops stop) = StopsAt state asked stop

@@ -6,23 +6,30 @@ ghost use Rattle.camp_why.specs.Causes.{explained, first_long, full_with_pull, i
 use crate::stops::{Stop, first_stop};
 use camp_base::{Name, Path};
 use camp_prim::Primitive;
-use camp_repo::{Call, MAX_CATCHES, MAX_SIDE_LINES, Names, Refusal, State, count_brought};
+use camp_repo::{Call, MAX_SIDE_LINES, Names, Refusal, State, count_brought};
 use std::alloc::AllocError;
 
 /// Why a call is refused, where its refusal does not say it all.
 #[derive(Debug, Drop)]
 pub enum Cause {
-    /// The repository has so many branches, and no more can be made.
-    FullRepository(usize),
-    /// A branch has so many changes, and a record would bring so many more.
+    /// The repository has so many branches, and its limits let no more be made.
+    FullRepository {
+        count: usize,
+        most: usize,
+    },
+    /// A branch has so many changes, and a record would bring so many more; together these are more than the most of
+    /// this repository.
     FullBranch {
         has: usize,
         more: usize,
+        most: usize,
     },
-    /// A branch has so many changes, and a pull would bring so many more.
+    /// A branch has so many changes, and a pull would bring so many more; together these are more than the most of
+    /// this repository.
     FullWithPull {
         has: usize,
         more: usize,
+        most: usize,
     },
     /// A side of an edit is too long: that of the change of this number, counted from 1; the path of its file, and how
     /// many lines each side has.
@@ -43,7 +50,9 @@ pub fn explain(state: &State, call: &Call, refusal: &Refusal) -> Result<Option<C
 {
     match call {
         Call::Branch { .. } if is_of_limit(refusal) => {
-            Ok(Some(Cause::FullRepository(state.names().len())))
+            let count = state.names().len();
+            let most = state.limits().branches();
+            Ok(Some(Cause::FullRepository { count, most }))
         }
         Call::Record {
             branch,
@@ -78,7 +87,7 @@ fn pull_cause(
     names: &Option<Names>,
 ) -> Result<Option<Cause>, AllocError>
     ensures { IfOk result (λ found.
-        found ≡ full_with_pull (catches_of state.now.branches from.now) (catches_of state.now.branches to.now) names.now) }
+        found ≡ full_with_pull state.now.limits.catches (catches_of state.now.branches from.now) (catches_of state.now.branches to.now) names.now) }
 {
     let Some(theirs) = state.branch(from) else {
         return Ok(None);
@@ -88,7 +97,8 @@ fn pull_cause(
     };
     let has = ours.catches().len();
     let more = count_brought(ours, theirs, names)?;
-    Ok(Some(Cause::FullWithPull { has, more }))
+    let most = state.limits().catches();
+    Ok(Some(Cause::FullWithPull { has, more, most }))
 }
 
 // Why changes are not recorded in a branch.
@@ -97,15 +107,16 @@ fn record_cause(
     branch: &Name,
     changes: &[Primitive],
 ) -> Result<Option<Cause>, AllocError>
-    ensures { IfOk result (λ found. found ≡ record_cause changes.now (catches_of state.now.branches branch.now)) }
+    ensures { IfOk result (λ found. found ≡ record_cause state.now.limits.catches changes.now (catches_of state.now.branches branch.now)) }
 {
     let Some(branch) = state.branch(branch) else {
         return Ok(None);
     };
     let has = branch.catches().len();
     let more = changes.len();
-    if has.saturating_add(more) > MAX_CATCHES {
-        return Ok(Some(Cause::FullBranch { has, more }));
+    let most = state.limits().catches();
+    if has.saturating_add(more) > most {
+        return Ok(Some(Cause::FullBranch { has, more, most }));
     }
     if let Some(long) = first_long(changes)? {
         return Ok(Some(long));

@@ -24,7 +24,7 @@ pub returns-clause-within : goal.returns-clause-within
 returns-clause-within c =
     let searched = ap (λ s. position (bytes_eq c.args.name.now) s.keys) (sym c.deref.ensures) ∙ sym c.get_index_of.ensures.index ∙ c.in-Some.is in
     let there = found c.self.inside.names.keys c.self.inside.branches c.args.name.now c.in-Some.place c.self.invariant.as_many searched in
-    subst (λ n. c.in-Some.place < n) (within_fields c.self.inside.names.keys c.self.inside.branches c.self.inside.count c.args.self.now c.self.view_is c.self.invariant.as_many) there.within
+    subst (λ n. c.in-Some.place < n) (within_fields c.self.inside.names.keys c.self.inside.branches c.self.inside.count c.self.inside.limits c.args.self.now c.self.view_is c.self.invariant.as_many) there.within
 
 pub returns-clause-placed : goal.returns-clause-placed
 returns-clause-placed c catches =

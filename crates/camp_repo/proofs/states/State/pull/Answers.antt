@@ -1,4 +1,4 @@
-use Rattle.camp_repo.proofs.Words.{◌≡◌, Outcome, PullGives, settled, ◌∙◌, Err, Next, Ok, ap, sym, slice_cmp, nat_cmp, map_of, names_in, listed, wanted, pulls_begin_with_own, refused, step_pull}
+use Rattle.camp_repo.proofs.Words.{◌≡◌, Outcome, PullGives, settled, ◌∙◌, Err, Next, Ok, ap, sym, slice_cmp, nat_cmp, map_of, names_in, listed, wanted, pulls_begin_with_own, refused, step_pull, is_full_with}
 use Rattle.camp_call.specs.declared.calls.Call.TheVariants as call
 use Rattle.camp_repo.proofs.ByMembers.{full_alike, none_alike, none_there}
 use Rattle.camp_repo.proofs.DecideSteps.{next_lawful, pull_nothing, pull_settles, pull_too_large}
@@ -18,7 +18,7 @@ returns-then-is_full_with-clause-exact c =
     let two = sym c.eq.ensures ∙ c.if-eq.false in
     let all = sym c.first_lacked.ensures ∙ c.in_default-first_lacked.is in
     let some = sym (none_alike (names_in c.in_ok-wanted.wanted) (wanted c.in-Some-find.ours.now (listed c.in-Some.theirs.now c.args.names.now)) c.in_ok-wanted.ensures) ∙ none_there (map_of (slice_cmp nat_cmp) c.in_ok-wanted.wanted) ∙ sym c.is_empty.ensures.exact ∙ c.if-is_empty.false in
-    let full = sym (full_alike (names_in c.in_ok-wanted.wanted) (wanted c.in-Some-find.ours.now (listed c.in-Some.theirs.now c.args.names.now)) c.in_ok-wanted.ensures c.in-Some-find.ours.now c.in-Some.theirs.now) ∙ sym c.is_full_with.ensures ∙ c.if-is_full_with.true in
+    let full = sym (full_alike (names_in c.in_ok-wanted.wanted) (wanted c.in-Some-find.ours.now (listed c.in-Some.theirs.now c.args.names.now)) c.in_ok-wanted.ensures c.args.self.now.limits.catches c.in-Some-find.ours.now c.in-Some.theirs.now) ∙ sym (c.is_full_with.ensures ∙ ap (λ l. is_full_with l.catches c.in-Some-find.ours.now c.in-Some.theirs.now (names_in c.in_ok-wanted.wanted)) c.limits.ensures.exact) ∙ c.if-is_full_with.true in
     c.refused-then-is_full_with.ensures ∙ pull_too_large c.args.self.now c.args.from.now c.args.to.now c.args.names.now c.in-Some.theirs.now c.in-Some-find.ours.now c.in-Some.ensures.value c.in-Some-find.ensures.value two all some full
 
 pub wanted-requires : goal.wanted-requires
@@ -53,7 +53,7 @@ settles c =
     let two = sym c.eq.ensures ∙ c.if-eq.false in
     let all = sym c.first_lacked.ensures ∙ c.in_default-first_lacked.is in
     let some = sym (none_alike (names_in c.in_ok-wanted.wanted) (wanted c.in-Some-find.ours.now (listed c.in-Some.theirs.now c.args.names.now)) c.in_ok-wanted.ensures) ∙ none_there (map_of (slice_cmp nat_cmp) c.in_ok-wanted.wanted) ∙ sym c.is_empty.ensures.exact ∙ c.if-is_empty.false in
-    let few = sym (full_alike (names_in c.in_ok-wanted.wanted) (wanted c.in-Some-find.ours.now (listed c.in-Some.theirs.now c.args.names.now)) c.in_ok-wanted.ensures c.in-Some-find.ours.now c.in-Some.theirs.now) ∙ sym c.is_full_with.ensures ∙ c.if-is_full_with.false in
+    let few = sym (full_alike (names_in c.in_ok-wanted.wanted) (wanted c.in-Some-find.ours.now (listed c.in-Some.theirs.now c.args.names.now)) c.in_ok-wanted.ensures c.args.self.now.limits.catches c.in-Some-find.ours.now c.in-Some.theirs.now) ∙ sym (c.is_full_with.ensures ∙ ap (λ l. is_full_with l.catches c.in-Some-find.ours.now c.in-Some.theirs.now (names_in c.in_ok-wanted.wanted)) c.limits.ensures.exact) ∙ c.if-is_full_with.false in
     λ outcome gives. pull_settles c.args.self.now c.args.from.now c.args.to.now c.args.names.now c.in-Some.theirs.now c.in-Some-find.ours.now c.in-Some.ensures.value c.in-Some-find.ensures.value two all some few (names_in c.in_ok-wanted.wanted) c.in_ok-wanted.ensures outcome gives c.in-Some-find.place c.in-Some-find.ensures.placed
 
 pub with_pulled-requires-clause-lawful : goal.with_pulled-requires-clause-lawful
