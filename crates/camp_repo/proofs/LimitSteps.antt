@@ -1,5 +1,5 @@
 -- What the limits of a state decide.
-use Rattle.camp_repo.proofs.Words.{◌≡◌, ◌+◌, true, false, length, nat_le, nat_lt, refl, arith, subst, list_any, Holds, StatesHoldTheirLimits, DefaultLimitsHold, catches_named, listed, wanted}
+use Rattle.camp_repo.proofs.Words.{◌≡◌, ◌+◌, true, false, length, nat_le, nat_lt, refl, arith, subst, Holds, StatesHoldTheirLimits, DefaultLimitsHold, catches_named, listed, wanted}
 use Rattle.std.proofs.lemmas.Bool.Decides.{nat_tests}
 
 -- each state holds as much as its limits say

@@ -267,7 +267,8 @@ fn cause_text(alloc: Global, cause: &Cause) -> Result<Vec<u8>, AllocError>
 fn most_text(alloc: Global, most: usize) -> Result<Vec<u8>, AllocError>
     ensures { IfOk result (λ text. text.items ≡ most_text most) }
 {
-    made(format!(in alloc; "{most} is the most.\n"))
+    let mut digits = Buffer::new();
+    joined(alloc, &[digits.format(most).as_bytes(), b" is the most.\n"])
 }
 
 // A text with two numbers.
