@@ -94,5 +94,5 @@ Exit status:
   2  the command line is refused
   3  memory ran out, or input or output failed; standard error says which
 
-More: docs/scripts.md has the whole language and its faults, and examples/ has scripts to run. A
+More: docs/language.md has the whole language and its faults, and examples/ has scripts to run. A
 conversation (camp_shell) tells the cause of a fault or a refusal: ask it why.";

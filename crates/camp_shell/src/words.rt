@@ -80,7 +80,7 @@ Exit status:
      failed; standard error says which
   4  a line has no number below 2^64: no conversation comes to that
 
-More: camp --help has the commands of scripts and their answers, docs/shell.md a conversation,
+More: camp --help has the commands of scripts and their answers, docs/conversation.md a conversation,
 docs/tools.md how a program drives camp_shell, docs/git.md the way to git, and docs/questions.md the
 questions.";
 
