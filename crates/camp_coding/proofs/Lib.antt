@@ -1,0 +1,3 @@
+mod AttributeLemmas
+pub mod ContentLemmas
+pub mod EscapeLemmas

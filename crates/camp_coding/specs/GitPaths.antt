@@ -1,0 +1,26 @@
+-- Paths of git as paths of camp.
+use Rattle.std.specs.Prelude.{◌≡◌, ℕ, ◌<◌, Bool, not, ◌&&◌, ◌==◌, List, [], ◌∷◌, All, if◌then◌else◌}
+use Rattle.std.specs.List.{flat_map}
+use Rattle.camp_base.specs.Signs.{is_graphic}
+use Rattle.percent_encoding.specs.Percent.{percent_encode_byte, percent_sign}
+
+-- whether a byte stands for itself: a printing character of ASCII, and no `%`
+abbrev pub is_unescaped : ℕ → Bool
+is_unescaped byte = is_graphic byte && not (byte == percent_sign)
+
+-- a byte in an escaped path: itself, or `%` and two hexadecimal digits in capitals
+abbrev pub escaped_path_byte : ℕ → List ℕ
+escaped_path_byte byte = if is_unescaped byte then byte ∷ [] else percent_encode_byte byte
+
+-- a path of git as a path of camp
+abbrev pub escaped_path : List ℕ → List ℕ
+escaped_path path = flat_map escaped_path_byte path
+
+-- numbers that are bytes
+abbrev pub AreBytes : List ℕ → Type 0
+AreBytes bytes = All (λ byte. byte < 256) bytes
+
+-- two paths are one where they are escaped to one
+abbrev pub EscapedPathsDiffer : Type 0
+EscapedPathsDiffer =
+    (path other : List ℕ) → AreBytes path → AreBytes other → escaped_path path ≡ escaped_path other → path ≡ other

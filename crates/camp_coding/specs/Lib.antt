@@ -1,0 +1,5 @@
+pub mod Attributes
+pub mod Contents
+pub mod GitPaths
+pub mod Inside
+pub mod Modes

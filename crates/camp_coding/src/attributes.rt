@@ -1,0 +1,78 @@
+//! What git knows of a file beside its lines, by the paths of camp at which it stands.
+
+ghost use Rattle.std.specs.Prelude.{◌≡◌, IfOk};
+ghost use Rattle.camp_coding.specs.Attributes.{AttributePathsAreFree, AttributePathsDiffer, MakesPath, attribute_folder, attribute_path};
+ghost use Rattle.camp_coding.specs.GitPaths.{escaped_path};
+
+use crate::escape_path;
+use camp_base::{BaseFault, Path};
+use std::alloc::{AllocError, Global};
+
+/// What is said of a file of git by a file of camp beside its own.
+#[derive(Clone, Copy, Debug, PartialEq, Eq)]
+pub enum Attribute {
+    /// Its mode, the one line of a file in `%m`. A file without it is a regular one.
+    ModeLine,
+    /// It lacks LF at its end: an empty file in `%n`.
+    LacksNewline,
+    /// Its lines are in pieces: an empty file in `%w`.
+    Wrapped,
+    /// A commit that changes nothing: an empty file in `%e`, by the id of the commit, which comes and goes.
+    EmptyCommit,
+}
+
+/// Returns the path in camp of a path of git. `BadPath` where camp can't hold it: escaped it has over 200 bytes, or a part
+/// of it is empty, `.` or `..`.
+pub fn encode_path(alloc: Global, path: &[u8]) -> Result<Path, BaseFault>
+    ensures exact { MakesPath (escaped_path path.now) result }
+{
+    let text = escape_path(alloc, path)?;
+    path_of(alloc, &text)
+}
+
+/// Returns the path in camp of an attribute of a path of git. `BadPath` where camp can't hold it.
+pub fn encode_attribute_path(
+    alloc: Global,
+    attribute: Attribute,
+    path: &[u8],
+) -> Result<Path, BaseFault>
+    ensures exact { MakesPath (attribute_path attribute path.now) result }
+{
+    let text = attribute_text(alloc, attribute, path)?;
+    path_of(alloc, &text)
+}
+
+/// No path of git is escaped to the path of an attribute.
+pub fn attribute_paths_are_free()
+    ensures { AttributePathsAreFree }
+{}
+
+/// Two attributes have one path only where they are of one kind and of one path.
+pub fn attribute_paths_differ()
+    ensures { AttributePathsDiffer }
+{}
+
+fn path_of(alloc: Global, text: &[u8]) -> Result<Path, BaseFault>
+    ensures { MakesPath text.now result }
+{
+    Path::new(alloc, text)
+}
+
+fn attribute_text(alloc: Global, attribute: Attribute, path: &[u8]) -> Result<Vec<u8>, AllocError>
+    ensures { IfOk result (λ text. text.items ≡ attribute_path attribute path.now) }
+{
+    let mut text = Vec::from_slice(alloc, folder_of(attribute))?;
+    text.extend_from_slice(&escape_path(alloc, path)?)?;
+    Ok(text)
+}
+
+fn folder_of(attribute: Attribute) -> &'static [u8]
+    ensures { result.now ≡ attribute_folder attribute }
+{
+    match attribute {
+        Attribute::ModeLine => b"%m/",
+        Attribute::LacksNewline => b"%n/",
+        Attribute::Wrapped => b"%w/",
+        Attribute::EmptyCommit => b"%e/",
+    }
+}

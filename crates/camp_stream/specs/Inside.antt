@@ -1,0 +1,2 @@
+-- Definitions that serve only private functions.
+pub mod Steps
