@@ -89,7 +89,7 @@ class EtcdLog:
             watch = {**self._range, "start_revision": str(self._revision + 1)}
             try:
                 response = self._post("watch", {"create_request": watch}, 2.0)
-                while line := response.readline():
+                while self._damaged is None and (line := response.readline()):
                     self._take(json.loads(line).get("result", {}))
             except (OSError, http.client.HTTPException, ValueError):
                 pass

@@ -31,11 +31,11 @@ class Outcome(enum.Enum):
 
 
 class Damaged(Exception):
-    """An entry was changed or removed, counted from 0."""
+    """An entry was changed or removed. The log can be read up to an index alone."""
 
     def __init__(self, index: int):
         self.index = index
-        super().__init__("entry {} of the log was changed or removed".format(index))
+        super().__init__("an entry was changed or removed: the log is read up to entry {} alone".format(index))
 
 
 class Away(Exception):
