@@ -107,7 +107,7 @@ def run_all():
     with tempfile.TemporaryDirectory(prefix="gate-") as folder, ThreadPoolExecutor(len(phases[registry.BESIDE])) as beside:
         tree = f"{folder}/tree"
         # `rt ci` would prove a crate once more for each mutant of must-fail/, so they are tried beside it, many in one check.
-        shutil.copytree(TOP, tree, ignore=shutil.ignore_patterns(".git", "out", "must-fail", "__pycache__"))
+        shutil.copytree(TOP, tree, symlinks=True, ignore=shutil.ignore_patterns(".git", "out", "must-fail", "__pycache__"))
         for it in phases[registry.BESIDE]:
             if it is not mutants:
                 beside.submit(run_one, it, progress, it.gate_words, 10)

@@ -80,7 +80,9 @@ def killed(store, path, first, batch):
     except BrokenPipeError:
         pass
     peer.send_signal(signal.SIGKILL)
-    return (answered + peer.communicate()[0]).count(b"\n"), sent
+    answered += peer.stdout.read()
+    peer.communicate()
+    return answered.count(b"\n"), sent
 
 
 def prepared(store, what):

@@ -6,6 +6,7 @@ command and reads its answer. Where it is `memory`, the command is sent again an
 The line numbers of faults are left out: the comments move them, too. Where each allocation is refused, each command has to be.
 """
 
+import contextlib
 import re
 from concurrent.futures import ThreadPoolExecutor
 
@@ -81,7 +82,8 @@ class Peer:
         return lines
 
     def end(self):
-        self.run.stdin.close()
+        with contextlib.suppress(BrokenPipeError):
+            self.run.stdin.close()
         self.run.wait(timeout=programs.TIMEOUT)
         return self.run.returncode, self.run.stderr.read()
 

@@ -59,7 +59,7 @@ class Report:
 def difference(wanted, found):
     """How a value differs from the wanted one: both values if they are short, else the first lines that differ."""
     if not isinstance(wanted, (bytes, str)) or not isinstance(found, (bytes, str)) or len(wanted) + len(found) < MOST_CHARACTERS:
-        return f"{found!r} in place of {wanted!r}"
+        return f"{found!r:.600} in place of {wanted!r:.600}"
     lines = [shown(it) for it in (wanted, found)]
     told = list(difflib.unified_diff(*lines, "wanted", "found", n=0, lineterm=""))[2:] if max(map(len, lines)) < 20_000 else []
     if not told:
