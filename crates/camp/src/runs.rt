@@ -6,7 +6,7 @@ ghost use Rattle.camp_run.specs.Runs.{Runs};
 ghost use Rattle.camp_run.specs.Serial.{IsSerial};
 
 use camp_options::Options;
-use camp_run::{RunFault, Turns, run_book, run_head};
+use camp_run::{RunFault, Turns, run_book, run_head_at};
 use std::alloc::Global;
 use std::io::{Read, Write};
 use std::sync::Wait;
@@ -29,14 +29,16 @@ pub(crate) fn run<T: Threads + Wait + Sync, R: Read, W: Write>(
     if asked.serial {
         run_book(alloc, reader, writer, asked.history)
     } else {
-        run_head(
+        let turns = Turns::new(rt);
+        run_head_at(
             rt,
             alloc,
             reader,
             writer,
             asked.history,
             asked.tries,
-            &Turns::new(rt),
+            &turns,
+            &turns,
         )
     }
 }

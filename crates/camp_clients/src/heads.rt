@@ -10,6 +10,7 @@ ghost use Rattle.camp_clients.specs.Runs.{IsShared, lists_of, section_of};
 ghost use Rattle.camp_clients.specs.Sections.{most_sections, most_tries, Section};
 ghost use Rattle.camp_object.specs.Histories.{own};
 
+use crate::gates::SectionGate;
 use crate::meetings::{each_meets, meet_all};
 use crate::sections::{Answers, ask_all, put_apart};
 use camp_history::{Gate, Head, HeadDesk, HeadFault, Seat};
@@ -21,14 +22,15 @@ use std::thread::Threads;
 
 /// What is asked over a head: sections of calls, section k at seat k. A call that writes gives up after
 /// `tries` lost exchanges. The head keeps a version for each position that is a multiple of `every`, 0 to
-/// 4,096; none for 0. The gate is told of each step.
+/// 4,096; none for 0. The gate is told of each step of a call, and the section gate of each section.
 #[derive(Drop)]
-pub struct HeadPlan<'a, R, State: Object, G> {
+pub struct HeadPlan<'a, R, State: Object, G, S> {
     pub rt: &'a R,
     pub sections: &'a [Vec<State::Call>],
     pub tries: u32,
     pub every: u32,
     pub gate: &'a G,
+    pub section_gate: &'a S,
     ghost in_range: { (0 < length sections.now) × (length sections.now ≤ most_sections) },
     ghost writing: { All (λ calls. count_by State.object.is_writing calls.items ≤ most_calls) sections.now },
     ghost tries_some: { (0 < tries) × (tries ≤ most_tries) },
@@ -62,10 +64,12 @@ impl<State: Object> HeadRun<State> {
 /// Asks sections of calls over a head with a seat for each: the first alone, and then each further one
 /// in a thread of its own, whose seat has met seat 0. Afterwards seat 0 meets every seat; what it has
 /// seen is the history.
-pub fn shared<R: Threads + Wait + Sync, State: Object + Send + Sync, G: Gate + Sync>(
-    alloc: Global,
-    plan: &HeadPlan<'_, R, State, G>,
-) -> Result<HeadRun<State>, AllocError>
+pub fn shared<
+    R: Threads + Wait + Sync,
+    State: Object + Send + Sync,
+    G: Gate + Sync,
+    S: SectionGate + Sync,
+>(alloc: Global, plan: &HeadPlan<'_, R, State, G, S>) -> Result<HeadRun<State>, AllocError>
 where
     State::Call: Send + Sync,
     State::Reply: Send,
@@ -87,6 +91,7 @@ where
         alloc,
         head: &head,
         gate: plan.gate,
+        section_gate: plan.section_gate,
         sections,
     };
     let (opener, answers) = run.all(opener, seats)?;
@@ -99,17 +104,18 @@ where
 
 /// A run over a head: what it asks, and where.
 #[derive(Drop)]
-struct Run<'a, R, State: Object, G> {
+struct Run<'a, R, State: Object, G, S> {
     rt: &'a R,
     alloc: Global,
     head: &'a Head<State>,
     gate: &'a G,
+    section_gate: &'a S,
     sections: &'a [Vec<State::Call>],
     ghost seats: { seats_of head.now ≡ length sections.now },
     ghost room: { All (λ calls. count_by State.object.is_writing calls.items ≤ calls_per_seat head.now) sections.now },
 }
 
-impl<'a, R: Wait, State: Object, G: Gate> Run<'a, R, State, G> {
+impl<'a, R: Wait, State: Object, G: Gate, S: SectionGate> Run<'a, R, State, G, S> {
     /// Asks the section of a seat that has no calls yet.
     fn at_seat(&self, seat: &mut Seat<State>) -> Result<Answers<State>, AllocError>
         requires ready { IsReady self.now.head.now (length self.now.sections.now) seat.old }
@@ -119,6 +125,8 @@ impl<'a, R: Wait, State: Object, G: Gate> Run<'a, R, State, G> {
             (history_of seat.old) (section_of (lists_of self.now.sections.now) (number_of seat.old)) answers.items (history_of seat.new)) }
     {
         let calls = &self.sections[seat.number() as usize];
+        let writes = begins_with_writing::<State>(calls);
+        self.section_gate.begin(seat.number(), writes);
         let mut desk = HeadDesk::new(self.rt, self.head, seat, self.gate);
         at_desk(self.alloc, &mut desk, calls)
     }
@@ -133,12 +141,18 @@ impl<'a, R: Wait, State: Object, G: Gate> Run<'a, R, State, G> {
         let _shift = shift(self.alloc, seat.number());
         let answers = self.at_seat(&mut seat)?;
         let _handed = self.head.hand_on(&seat);
-        self.gate.end(seat.number());
+        self.section_gate.end(seat.number());
         Ok((seat, answers))
     }
 }
 
-impl<'a, R: Threads + Wait + Sync, State: Object + Send + Sync, G: Gate + Sync> Run<'a, R, State, G>
+impl<
+    'a,
+    R: Threads + Wait + Sync,
+    State: Object + Send + Sync,
+    G: Gate + Sync,
+    S: SectionGate + Sync,
+> Run<'a, R, State, G, S>
 where
     State::Call: Send + Sync,
     State::Reply: Send,
@@ -181,7 +195,7 @@ where
     {
         let mut opener = opener;
         let opening = self.at_seat(&mut opener)?;
-        self.gate.end(opener.number());
+        self.section_gate.end(opener.number());
         let (seats, opener) = each_meets::<State>(self.alloc, self.head, seats, opener)?;
         let (seats, answers) = self.clients(opening, seats)?;
         let opener = meet_all::<State>(self.alloc, self.head, opener, seats)?;
@@ -215,6 +229,14 @@ fn at_desk<'r, 'h, 's, 'g, R: Wait, State: Object, G: Gate>(
         (history_of desk.old.seat.now) calls.now answers.items (history_of desk.new.seat.now)) }
 {
     ask_all(alloc, desk, calls)
+}
+
+/// Whether the first of these calls writes.
+fn begins_with_writing<State: Object>(calls: &[State::Call]) -> bool {
+    match calls.first() {
+        Some(call) => State::is_writing(call),
+        None => false,
+    }
 }
 
 /// The largest number of calls of one section that write, and at least 1.

@@ -3,6 +3,7 @@
 
 mod comparisons;
 mod faults;
+mod gates;
 mod heads;
 mod laws;
 mod locks;
@@ -12,6 +13,7 @@ mod sections;
 
 pub use comparisons::{MAX_SECTIONS, has_exactly};
 pub use faults::LockFault;
+pub use gates::SectionGate;
 pub use heads::{HeadPlan, HeadRun, shared};
 pub use laws::{done_was_accepted, locked_is_serial, opening_is_alone, shared_is_serial};
 pub use locks::locked;

@@ -68,7 +68,7 @@ impl<'r, 'h, 's, 'g, R: Wait, State: Object, G: Gate> Desk<State>
         let number = self.asked;
         self.asked = number.saturating_add(1);
         let seat = self.seat.number();
-        self.gate.before(seat, number, State::is_writing(call));
+        self.gate.before(seat, number);
         let answer = self.ask_kept(call);
         self.gate.after(seat, number);
         answer

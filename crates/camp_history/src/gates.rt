@@ -1,18 +1,14 @@
-/// A gate is told of the steps of calls, and may wait there, as clients that take turns do. It changes no
+/// Told of the steps of calls. A gate may wait at each of them, as clients that take turns do. It changes no
 /// answer. That it is told of each step, and with which numbers, is only tested.
 pub trait Gate {
-    /// Told before a call of a seat, with the call's number and whether it writes.
-    fn before(&self, seat: u32, call: u32, writes: bool);
+    /// Called before a call of a seat, with the index of the call in its section, from 0.
+    fn before(&self, seat: u32, call: u32);
 
-    /// Told just before an exchange, with how many this call has lost.
+    /// Called just before each compare-exchange of a call, with how many this call has lost.
     fn exchange(&self, seat: u32, lost: u32);
 
-    /// Told after a call.
+    /// Called after a call of a seat, with the index of the call.
     fn after(&self, seat: u32, call: u32);
-
-    /// After the last call of a seat, and behind what it has handed on. Who asks at a seat by hand need not
-    /// tell.
-    fn end(&self, _seat: u32) {}
 }
 
 /// A gate that does nothing.
@@ -20,7 +16,7 @@ pub trait Gate {
 pub struct NoGate;
 
 impl Gate for NoGate {
-    fn before(&self, _seat: u32, _call: u32, _writes: bool) {}
+    fn before(&self, _seat: u32, _call: u32) {}
 
     fn exchange(&self, _seat: u32, _lost: u32) {}
 

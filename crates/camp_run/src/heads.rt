@@ -9,8 +9,8 @@ ghost use Rattle.camp_run.specs.Runs.{IsNotForeign, Runs};
 use crate::RunFault;
 use crate::inputs::read_input;
 use crate::outputs::{text_of, write_output};
-use camp_clients::{HeadPlan, shared};
-use camp_head::Gate;
+use camp_clients::{HeadPlan, SectionGate, shared};
+use camp_head::{Gate, NoGate};
 use camp_repo::State;
 use camp_script::Script;
 use std::alloc::{AllocError, Global};
@@ -23,9 +23,8 @@ const EVERY: u32 = 64;
 
 /// Reads a whole script and asks its sections over a head, section k at seat k: the opening first, and
 /// then each client in a thread of its own, whose calls give up after `tries` lost exchanges, 1 to
-/// 1,000. The gate is told of each call, by its number in its section, of each exchange, and of each
-/// section that is answered. Writes the answers, and the history where it is wanted, after the
-/// last thread was joined.
+/// 1,000. The gate is told of each call, by its index in its section, and of each exchange. Writes the
+/// answers, and the history where it is wanted, after the last thread was joined.
 pub fn run_head<T: Threads + Wait + Sync, R: Read, W: Write, G: Gate + Sync>(
     rt: &T,
     alloc: Global,
@@ -40,18 +39,44 @@ pub fn run_head<T: Threads + Wait + Sync, R: Read, W: Write, G: Gate + Sync>(
         (R.remaining reader.old) (R.remaining reader.new) (W.contents writer.old) result (W.contents writer.new) }
     ensures not_foreign { IfErr result IsNotForeign }
 {
+    run_head_at(rt, alloc, reader, writer, history, tries, gate, &NoGate)
+}
+
+/// The same. The section gate is told of each section: `Turns` is both gates.
+pub fn run_head_at<
+    T: Threads + Wait + Sync,
+    R: Read,
+    W: Write,
+    G: Gate + Sync,
+    S: SectionGate + Sync,
+>(
+    rt: &T,
+    alloc: Global,
+    reader: &mut R,
+    writer: &mut W,
+    history: bool,
+    tries: u32,
+    gate: &G,
+    section_gate: &S,
+) -> Result<(), RunFault>
+    requires { (0 < tries) × (tries ≤ most_tries) }
+    ensures runs { Runs (IsShared repository tries) history
+        (R.remaining reader.old) (R.remaining reader.new) (W.contents writer.old) result (W.contents writer.new) }
+    ensures not_foreign { IfErr result IsNotForeign }
+{
     let script = read_input(alloc, reader)?;
-    let text = head_text(rt, alloc, &script, history, tries, gate)?;
+    let text = head_text(rt, alloc, &script, history, tries, gate, section_gate)?;
     write_output(writer, &text)
 }
 
-fn head_text<T: Threads + Wait + Sync, G: Gate + Sync>(
+fn head_text<T: Threads + Wait + Sync, G: Gate + Sync, S: SectionGate + Sync>(
     rt: &T,
     alloc: Global,
     script: &Script,
     history: bool,
     tries: u32,
     gate: &G,
+    section_gate: &S,
 ) -> Result<Vec<u8>, AllocError>
     requires { (0 < tries) × (tries ≤ most_tries) }
     ensures { IfOk result (λ text. IsOutput (IsShared repository tries) history script.now text.items) }
@@ -62,8 +87,9 @@ fn head_text<T: Threads + Wait + Sync, G: Gate + Sync>(
         tries,
         every: EVERY,
         gate,
+        section_gate,
     };
-    let run = shared::<T, State, G>(alloc, &plan)?;
+    let run = shared::<T, State, G, S>(alloc, &plan)?;
     if !history {
         return text_of(alloc, &run.answers, &[], false);
     }

@@ -12,9 +12,10 @@ mod outputs;
 mod turns;
 
 pub use books::run_book;
+pub use camp_clients::SectionGate;
 pub use camp_head::{Gate, NoGate};
 pub use faults::RunFault;
-pub use heads::run_head;
+pub use heads::{run_head, run_head_at};
 pub use laws::{
     kept_text_leads_back, locked_section_is_serial, one_by_one_is_serial, seat_zero_stays,
     shared_section_is_serial,

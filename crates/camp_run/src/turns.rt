@@ -1,6 +1,7 @@
 //! How clients over a head take turns.
 ghost use Rattle.std.specs.Prelude.{◌<◌};
 
+use camp_clients::SectionGate;
 use camp_head::Gate;
 use std::array::from_fn;
 use std::sync::Wait;
@@ -191,6 +192,20 @@ impl<'a, R: Wait> Turns<'a, R> {
         }
     }
 
+    /// How many clients wait at this moment: none once a run has ended.
+    pub fn waiting(&self) -> u32 {
+        self.all_waiting().count_ones()
+    }
+
+    /// How often clients were woken so far: at most two for each section that has ended.
+    pub fn wakes(&self) -> u64 {
+        let mut wakes = 0u64;
+        for seat in 0..SEATS {
+            wakes = wakes.wrapping_add(self.bells.rung(seat));
+        }
+        wakes
+    }
+
     fn last_step(&self) -> u64 {
         self.step.load(Ordering::SeqCst)
     }
@@ -254,14 +269,10 @@ impl<'a, R: Wait> Turns<'a, R> {
 }
 
 impl<'a, R: Wait> Gate for Turns<'a, R> {
-    /// Who has not the turn and was never woken waits before a call that writes. While another one goes ahead it
-    /// would decide that in vain, and beside that one, as long as threads are still begun.
-    fn before(&self, seat: u32, _call: u32, writes: bool) {
+    fn before(&self, seat: u32, _call: u32) {
         let step = self.last_step();
         if is_of(step, seat) {
             self.go(step, ASKS, seat);
-        } else if writes && self.bells.rung(seat as u64) == 0 {
-            self.stand_in_line(seat, 0);
         }
     }
 
@@ -285,6 +296,16 @@ impl<'a, R: Wait> Gate for Turns<'a, R> {
             RESTS
         };
         self.go(step, kind, seat);
+    }
+}
+
+impl<'a, R: Wait> SectionGate for Turns<'a, R> {
+    /// Who has not the turn waits before a section that begins with a call that writes. While another client goes
+    /// ahead it would decide that call in vain, and beside that one, as long as threads are still begun.
+    fn begin(&self, seat: u32, writes: bool) {
+        if writes && !is_of(self.last_step(), seat) {
+            self.stand_in_line(seat, 0);
+        }
     }
 
     fn end(&self, seat: u32) {

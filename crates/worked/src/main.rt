@@ -17,7 +17,7 @@
 //! | `adopted SEAT` | how many versions the seat has adopted, but at meetings |
 //! | `hand-on SEAT` | the seat hands on what it has seen |
 //! | `no-merge LEFT RIGHT` | the text of a refusal |
-//! | `run book`, `run locked`, `run head`, `run head TRIES` | the script below, up to an empty line, behind its gates |
+//! | `run book`, `run locked`, `run head`, `run head TRIES`, `run turns TRIES` | the script below, up to an empty line, behind its gates |
 //! | `run locked counts` and the like | how its calls were answered, whatever the order of its clients |
 //! | `ends WAY: READS BYTES WRITES BYTES TIMES` | the script or conversation below, with a reader and a writer that fail |
 //!

@@ -10,7 +10,7 @@ pub(crate) mod seatings;
 pub(crate) mod talks;
 
 use crate::entries::Play;
-use crate::plays::asking::{Asked, append_answer};
+use crate::plays::asking::Asked;
 use crate::plays::commands::{command_of, names_of, read_numbers};
 use crate::plays::faults::{NO_COMMAND, NO_LINE, PlayFault};
 use crate::plays::runs::append_run;
@@ -18,7 +18,7 @@ use crate::plays::seatings::Seating;
 use crate::words::split_word;
 use camp_head::HeadFault;
 use camp_repo::{Book, Call, Fault, Refusal, Reply, State};
-use camp_script::history_text;
+use camp_script::{WriteFault, write_history, write_reply};
 use std::alloc::{AllocError, Global};
 use std::sync::Wait;
 use std::thread::Threads;
@@ -135,7 +135,9 @@ impl Stage {
     ) -> Result<(), PlayFault> {
         match self {
             Stage::Book(book) if matches!(play, Play::History) => {
-                append_bytes(history_text(*text.allocator(), book.history()), text)
+                let mut written = Vec::new(*text.allocator());
+                let ended = write_history(*text.allocator(), book.history(), &mut written);
+                append_written(ended, &written, text)
             }
             Stage::Book(_) => Err(NO_LINE),
             Stage::Head(seating) => seating.append_told(play, words, text),
@@ -148,7 +150,22 @@ fn append_no_merge(words: &[u8], text: &mut Vec<u8>) -> Result<(), PlayFault> {
     let Some((left, right)) = names_of(words) else {
         return Err(NO_COMMAND);
     };
-    append_answer(&Ok(Reply::Refused(Refusal::NoMerge { left, right })), text)
+    let answer = Ok(Reply::Refused(Refusal::NoMerge { left, right }));
+    let mut written = Vec::new(*text.allocator());
+    let ended = write_reply(*text.allocator(), &answer, &mut written);
+    append_written(ended, &written, text)
+}
+
+/// Appends what stands in a vector behind a writing call. A vector refuses bytes only where memory runs out.
+fn append_written(
+    ended: Result<(), WriteFault>,
+    written: &[u8],
+    text: &mut Vec<u8>,
+) -> Result<(), PlayFault> {
+    match ended {
+        Ok(()) => Ok(text.extend_from_slice(written)?),
+        Err(_) => Err(PlayFault::Memory),
+    }
 }
 
 /// Appends bytes that are made, unless memory is wanted.

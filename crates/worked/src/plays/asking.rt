@@ -40,7 +40,7 @@ impl Asked {
 }
 
 /// Appends the text of what is answered, if it is not want of memory.
-pub(crate) fn append_answer(answer: &Answer, text: &mut Vec<u8>) -> Result<(), PlayFault> {
+fn append_answer(answer: &Answer, text: &mut Vec<u8>) -> Result<(), PlayFault> {
     if let Err(Fault::Memory) = answer {
         return Err(PlayFault::Memory);
     }

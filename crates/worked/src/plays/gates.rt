@@ -3,8 +3,9 @@ use crate::plays::commands::number;
 use crate::plays::faults::PlayFault;
 use crate::words::{meaning_of, split_word};
 use bstr::ByteSlice;
-use camp_run::Gate;
+use camp_run::{Gate, SectionGate, Turns};
 use std::alloc::Global;
+use std::sync::Wait;
 use std::sync::atomic::{AtomicU64, Ordering};
 use std::thread;
 
@@ -21,8 +22,8 @@ enum Kind {
     End,
 }
 
-/// What a gate is told: of a call by its number, of an exchange by how many its call has lost, of the end of a
-/// section by 0.
+/// A step that a gate is told of: its kind, the seat, and a number (the index of the call; the compare-exchanges that
+/// the call has lost; 0 at the begin and the end of a section).
 #[derive(Clone, Copy, PartialEq)]
 struct Moment {
     kind: Kind,
@@ -94,6 +95,10 @@ impl Delays {
         Ok(self.all.push(delay)?)
     }
 
+    pub(crate) fn are_none(&self) -> bool {
+        self.all.is_empty()
+    }
+
     /// Whether each delay came about, and no seat gave up.
     pub(crate) fn are_kept(&self) -> bool {
         for delay in &self.all {
@@ -120,10 +125,8 @@ impl Delays {
 }
 
 impl Gate for Delays {
-    fn before(&self, seat: u32, call: u32, writes: bool) {
+    fn before(&self, seat: u32, call: u32) {
         self.tell(Kind::Before, seat, call);
-        let kind = if writes { Kind::Writes } else { Kind::Asks };
-        self.tell(kind, seat, call);
     }
 
     fn exchange(&self, seat: u32, lost: u32) {
@@ -133,9 +136,76 @@ impl Gate for Delays {
     fn after(&self, seat: u32, call: u32) {
         self.tell(Kind::After, seat, call);
     }
+}
+
+impl SectionGate for Delays {
+    fn begin(&self, seat: u32, writes: bool) {
+        let kind = if writes { Kind::Writes } else { Kind::Asks };
+        self.tell(kind, seat, 0);
+    }
 
     fn end(&self, seat: u32) {
         self.tell(Kind::End, seat, 0);
+    }
+}
+
+/// Delays at the steps of clients that take turns: where a client has the turn and is to wait, it stands still with it.
+#[derive(Drop)]
+pub(crate) struct InTurns<'a, R: Wait> {
+    turns: Turns<'a, R>,
+    delays: &'a Delays,
+    ended: AtomicU64,
+}
+
+impl<'a, R: Wait> InTurns<'a, R> {
+    pub(crate) fn new(rt: &'a R, delays: &'a Delays) -> InTurns<'a, R> {
+        InTurns {
+            turns: Turns::new(rt),
+            delays,
+            ended: AtomicU64::new(0),
+        }
+    }
+
+    /// Behind a run nobody waits, and no section has woken more than two clients.
+    pub(crate) fn are_over(&self) -> Result<(), PlayFault> {
+        if self.turns.waiting() != 0 {
+            return Err(PlayFault::Wrong("a client still waits"));
+        }
+        let ended = self.ended.load(Ordering::SeqCst);
+        if self.turns.wakes() / 2 > ended {
+            return Err(PlayFault::Wrong("clients are woken too often"));
+        }
+        Ok(())
+    }
+}
+
+impl<'a, R: Wait> Gate for InTurns<'a, R> {
+    fn before(&self, seat: u32, call: u32) {
+        self.turns.before(seat, call);
+        self.delays.before(seat, call);
+    }
+
+    fn exchange(&self, seat: u32, lost: u32) {
+        self.turns.exchange(seat, lost);
+        self.delays.exchange(seat, lost);
+    }
+
+    fn after(&self, seat: u32, call: u32) {
+        self.turns.after(seat, call);
+        self.delays.after(seat, call);
+    }
+}
+
+impl<'a, R: Wait> SectionGate for InTurns<'a, R> {
+    fn begin(&self, seat: u32, writes: bool) {
+        self.turns.begin(seat, writes);
+        self.delays.begin(seat, writes);
+    }
+
+    fn end(&self, seat: u32) {
+        self.turns.end(seat);
+        self.ended.fetch_add(1, Ordering::SeqCst);
+        self.delays.end(seat);
     }
 }
 

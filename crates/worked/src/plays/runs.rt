@@ -1,14 +1,17 @@
 //! Books and heads: scripts that are run, in one thread, over a lock or over a head, and conversations.
+ghost use Rattle.std.specs.Prelude.{◌↔◌, ◌<◌, ◌≤◌, IsTrue};
+ghost use Rattle.camp_clients.specs.Sections.{most_tries};
+
 use crate::entries::Play;
 use crate::plays::commands::{number, read_numbers};
 use crate::plays::ends::{Reader, Sizes, Writer};
 use crate::plays::faults::{NO_COMMAND, NO_LINE, PlayFault, ran};
-use crate::plays::gates::Delays;
+use crate::plays::gates::{Delays, InTurns};
 use crate::plays::talks::{hold, hold_framed};
 use crate::plays::{Entry, append_words};
 use crate::words::{joined, meaning_of, split_word};
 use bstr::ByteSlice;
-use camp_run::{run_book, run_head, run_locked};
+use camp_run::{NoGate, run_book, run_head, run_head_at, run_locked};
 use std::alloc::{AllocError, Global};
 use std::io::{BufReader, Read, Write};
 use std::sync::Wait;
@@ -23,6 +26,8 @@ enum Means {
     Locked,
     /// In threads over a head, where a call is given up after so many lost exchanges.
     Head(u32),
+    /// The same, where clients take turns.
+    Turns(u32),
     /// Line by line.
     Talk,
     /// Request by request.
@@ -33,6 +38,7 @@ const MEANS: &[(&str, Means)] = &[
     ("book", Means::Book),
     ("locked", Means::Locked),
     ("head", Means::Head(100)),
+    ("turns", Means::Turns(100)),
     ("talk", Means::Talk),
     ("frames", Means::Frames),
 ];
@@ -137,9 +143,16 @@ fn means_of(words: &[u8]) -> Result<Means, PlayFault> {
     let (word, tries) = split_word(words);
     match meaning_of(MEANS, word) {
         Some(Means::Head(_)) if !tries.is_empty() => Ok(Means::Head(number(tries)?)),
+        Some(Means::Turns(_)) if !tries.is_empty() => Ok(Means::Turns(number(tries)?)),
         Some(means) => Ok(means),
         None => Err(NO_LINE),
     }
+}
+
+fn is_allowed(tries: u32) -> bool
+    ensures { IsTrue result ↔ ((0 < tries) × (tries ≤ most_tries)) }
+{
+    0 < tries && tries <= 1_000
 }
 
 impl Run {
@@ -201,12 +214,18 @@ fn answer<T: Threads + Wait + Sync, R: Read, W: Write>(
     match manner.means {
         Means::Book => ran(run_book(alloc, reader, writer, history)),
         Means::Locked => ran(run_locked(rt, alloc, reader, writer, history)),
-        Means::Head(tries) => {
-            if tries == 0 || tries > 1_000 {
-                return Err(PlayFault::Wrong("1 to 1000 tries"));
+        Means::Head(tries) if is_allowed(tries) => {
+            if delays.are_none() {
+                return ran(run_head(rt, alloc, reader, writer, history, tries, &NoGate));
             }
-            ran(run_head(rt, alloc, reader, writer, history, tries, delays))
+            ran(run_head_at(rt, alloc, reader, writer, history, tries, delays, delays))
         }
+        Means::Turns(tries) if is_allowed(tries) => {
+            let gate = InTurns::new(rt, delays);
+            ran(run_head_at(rt, alloc, reader, writer, history, tries, &gate, &gate))?;
+            gate.are_over()
+        }
+        Means::Head(_) | Means::Turns(_) => Err(PlayFault::Wrong("1 to 1000 tries")),
         Means::Talk => hold(alloc, BufReader::new(alloc, reader)?, writer),
         Means::Frames => hold_framed(alloc, BufReader::new(alloc, reader)?, writer),
     }

@@ -7,7 +7,7 @@ use crate::plays::commands::read_numbers;
 use crate::plays::faults::PlayFault;
 use crate::plays::{Answer, append_bytes, append_words};
 use camp_head::{Head, HeadFault, Seat};
-use camp_repo::Call;
+use camp_repo::{Call, Fault};
 use camp_script::history_text;
 use std::alloc::Global;
 use std::sync::Wait;
@@ -99,8 +99,15 @@ impl Seating {
             Err(fault) => return Ok(Err(fault)),
         };
         let mut seat = take(&self.head, &mut self.seats, number)?;
+        let (position, accepted) = (seat.position(), seat.accepted());
         let answer = self.head.ask(&mut seat, kept);
+        let is_kept = seat.accepted() == accepted && seat.position() >= position;
         put(&self.head, &mut self.seats, seat)?;
+        if let Err(Fault::Memory) = answer {
+            if !is_kept {
+                return Err(PlayFault::Wrong("out of memory, and another seat"));
+            }
+        }
         Ok(answer)
     }
 
