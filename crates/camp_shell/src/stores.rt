@@ -10,7 +10,7 @@ use camp_kept_talk::{
 };
 use camp_talk::{Dialogue, TalkFault, talk};
 use sqlite_std_file::{File, OpenError, Unknown, open};
-use std::alloc::Global;
+use std::alloc::{AllocError, Global};
 use std::fs;
 use std::io::{self, BufRead, ErrorKind, Read, Write};
 
@@ -100,12 +100,20 @@ impl<D: Disk, R: BufRead, W: Write> Dialogue for PromptedStore<D, R, W> {
     }
 }
 
-// Opens a store, and tells of bytes that count for nothing.
+// Opens a store, and tells of bytes that count for nothing. A log beside a file that is no store is a stranger's, and stays,
+// unless it was not there before.
 fn open_store<'a>(rt: &HostRuntime, store: &'a str) -> Result<Kept<File>, Stop<'a>> {
+    let has_log = has_log(rt, store)?;
     let kept = match Kept::open(rt.alloc(), open_file(rt, store)?) {
         Ok(kept) => kept,
-        Err((fault, _disk)) => return Err(Stop::Store(store, fault)),
+        Err((fault, _disk)) => {
+            if !has_log {
+                remove_empty_log(rt, store)?;
+            }
+            return Err(Stop::Store(store, fault));
+        }
     };
+    remove_empty_log(rt, store)?;
     if kept.left_out() > 0 {
         let _ = eprintln!(rt;
             "camp_shell: {store}: {} bytes behind the end count for nothing",
@@ -115,13 +123,10 @@ fn open_store<'a>(rt: &HostRuntime, store: &'a str) -> Result<Kept<File>, Stop<'
     Ok(kept)
 }
 
-// The file of a store, locked. The log that the kit puts beside a database stays empty, and is taken away again.
+// The file of a store, locked. The kit puts a log beside it, as SQLite does beside a database; it stays empty.
 fn open_file<'a>(rt: &HostRuntime, store: &'a str) -> Result<File, Stop<'a>> {
     match open(rt, store, Unknown) {
-        Ok(files) => {
-            take_log_away(rt, store)?;
-            Ok(files.db)
-        }
+        Ok(files) => Ok(files.db),
         Err(OpenError::Busy) => Err(Stop::InUse(store)),
         Err(OpenError::Io(error)) if error.kind() == ErrorKind::Unsupported => {
             Err(Stop::NotPlain(store))
@@ -132,19 +137,29 @@ fn open_file<'a>(rt: &HostRuntime, store: &'a str) -> Result<File, Stop<'a>> {
     }
 }
 
-// Takes the empty log beside a store away.
-fn take_log_away<'a>(rt: &HostRuntime, store: &'a str) -> Result<(), Stop<'a>> {
-    let real = match fs::canonicalize(rt, store) {
-        Ok(real) => real,
-        Err(error) => return Err(Stop::Open(store, error)),
-    };
-    let log = format!(in rt.alloc(); "{}-wal", real.as_str())?;
+// Whether a log stands beside a file.
+fn has_log<'a>(rt: &HostRuntime, store: &'a str) -> Result<bool, Stop<'a>> {
+    let log = log_beside(rt, store)?;
+    Ok(fs::symlink_metadata(rt, log.as_str()).is_ok())
+}
+
+// Removes the log beside a file where it has no bytes.
+fn remove_empty_log<'a>(rt: &HostRuntime, store: &'a str) -> Result<(), Stop<'a>> {
+    let log = log_beside(rt, store)?;
     if let Ok(found) = fs::symlink_metadata(rt, log.as_str()) {
-        if found.len() == 0 {
+        if found.is_file() && found.len() == 0 {
             let _ = fs::remove_file(rt, log.as_str());
         }
     }
     Ok(())
+}
+
+// The path of the log beside a file. Where the file is a link, it is beside the file that this leads to.
+fn log_beside(rt: &HostRuntime, store: &str) -> Result<String, AllocError> {
+    match fs::canonicalize(rt, store) {
+        Ok(real) => format!(in rt.alloc(); "{}-wal", real.as_str()),
+        Err(_) => format!(in rt.alloc(); "{store}-wal"),
+    }
 }
 
 /// Tells what a file keeps. It changes nothing.
