@@ -9,7 +9,7 @@ use crate::patches::first_with;
 use crate::rows::{CURLY, Row, SQUARE, read_row};
 use crate::{NotationError, label_text, lines_text, list_text, named_text, tree_text, word_text};
 use camp_base::{Line, Name, Path, Tree};
-use camp_prim::{Body, Label, Named, Primitive};
+use camp_prim::{Label, Named, Primitive};
 use camp_seq::Seq;
 use std::alloc::Global;
 
@@ -174,8 +174,8 @@ fn change_of(alloc: Global, word: &[u8], path: &[u8]) -> Result<Primitive, Notat
 fn read_hunk(path: &[u8], line: &[u8], cursor: &mut Cursor) -> Result<Primitive, NotationError> {
     let path = Path::new(cursor.alloc, path)?;
     let (line, old, new) = read_sides(line, cursor)?;
-    let body = Body::new(cursor.alloc, path, old, new)?;
-    Primitive::hunk(body, line).ok_or(NotationError::NoHunk)
+    let change = Primitive::hunk(path, line, old, new).ok_or(NotationError::NoHunk)?;
+    Ok(change.into_shared(cursor.alloc)?)
 }
 
 // The line of a hunk, what stands there before it, and what behind it.

@@ -3,12 +3,6 @@ use Rattle.std.specs.Prelude.{ℕ, ◌+◌, ◌≤◌, List, length}
 use Rattle.camp_base.specs.Limits.{greatest_reach}
 use Rattle.camp_base.specs.Trees.{Lines}
 
--- in the file of a path, new lines in place of old ones
-pub record Replacement : Type 0 where
-  pub path : List ℕ
-  pub old : Lines
-  pub new : Lines
-
 -- at a line of the file of a path, counted from 1, new lines in place of old ones
 pub record Edit : Type 0 where
   pub path : List ℕ
@@ -16,9 +10,9 @@ pub record Edit : Type 0 where
   pub old : Lines
   pub new : Lines
 
--- the hunk that has a body at a line
-abbrev pub hunk_of : Replacement → ℕ → Edit
-hunk_of body line = record { path = body.path; line = line; old = body.old; new = body.new }
+-- the hunk that puts new lines in place of old ones at a line of the file of a path
+abbrev pub hunk_of : List ℕ → ℕ → Lines → Lines → Edit
+hunk_of path line old new = record { path = path; line = line; old = old; new = new }
 
 -- a hunk that may stand in a patch: its line is counted from 1, one of its sides has lines, and its line and the
 -- numbers of its old and new lines add up to 2^30 at most

@@ -8,10 +8,23 @@ use std::marker::Model;
 use std::slice;
 
 /// What a hunk does wherever it stands: in the file of a path, new lines in place of old ones.
-/// Hunks share it by one count.
 #[derive(Debug, Drop)]
-pub struct Body {
-    parts: Shared<Parts>,
+pub(crate) struct Body {
+    held: Held,
+}
+
+// A body holds its vectors as they were given until it is shared or copied.
+#[derive(Debug, Drop)]
+enum Held {
+    Own(Vectors),
+    Shared(Shared<Parts>),
+}
+
+#[derive(Debug, Drop)]
+struct Vectors {
+    path: Path,
+    old: Vec<Line>,
+    new: Vec<Line>,
 }
 
 #[derive(Debug, Drop)]
@@ -30,56 +43,113 @@ enum Side {
 }
 
 impl Model for Body {
-    ghost use Rattle.camp_prim.specs.Hunks.{Replacement};
+    ghost use Rattle.camp_prim.specs.Inside.Replacements.{Replacement};
     ghost use Rattle.camp_prim.specs.Inside.BodyFields.{replacement_of};
 
     ghost Value = { Replacement };
 
-    ghost view = { λ body. replacement_of body.parts };
+    ghost view = { λ body. replacement_of body.held };
 }
 
 impl Body {
-    /// The body of these parts.
-    pub fn new(
-        alloc: Global,
-        path: Path,
-        old: Vec<Line>,
-        new: Vec<Line>,
-    ) -> Result<Body, AllocError>
-        ensures exact { IfOk result (λ body. body ≡ record { path = path; old = old.items; new = new.items }) }
+    /// The body of these parts. Does not allocate.
+    pub(crate) fn own(path: Path, old: Vec<Line>, new: Vec<Line>) -> Body
+        ensures { result ≡ record { path = path; old = old.items; new = new.items } }
     {
-        let (old, new) = (Side::of(old), Side::of(new));
-        let parts = Shared::new(alloc, Parts { path, old, new })?;
-        Ok(Body { parts })
+        let held = Held::Own(Vectors { path, old, new });
+        Body { held }
+    }
+
+    /// The same body behind a reference count. Where memory runs out, it is dropped.
+    pub(crate) fn into_shared(self, alloc: Global) -> Result<Body, AllocError>
+        ensures { IfOk result (λ body. body ≡ self) }
+    {
+        match self.held {
+            Held::Own(own) => share_vectors(alloc, own),
+            Held::Shared(parts) => Ok(Body {
+                held: Held::Shared(parts),
+            }),
+        }
     }
 
     /// The path of the file.
-    pub fn path(&self) -> &Path
-        ensures exact { result.now ≡ self.now.path }
+    pub(crate) fn path(&self) -> &Path
+        ensures { result.now ≡ self.now.path }
     {
-        &self.parts.path
+        match &self.held {
+            Held::Own(own) => &own.path,
+            Held::Shared(parts) => &parts.path,
+        }
     }
 
     /// The old lines, from the first to the last.
-    pub fn old_lines(&self) -> &[Line]
-        ensures exact { result.now ≡ self.now.old }
+    pub(crate) fn old_lines(&self) -> &[Line]
+        ensures { result.now ≡ self.now.old }
     {
-        self.parts.old.as_slice()
+        match &self.held {
+            Held::Own(own) => &own.old,
+            Held::Shared(parts) => parts.old.as_slice(),
+        }
     }
 
     /// The new lines, from the first to the last.
-    pub fn new_lines(&self) -> &[Line]
-        ensures exact { result.now ≡ self.now.new }
+    pub(crate) fn new_lines(&self) -> &[Line]
+        ensures { result.now ≡ self.now.new }
     {
-        self.parts.new.as_slice()
+        match &self.held {
+            Held::Own(own) => &own.new,
+            Held::Shared(parts) => parts.new.as_slice(),
+        }
     }
 }
 
 impl Share for Body {
+    /// A copy behind a reference count. Allocates only where this body is not shared yet.
     fn share(&self) -> Result<Body, AllocError> {
-        let parts = self.parts.share()?;
-        Ok(Body { parts })
+        match &self.held {
+            Held::Own(own) => own.copy(),
+            Held::Shared(parts) => {
+                let parts = parts.share()?;
+                Ok(Body {
+                    held: Held::Shared(parts),
+                })
+            }
+        }
     }
+}
+
+impl Vectors {
+    fn copy(&self) -> Result<Body, AllocError>
+        ensures { IfOk result (λ body. body ≡ record { path = self.now.path; old = self.now.old.items; new = self.now.new.items }) }
+    {
+        let copy = Vectors {
+            path: self.path.try_clone()?,
+            old: copy_lines(&self.old)?,
+            new: copy_lines(&self.new)?,
+        };
+        share_vectors(*self.old.allocator(), copy)
+    }
+}
+
+fn share_vectors(alloc: Global, own: Vectors) -> Result<Body, AllocError>
+    ensures { IfOk result (λ body. body ≡ record { path = own.path; old = own.old.items; new = own.new.items }) }
+{
+    let Vectors { path, old, new } = own;
+    let (old, new) = (Side::of(old), Side::of(new));
+    let parts = Shared::new(alloc, Parts { path, old, new })?;
+    Ok(Body {
+        held: Held::Shared(parts),
+    })
+}
+
+fn copy_lines(lines: &Vec<Line>) -> Result<Vec<Line>, AllocError>
+    ensures { IfOk result (λ copy. copy.items ≡ lines.now.items) }
+{
+    let mut copy = Vec::with_capacity(*lines.allocator(), lines.len())?;
+    for line in lines {
+        copy.push(line.try_clone()?)?;
+    }
+    Ok(copy)
 }
 
 impl Side {

@@ -4,10 +4,10 @@ ghost use Rattle.camp_prim.specs.Effect.{flipped};
 ghost use Rattle.camp_prim.specs.Hunks.{IsInRange, hunk_of};
 ghost use Rattle.camp_prim.specs.Commuting.{at_line};
 
-use crate::Body;
+use crate::bodies::Body;
 use camp_base::{Line, Path};
 use camp_share::Share;
-use std::alloc::AllocError;
+use std::alloc::{AllocError, Global};
 use std::marker::Model;
 
 /// The greatest sum of a hunk's line and the numbers of its old and of its new lines.
@@ -36,16 +36,34 @@ impl Model for Hunk {
 }
 
 impl Hunk {
-    pub(crate) fn of_body(body: Body, line: u32) -> Option<Hunk>
-        ensures { MatchOption result (¬ (IsInRange (hunk_of body line))) (λ hunk. IsInRange (hunk_of body line) × (hunk ≡ hunk_of body line)) }
+    pub(crate) fn of_vectors(path: Path, line: u32, old: Vec<Line>, new: Vec<Line>) -> Option<Hunk>
+        ensures { MatchOption result (¬ (IsInRange (hunk_of path line old.items new.items)))
+            (λ hunk. IsInRange (hunk_of path line old.items new.items) × (hunk ≡ hunk_of path line old.items new.items)) }
     {
-        if !is_in_range(line, body.old_lines().len(), body.new_lines().len()) {
+        if !is_in_range(line, old.len(), new.len()) {
             return None;
         }
         Some(Hunk {
-            body,
+            body: Body::own(path, old, new),
             line,
             flipped: false,
+        })
+    }
+
+    /// The same hunk, whose copies count references. Where memory runs out, it is dropped.
+    pub(crate) fn into_shared(self, alloc: Global) -> Result<Hunk, AllocError>
+        ensures { IfOk result (λ hunk. hunk ≡ self) }
+    {
+        let Hunk {
+            body,
+            line,
+            flipped,
+        } = self;
+        let body = body.into_shared(alloc)?;
+        Ok(Hunk {
+            body,
+            line,
+            flipped,
         })
     }
 
@@ -85,8 +103,8 @@ impl Hunk {
         self.body.new_lines()
     }
 
-    /// The same hunk at another line, where it is in range there. It shares its path and its lines with this
-    /// one, by one count, and takes no memory.
+    /// The same hunk at another line, where it is in range there; else None. Allocates only where this hunk is
+    /// not shared yet, as `try_clone` does.
     pub fn moved(&self, line: u32) -> Result<Option<Hunk>, AllocError>
         ensures exact { IfOk result (λ found. MatchOption found (¬ (IsInRange (at_line line self.now))) (λ hunk. IsInRange (at_line line self.now) × (hunk ≡ at_line line self.now))) }
         ensures memory { IfErr result (λ error. IsInRange (at_line line self.now)) }
@@ -130,7 +148,8 @@ impl Hunk {
         self.line = line;
     }
 
-    /// The same hunk. It shares its path and its lines with this one, by one count, and takes no memory.
+    /// The same hunk. Increments one reference count where this hunk is shared or a copy; else it copies the
+    /// handles of the lines into a new allocation.
     pub fn try_clone(&self) -> Result<Hunk, AllocError>
         ensures exact { IfOk result (λ copy. copy ≡ self.now) }
     {

@@ -4,9 +4,9 @@ ghost use Rattle.camp_prim.specs.Effect.{Applies, InRange, inverted};
 ghost use Rattle.camp_prim.specs.Commuting.{path_of};
 ghost use Rattle.camp_prim.specs.Hunks.{IsInRange, hunk_of};
 
-use crate::{Body, Hunk};
-use camp_base::{Apply, Path, Tree};
-use std::alloc::AllocError;
+use crate::Hunk;
+use camp_base::{Apply, Line, Path, Tree};
+use std::alloc::{AllocError, Global};
 
 /// The smallest changes to a tree.
 #[derive(Debug, Drop)]
@@ -20,14 +20,27 @@ pub enum Primitive {
 }
 
 impl Primitive {
-    /// The hunk that has this body at a line. None where the line is 0, where both sides are empty, or
-    /// where the line and the numbers of old and of new lines add up to more than 2^30.
-    pub fn hunk(body: Body, line: u32) -> Option<Primitive>
-        ensures exact { MatchOption result (¬ (IsInRange (hunk_of body line)))
-            (λ made. IsInRange (hunk_of body line) × (made ≡ Primitive.Hunk (hunk_of body line))) }
+    /// The hunk that puts new lines in place of old ones at a line of a file, counted from 1. None where
+    /// the line is 0, where both sides are empty, or where the line and the numbers of old and of new
+    /// lines add up to more than 2^30. Does not allocate: the hunk keeps the vectors as they are.
+    pub fn hunk(path: Path, line: u32, old: Vec<Line>, new: Vec<Line>) -> Option<Primitive>
+        ensures exact { MatchOption result (¬ (IsInRange (hunk_of path line old.items new.items)))
+            (λ made. IsInRange (hunk_of path line old.items new.items) × (made ≡ Primitive.Hunk (hunk_of path line old.items new.items))) }
     {
-        let hunk = Hunk::of_body(body, line)?;
+        let hunk = Hunk::of_vectors(path, line, old, new)?;
         Some(Primitive::Hunk(hunk))
+    }
+
+    /// The same change behind a reference count, so that no copy of it allocates. The first copy of a hunk
+    /// from `hunk` copies the handles of its lines; this takes its vectors instead. Where memory runs out,
+    /// the change is dropped.
+    pub fn into_shared(self, alloc: Global) -> Result<Primitive, AllocError>
+        ensures exact { IfOk result (λ shared. shared ≡ self) }
+    {
+        match self {
+            Primitive::Hunk(hunk) => Ok(Primitive::Hunk(hunk.into_shared(alloc)?)),
+            other => Ok(other),
+        }
     }
 
     /// The path of the file that it changes.
@@ -54,7 +67,8 @@ impl Primitive {
         }
     }
 
-    /// The same change. It shares its path and its lines with this one and takes no memory.
+    /// The same change. Allocates only where it is a hunk from `hunk` that neither `into_shared` nor a copy
+    /// has made.
     pub fn try_clone(&self) -> Result<Primitive, AllocError>
         ensures exact { IfOk result (λ copy. copy ≡ self.now) }
     {

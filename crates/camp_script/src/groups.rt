@@ -22,7 +22,7 @@ use crate::records::{OpenEdit, OpenRecord, WholeFile};
 use crate::words::{no_words, number_at, one_word, path_at, two_words};
 use camp_base::{BaseFault, Line, Path};
 use camp_call::MAX_CHANGES;
-use camp_prim::{Body, Primitive};
+use camp_prim::Primitive;
 use std::alloc::Global;
 
 /// The greatest sum of the line of an edit and the numbers of its old and of its new lines.
@@ -271,11 +271,10 @@ fn close(alloc: Global, number: u64, edit: OpenEdit) -> Result<Primitive, Script
         old,
         new,
     } = edit;
-    let body = Body::new(alloc, path, old, new)?;
-    let Some(change) = Primitive::hunk(body, line) else {
+    let Some(change) = Primitive::hunk(path, line, old, new) else {
         unreachable!();
     };
-    Ok(change)
+    Ok(change.into_shared(alloc)?)
 }
 
 // The body of an edit may end here.
