@@ -14,7 +14,7 @@ use Rattle.camp_branch.proofs.EffectSteps.{second_fits}
 use Rattle.camp_branch.proofs.Names.{all_append}
 use Rattle.camp_branch.specs.Branches.{HasPatches, IsLawfulBranch, IsSized, LeadsTo, Patch, labels_of, name_of}
 use Rattle.camp_git.proofs.PatchEnds.{drop_on, first_name, labels_behind, no_patch, patch_ends, some_patch}
-use Rattle.camp_git.specs.Exports.{IsExport, IsFirstBad, IsUnheld, Shows, TellEach, Tells, content_of, reference_of}
+use Rattle.camp_git.specs.Exports.{IsAbove, IsExport, IsFirstBad, IsUnheld, Shows, TellEach, Tells, content_of, reference_of}
 use Rattle.camp_git.specs.FastImport.{AreFromKnown, Commit, IsFromKnown, IsGood, Kept, commit_text, keep, keep_all, mark_of, marked, parent_of, tree_of}
 use Rattle.camp_git.specs.Holding.{CanHold, CannotHold}
 use Rattle.camp_git.specs.Inside.Commits.{commit_at, from_of}
@@ -84,6 +84,11 @@ from_newest (k ∷ older) zero files commit newest = absurd (omega (arith, newes
 from_newest (k ∷ older) (suc at) files commit newest =
     ap (λ b. cond b (Some k) (marked older (suc at))) (ap (λ m. m == suc at) newest.1 ∙ eq-eqb (suc at) (suc at) refl)
 
+-- a later mark is above that of the one that was kept last
+rises_newest : (kept : List Kept) (at more : ℕ) (files : Files) → IsNewest kept at files → 0 < more → IsAbove (mark_of (newest_of kept)) (at + more)
+rises_newest [] at more files newest some = omega (arith, some)
+rises_newest (k ∷ older) at more files newest some = omega (arith, newest.1, some)
+
 from_known : (kept : List Kept) (at : ℕ) (files : Files) → IsNewest kept at files → IsFromKnown kept (from_of at)
 from_known [] zero files newest = tt
 from_known [] (suc at) files newest = absurd (omega (arith, newest.0))
@@ -143,6 +148,7 @@ module _ (name : List ℕ) (branch : List Catch) (at : ℕ) (text : List ℕ) (t
       told = record {
         on = refl;
         behind = ap mark_of from;
+        rises = rises_newest s.kept at patch.changes tree s.newest (omega (arith, next_sized.0.0));
         message = refl;
         files = new;
         leads = next_leads;

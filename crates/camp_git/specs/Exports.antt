@@ -1,5 +1,5 @@
 -- What an export of a branch says.
-use Rattle.std.specs.Prelude.{◌≡◌, ℕ, ◌+◌, List, [], ◌∷◌, ◌++◌, codes, option_map, take, Option, None, Some, true, ◌⊎◌}
+use Rattle.std.specs.Prelude.{◌≡◌, ℕ, ◌+◌, ◌<◌, List, [], ◌∷◌, ◌++◌, codes, option_map, take, Option, None, Some, true, ◌⊎◌}
 use Rattle.std.specs.FinMap.{contains_key, get}
 use Rattle.std.specs.List.{flat_map}
 use Rattle.camp_base.specs.Trees.{Files, Lines}
@@ -20,11 +20,17 @@ Shows git files = (path : List ℕ) → git path ≡ option_map content_of (get 
 abbrev pub reference_of : List ℕ → List ℕ
 reference_of branch = codes "refs/heads/" ++ branch
 
+-- a mark is above 0 and above that of the parent: so no two commits that stand behind each other have one mark
+abbrev pub IsAbove : Option ℕ → ℕ → Type 0
+IsAbove None mark = 0 < mark
+IsAbove (Some parent) mark = parent < mark
+
 -- a commit tells a patch up to which a branch has these catches: it is of this branch of git and behind this parent,
--- its message is the name of the patch and LF, and its tree is the one that the catches lead to, which git can hold
+-- with a mark above it; its message is the name of the patch and LF, and its tree is the one that the catches lead to, which git can hold
 pub record Tells (reference : List ℕ) (parent : Option ℕ) (upto : List Catch) (name : List ℕ) (commit : Kept) : Type 0 where
   pub on : commit.reference ≡ reference
   pub behind : commit.parent ≡ parent
+  pub rises : IsAbove parent commit.mark
   pub message : commit.message ≡ line name
   pub files : Files
   pub leads : LeadsTo upto files
