@@ -1,13 +1,15 @@
 -- Why a file is refused.
 use Rattle.std.proofs.Common.{◌≡◌, ◌≢◌, ◌≤◌, ◌+◌, inl, inr, ℕ, zero, suc, Bool, false, List, [], ◌∷◌, ◌++◌, length, Result, Ok, Err, IfErr, IsErrAnd, IsTrue, sym, ◌∙◌, ap, subst, arith, length-append, true≢false}
 use Rattle.camp_call.specs.declared.calls.Call.{Call}
-use Rattle.camp_kept.specs.Faults.{IsRefusal, IsUnopened, IsUntitled, fault_of}
-use Rattle.camp_kept.specs.Keeping.{call_texts, most_unbegun, store_texts, title}
+use Rattle.camp_kept.specs.Faults.{IsOfContents, IsRefusal, IsUnopened, IsUntitled, ReportsDisk, fault_of}
+use Rattle.camp_kept.specs.Keeping.{LeavesKept, call_texts, most_unbegun, store_texts, title}
 use Rattle.camp_kept.specs.Replaying.{AreAsked, AsksAgain}
 use Rattle.camp_kept.specs.declared.faults.KeptFault.{KeptFault}
 use Rattle.camp_kept.specs.declared.faults.KeptFault.TheVariants as kept
+use Rattle.camp_kept.specs.declared.kept.Kept.{Kept}
 use Rattle.camp_kept.proofs.Recalling.{accepted_behind, no_texts, no_title, told_texts}
 use Rattle.camp_store.specs.Blocks.{AllFit, Stands, blocks, body, head}
+use Rattle.camp_store.specs.Counting.{ReportsFault}
 use Rattle.camp_store.specs.Logs.{IsOfClosing, IsOfPutting, IsOpen, KeepsTexts, LeavesAfter, end_with}
 use Rattle.camp_store.specs.Readings.{IsDamage, IsOfBytes, IsOfReading}
 use Rattle.camp_store.specs.declared.logs.Log.{Log}
@@ -101,14 +103,43 @@ not_accepted done text rest history after asked none call at file stands = λ ca
     let next = accepted_behind asked.calls calls text rest asked.can accepted e in
     subst (λ (h : List (ℕ × Call)). AsksAgain h text false after) asked.is none next.0 next.1 next.2 next.3
 
--- a batch that is not put for want of memory leaves all as it was
-pub unchanged : {D : Type 0} (why : StoreFault) (old new : Log D) → LeavesAfter why old new → fault_of why ≡ kept.Memory → new ≡ old
-unchanged store.Memory old new leaves is = leaves
-unchanged (store.Disk error) old new leaves is = cc
-unchanged store.TooLong old new leaves is = leaves
-unchanged (store.Damaged zero at) old new leaves is = absurd leaves
-unchanged (store.Damaged (suc n) at) old new leaves is = absurd leaves
-unchanged store.Failed old new leaves is = leaves
+-- what a batch that is not put leaves of a repository
+leaves_kept : {D : Type 0} (why : StoreFault) (old : Kept D) (new : Log D) → LeavesAfter why old.log new → LeavesKept (fault_of why) old (record old { log = new })
+leaves_kept store.Memory old new leaves = ap (λ l. record old { log = l }) leaves
+leaves_kept (store.Disk error) old new leaves = leaves
+leaves_kept store.TooLong old new leaves = ap (λ l. record old { log = l }) leaves
+leaves_kept (store.Damaged zero at) old new leaves = absurd leaves
+leaves_kept (store.Damaged (suc n) at) old new leaves = absurd leaves
+leaves_kept store.Failed old new leaves = ap (λ l. record old { log = l }) leaves
+
+pub leaves_so : {T D : Type 0} (result : Result T KeptFault) (why : StoreFault) (old : Kept D) (new : Log D) → IsErrAnd result (λ fault. fault ≡ fault_of why)
+    → LeavesAfter why old.log new → IfErr result (λ fault. LeavesKept fault old (record old { log = new }))
+leaves_so (Ok value) why old new is leaves = tt
+leaves_so (Err fault) why old new is leaves =
+    subst (λ (f : KeptFault). LeavesKept f old (record old { log = new })) (sym is) (leaves_kept why old new leaves)
+
+-- a fault of the disk that a log reports is one of the disk
+reports_from : (why : StoreFault) (old new : ℕ) → ReportsFault why old new → ReportsDisk (fault_of why) old new
+reports_from store.Memory old new reports = tt
+reports_from (store.Disk error) old new reports = reports
+reports_from store.TooLong old new reports = tt
+reports_from (store.Damaged zero at) old new reports = tt
+reports_from (store.Damaged (suc n) at) old new reports = tt
+reports_from store.Failed old new reports = tt
+
+pub reports_so : {T : Type 0} (result : Result T KeptFault) (why : StoreFault) (old new : ℕ) → IsErrAnd result (λ fault. fault ≡ fault_of why)
+    → ReportsFault why old new → IfErr result (λ fault. ReportsDisk fault old new)
+reports_so (Ok value) why old new is reports = tt
+reports_so (Err fault) why old new is reports = subst (λ (f : KeptFault). ReportsDisk f old new) (sym is) (reports_from why old new reports)
+
+-- a batch that is not put is no file that is refused for its bytes
+pub unput_is_no_contents : {D : Type 0} (is_usable : D → Bool) (log : Log D) (texts : List (List ℕ)) (why : StoreFault) → IsOfPutting is_usable log texts why → ¬ (IsOfContents (fault_of why))
+unput_is_no_contents is_usable log texts store.Memory of contents = contents
+unput_is_no_contents is_usable log texts (store.Disk error) of contents = contents
+unput_is_no_contents is_usable log texts store.TooLong of contents = contents
+unput_is_no_contents is_usable log texts (store.Damaged zero at) of contents = of
+unput_is_no_contents is_usable log texts (store.Damaged (suc n) at) of contents = of
+unput_is_no_contents is_usable log texts store.Failed of contents = contents
 
 -- a fault that a damaged file was told with
 pub refused_from : {T : Type 0} (Known : Type 0) (usable : Bool) (result : Result T KeptFault) (why : StoreFault) (file : List ℕ) → IsErrAnd result (λ fault. fault ≡ fault_of why)

@@ -1,11 +1,12 @@
 -- Why a file is no store, or is not kept.
-use Rattle.std.specs.Prelude.{◌≡◌, ◌<◌, ℕ, zero, suc, Bool, false, List, [], ◌∷◌, length}
+use Rattle.std.specs.Prelude.{◌≡◌, ◌<◌, ℕ, zero, suc, Bool, false, List, [], ◌∷◌, length, Result, MatchResult}
 use Rattle.camp_call.specs.declared.calls.Call.{Call}
 use Rattle.camp_kept.specs.Accepting.{AreAccepted}
 use Rattle.camp_kept.specs.Keeping.{Tells, most_unbegun, title}
 use Rattle.camp_kept.specs.declared.faults.KeptFault.{KeptFault}
 use Rattle.camp_kept.specs.declared.faults.KeptFault.TheVariants as kept
 use Rattle.camp_store.specs.Blocks.{Stands}
+use Rattle.camp_store.specs.Counting.{ReportsFault}
 use Rattle.camp_store.specs.declared.faults.StoreFault.{StoreFault}
 use Rattle.camp_store.specs.declared.faults.StoreFault.TheVariants as store
 
@@ -30,6 +31,26 @@ IsRefusal kept.Memory file = Unit {0}
 IsRefusal kept.NoStore file = IsNoStore file
 IsRefusal (kept.Damaged call at) file = (calls : List Call) → AreAccepted calls → ¬ (Tells calls file)
 IsRefusal (kept.Store fault) file = ⊥
+
+-- a file is refused for its bytes: they are no store, or damaged
+abbrev pub IsOfContents : KeptFault → Type 0
+IsOfContents kept.NoStore = Unit {0}
+IsOfContents (kept.Damaged call at) = Unit {0}
+IsOfContents other = ⊥
+
+-- no fault of a disk is reported
+abbrev pub IsNotOfDisk : KeptFault → Type 0
+IsNotOfDisk (kept.Store fault) = ⊥
+IsNotOfDisk other = Unit {0}
+
+-- a fault of the disk is reported only where one of its calls has failed
+abbrev pub ReportsDisk : KeptFault → ℕ → ℕ → Type 0
+ReportsDisk (kept.Store fault) old new = ReportsFault fault old new
+ReportsDisk other old new = Unit {0}
+
+-- at Ok no call of the disk has failed; and a fault of the disk is reported only where one has
+abbrev pub CountsDisk : {T : Type 0} → Result T KeptFault → ℕ → ℕ → Type 0
+CountsDisk result old new = MatchResult result (λ _. new ≡ old) (λ why. ReportsDisk why old new)
 
 -- why a disk is not opened: its bytes are refused, or it has failed; Failed: it had failed before, and might not be used
 abbrev pub IsUnopened : Bool → KeptFault → List ℕ → Type 0

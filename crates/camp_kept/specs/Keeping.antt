@@ -1,13 +1,16 @@
 -- What a store says of the accepted calls of a repository.
-use Rattle.std.specs.Prelude.{◌≡◌, ◌⊎◌, ◌≤◌, ℕ, List, [], ◌∷◌, length, map, codes}
+use Rattle.std.specs.Prelude.{◌≡◌, ◌⊎◌, ◌≤◌, ℕ, Bool, false, List, [], ◌∷◌, length, map, codes}
 use Rattle.camp_call.specs.declared.calls.Call.{Call}
 use Rattle.camp_kept.specs.Accepting.{AreAccepted}
+use Rattle.camp_kept.specs.declared.faults.KeptFault.{KeptFault}
+use Rattle.camp_kept.specs.declared.faults.KeptFault.TheVariants as fault
 use Rattle.camp_kept.specs.declared.kept.Kept.{Kept}
 use Rattle.camp_object.specs.Histories.{IsBeginning}
 use Rattle.camp_script.specs.Canonical.{call_text}
 use Rattle.camp_script.specs.Keeping.{calls_of}
 use Rattle.camp_store.specs.Blocks.{Stands}
-use Rattle.camp_store.specs.Logs.{KeepsTexts, disk_of}
+use Rattle.camp_store.specs.Logs.{KeepsTexts, disk_of, may_go_on}
+use Rattle.camp_store.specs.declared.faults.StoreFault.TheVariants as store
 
 -- the first text of a store
 abbrev pub title : List ℕ
@@ -68,3 +71,28 @@ left_out_in kept = kept.left_out
 -- the first calls of what is kept
 abbrev pub AreFirst : {D : Type 0} → List Call → Kept D → Type 0
 AreFirst calls kept = IsBeginning calls (calls_in kept)
+
+-- how many of the accepted calls are known to be on the disk
+abbrev pub known_in : {D : Type 0} → Kept D → ℕ
+known_in kept = kept.count
+
+-- no commit has failed at the disk
+abbrev pub may_commit : {D : Type 0} → Kept D → Bool
+may_commit kept = may_go_on kept.log
+
+-- what a commit that is not acknowledged leaves: all as it was; or, where the disk has failed, a repository that commits
+-- no more
+abbrev pub LeavesKept : {D : Type 0} → KeptFault → Kept D → Kept D → Type 0
+LeavesKept (fault.Store (store.Disk error)) old new = may_commit new ≡ false
+LeavesKept (fault.Store store.Memory) old new = new ≡ old
+LeavesKept (fault.Store store.TooLong) old new = new ≡ old
+LeavesKept (fault.Store (store.Damaged texts at)) old new = new ≡ old
+LeavesKept (fault.Store store.Failed) old new = new ≡ old
+LeavesKept fault.Memory old new = new ≡ old
+LeavesKept fault.NoStore old new = new ≡ old
+LeavesKept (fault.Damaged call at) old new = new ≡ old
+
+-- a disk on which nothing was written: a read returns what it returned, and a crash leaves what it might have left
+pub record IsUntouched {D : Type 0} (seen : D → List ℕ) (may_leave : D → List ℕ → Type 0) (old new : D) : Type 0 where
+  pub same : seen new ≡ seen old
+  pub no_more : (c : List ℕ) → may_leave new c → may_leave old c

@@ -1,9 +1,10 @@
 //! What is kept.
-ghost use Rattle.std.specs.Prelude.{◌≡◌, ◌⊎◌, ◌-◌, List, length, IfErr, IfOk, IsTrue, OnOk, ℕ};
+ghost use Rattle.std.specs.Prelude.{◌≡◌, ◌⊎◌, ◌-◌, List, Err, false, length, IfErr, IfOk, IsTrue, MatchResult, OnOk, ℕ};
 ghost use Rattle.camp_call.specs.declared.calls.Call.{Call};
-ghost use Rattle.camp_kept.specs.Faults.{IsUnkept, IsUnopened};
+ghost use Rattle.camp_kept.specs.Faults.{CountsDisk, IsOfContents, IsUnkept, IsUnopened, ReportsDisk};
 ghost use Rattle.camp_kept.specs.declared.faults.KeptFault.TheVariants as fault;
-ghost use Rattle.camp_kept.specs.Keeping.{IsStoreOf, LeavesTold};
+ghost use Rattle.camp_kept.specs.Keeping.{IsStoreOf, IsUntouched, LeavesTold};
+ghost use Rattle.camp_store.specs.declared.faults.StoreFault.TheVariants as store_fault;
 
 use crate::KeptFault;
 use crate::openings::{begin, left_out, recover};
@@ -24,7 +25,7 @@ pub struct Kept<D: Disk> {
 
 impl<D: Disk> Kept<D> {
     ghost use Rattle.camp_kept.specs.Endings.{LeavesOut};
-    ghost use Rattle.camp_kept.specs.Keeping.{AreFirst, AreTexts, Holds, calls_in, disk_in, left_out_in};
+    ghost use Rattle.camp_kept.specs.Keeping.{AreFirst, AreTexts, Holds, LeavesKept, calls_in, disk_in, known_in, left_out_in, may_commit};
 
     /// Opens what a disk keeps, and writes the title of a store where there is none. It may crash too.
     pub fn open(alloc: Global, mut disk: D) -> Result<Kept<D>, (KeptFault, D)>
@@ -32,6 +33,12 @@ impl<D: Disk> Kept<D> {
         ensures told { IfOk result (λ kept. IsTrue (D.Disk.is_clean (disk_in kept)) → (texts : List (List ℕ))
             × AreTexts texts (calls_in kept) × LeavesOut texts (D.Disk.seen disk) (left_out_in kept)) }
         ensures refused { IfErr result (λ e. IsTrue (D.Disk.is_clean e.1) → IsUnopened (D.Disk.is_usable disk) e.0 (D.Disk.seen disk)) }
+        // A file that is no store, or is damaged, stays as it was.
+        ensures untouched { IfErr result (λ e. IsOfContents e.0 → IsUntouched D.Disk.seen D.Disk.may_leave disk e.1) }
+        ensures known { IfOk result (λ kept. known_in kept ≡ length (calls_in kept)) }
+        ensures open_to_commits { IfOk result (λ kept. IsTrue (may_commit kept)) }
+        ensures faults { IfOk result (λ kept. D.Disk.faults (disk_in kept) ≡ D.Disk.faults disk) }
+        ensures faults_err { IfErr result (λ e. ReportsDisk e.0 (D.Disk.faults disk) (D.Disk.faults e.1)) }
         // A crash leaves what was told before.
         ensures crash { IfOk result (λ kept. (calls : List Call) → LeavesTold D.Disk.seen D.Disk.may_leave calls disk
             → IsTrue (D.Disk.is_clean (disk_in kept)) → LeavesTold D.Disk.seen D.Disk.may_leave calls (disk_in kept)) }
@@ -64,26 +71,33 @@ impl<D: Disk> Kept<D> {
         self.left_out
     }
 
-    /// How many accepted calls are not known to be on the disk.
+    /// How many accepted calls are not known to be on the disk, also after a commit that has failed.
     pub fn waiting(&self) -> usize
-        ensures { (calls : List Call) → Holds D.Disk.seen D.Disk.may_leave calls self.now → result ≡ length (calls_in self.now) - length calls }
+        ensures known { result ≡ length (calls_in self.now) - known_in self.now }
+        ensures held { (calls : List Call) → Holds D.Disk.seen D.Disk.may_leave calls self.now → result ≡ length (calls_in self.now) - length calls }
     {
         self.book.history().len().saturating_sub(self.count)
     }
 
     /// Keeps all accepted calls of the book. At `Ok` they are on the disk: from then on each crash leaves a file that
-    /// tells them. After an `Err` a crash leaves those from before the call, or all of them.
+    /// tells them. After an `Err` a crash leaves those from before the call, or all of them. Where the disk has failed no
+    /// later commit asks anything of it: each answers `Failed` and changes nothing.
     pub fn commit(&mut self, alloc: Global) -> Result<(), KeptFault>
         ensures acknowledged { (calls : List Call) → AreFirst calls self.old → Holds D.Disk.seen D.Disk.may_leave calls self.old
             → OnOk result (Holds D.Disk.seen D.Disk.may_leave (calls_in self.old) self.new) }
         ensures crash { (calls : List Call) → AreFirst calls self.old → Holds D.Disk.seen D.Disk.may_leave calls self.old
             → (c : List ℕ) → D.Disk.may_leave (disk_in self.new) c → IsStoreOf calls c ⊎ IsStoreOf (calls_in self.old) c }
         ensures book { self.new.book ≡ self.old.book }
-        // Where memory runs out nothing has changed.
-        ensures memory { IfErr result (λ why. why ≡ fault.Memory → self.new ≡ self.old) }
+        ensures leaves { IfErr result (λ why. LeavesKept why self.old self.new) }
+        ensures stopped { may_commit self.old ≡ false → (result ≡ Err (fault.Store store_fault.Failed)) × (self.new ≡ self.old) }
+        ensures known { MatchResult result (λ _. known_in self.new ≡ length (calls_in self.new)) (λ _. known_in self.new ≡ known_in self.old) }
+        ensures faults { CountsDisk result (D.Disk.faults (disk_in self.old)) (D.Disk.faults (disk_in self.new)) }
         ensures unkept { IfErr result IsUnkept }
         ensures clean { D.Disk.is_clean (disk_in self.new) ≡ D.Disk.is_clean (disk_in self.old) }
     {
+        if !self.log.may_go_on() {
+            return Err(KeptFault::Store(StoreFault::Failed));
+        }
         let history = self.book.history();
         let count = history.len();
         if count < self.count {

@@ -2,11 +2,11 @@
 ghost use Rattle.std.specs.Prelude.{◌≡◌, ◌≤◌, [], List, ℕ, length, IfErr, IfOk, IsTrue};
 ghost use Rattle.camp_call.specs.declared.calls.Call.{Call};
 ghost use Rattle.camp_kept.specs.Endings.{LeavesOut};
-ghost use Rattle.camp_kept.specs.Faults.{IsRefusal, IsUnopened, IsUntitled};
+ghost use Rattle.camp_kept.specs.Faults.{CountsDisk, IsNotOfDisk, IsOfContents, IsRefusal, IsUnopened, IsUntitled, ReportsDisk};
 ghost use Rattle.camp_kept.specs.Keeping.{AreTexts, Tells, most_unbegun, store_texts};
 ghost use Rattle.camp_kept.specs.declared.faults.KeptFault.TheVariants as fault;
 ghost use Rattle.camp_kept.specs.Replaying.{AreRecalled};
-ghost use Rattle.camp_store.specs.Logs.{IsOpen, KeepsTexts, disk_of, texts_of};
+ghost use Rattle.camp_store.specs.Logs.{IsOpen, KeepsTexts, disk_of, may_go_on, texts_of};
 ghost use Rattle.camp_store.specs.Readings.{IsReading};
 ghost use Rattle.sqlite_disk.specs.Disk.{Only};
 
@@ -31,6 +31,7 @@ pub(crate) fn recover<D: Disk>(
     ensures crash { (c : List ℕ) → D.Disk.may_leave disk.new c → D.Disk.may_leave disk.old c }
     ensures settled { IfOk result (λ r. Only (D.Disk.seen disk.new) (D.Disk.may_leave disk.new)) }
     ensures clean { IsTrue (D.Disk.is_clean disk.new) → IsTrue (D.Disk.is_clean disk.old) }
+    ensures faults { CountsDisk result (D.Disk.faults disk.old) (D.Disk.faults disk.new) }
 {
     let reading = read(alloc, disk)?;
     let book = recall(alloc, &reading)?;
@@ -42,6 +43,7 @@ pub(crate) fn recall(alloc: Global, reading: &Reading) -> Result<Book<State>, Ke
     ensures recalled { IfOk result (AreRecalled (texts_of reading.now.texts.items)) }
     ensures refused { IfErr result (λ why. (file : List ℕ) → IsReading file reading.now → IsRefusal why file) }
     ensures short { IfOk result (λ _. texts_of reading.now.texts.items ≡ [] → reading.now.behind ≤ most_unbegun) }
+    ensures not_disk { IfErr result IsNotOfDisk }
 {
     if reading.texts.is_empty() && reading.behind > MAX_UNBEGUN {
         return Err(KeptFault::NoStore);
@@ -77,6 +79,10 @@ pub(crate) fn begin<D: Disk>(
     ensures clean { IfOk result (λ new. D.Disk.is_clean (disk_of new) ≡ D.Disk.is_clean (disk_of log)) }
     ensures clean_err { IfErr result (λ e. D.Disk.is_clean e.1 ≡ D.Disk.is_clean (disk_of log)) }
     ensures untitled { IfErr result (λ e. KeepsTexts D.Disk.seen D.Disk.may_leave (texts_of texts.now) log → IsOpen D.Disk.is_usable log → IsUntitled e.0) }
+    ensures not_contents { IfErr result (λ e. ¬ (IsOfContents e.0)) }
+    ensures goes_on { IfOk result (λ new. IsTrue (may_go_on log) → IsTrue (may_go_on new)) }
+    ensures faults { IfOk result (λ new. D.Disk.faults (disk_of new) ≡ D.Disk.faults (disk_of log)) }
+    ensures faults_err { IfErr result (λ e. ReportsDisk e.0 (D.Disk.faults (disk_of log)) (D.Disk.faults e.1)) }
 {
     if !texts.is_empty() {
         return Ok(log);
@@ -92,6 +98,10 @@ fn put_title<D: Disk>(alloc: Global, mut log: Log<D>) -> Result<Log<D>, (KeptFau
     ensures clean { IfOk result (λ new. D.Disk.is_clean (disk_of new) ≡ D.Disk.is_clean (disk_of log)) }
     ensures clean_err { IfErr result (λ e. D.Disk.is_clean e.1 ≡ D.Disk.is_clean (disk_of log)) }
     ensures untitled { IfErr result (λ e. KeepsTexts D.Disk.seen D.Disk.may_leave [] log → IsOpen D.Disk.is_usable log → IsUntitled e.0) }
+    ensures not_contents { IfErr result (λ e. ¬ (IsOfContents e.0)) }
+    ensures goes_on { IfOk result (λ new. IsTrue (may_go_on log) → IsTrue (may_go_on new)) }
+    ensures faults { IfOk result (λ new. D.Disk.faults (disk_of new) ≡ D.Disk.faults (disk_of log)) }
+    ensures faults_err { IfErr result (λ e. ReportsDisk e.0 (D.Disk.faults (disk_of log)) (D.Disk.faults e.1)) }
 {
     match title_texts(alloc) {
         Ok(texts) => match log.put(alloc, &texts) {

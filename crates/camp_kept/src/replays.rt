@@ -1,6 +1,6 @@
 //! A book that is made of the texts of its calls.
 ghost use Rattle.std.specs.Prelude.{◌≡◌, ◌↔◌, [], ◌∷◌, List, ℕ, IfErr, IfOk, IsTrue};
-ghost use Rattle.camp_kept.specs.Faults.{IsRefusal};
+ghost use Rattle.camp_kept.specs.Faults.{IsNotOfDisk, IsRefusal};
 ghost use Rattle.camp_kept.specs.Keeping.{title};
 ghost use Rattle.camp_kept.specs.Replaying.{AreAsked, AreRecalled, AsksAgain, AsksCall};
 ghost use Rattle.camp_store.specs.Blocks.{Stands};
@@ -18,6 +18,7 @@ const BEFORE_TEXT: usize = 27;
 pub(crate) fn replay(alloc: Global, texts: &[Vec<u8>]) -> Result<Book<State>, KeptFault>
     ensures recalled { IfOk result (AreRecalled (texts_of texts.now)) }
     ensures refused { IfErr result (λ why. (file : List ℕ) → Stands (texts_of texts.now) file → IsRefusal why file) }
+    ensures not_disk { IfErr result IsNotOfDisk }
 {
     let Some((first, others)) = texts.split_first() else {
         return Ok(Book::new(alloc)?);
@@ -38,6 +39,7 @@ fn is_title(text: &[u8]) -> bool
 fn ask_all(alloc: Global, texts: &[Vec<u8>]) -> Result<Book<State>, KeptFault>
     ensures texts { IfOk result (AreAsked (texts_of texts.now)) }
     ensures refused { IfErr result (λ why. (file : List ℕ) → Stands (title ∷ texts_of texts.now) file → IsRefusal why file) }
+    ensures not_disk { IfErr result IsNotOfDisk }
 {
     let mut book = Book::new(alloc)?;
     ask_each(alloc, &mut book, texts)?;
@@ -49,6 +51,7 @@ fn ask_each(alloc: Global, book: &mut Book<State>, texts: &[Vec<u8>]) -> Result<
     requires { book.old ≡ [] }
     ensures texts { IfOk result (λ _. AreAsked (texts_of texts.now) book.new) }
     ensures refused { IfErr result (λ why. (file : List ℕ) → Stands (title ∷ texts_of texts.now) file → IsRefusal why file) }
+    ensures not_disk { IfErr result IsNotOfDisk }
 {
     let mut at = BEFORE_TEXT + TITLE.len();
     for text in texts {
