@@ -1,6 +1,6 @@
 use Rattle.camp_run.proofs.Words.{IsShared, repository}
 use Rattle.camp_run.proofs.Written.{written}
-use Rattle.camp_run.proofs.heads.run_head.Goals as goal
+use Rattle.camp_run.proofs.heads.run_head_at.Goals as goal
 
 pub returns-clause-runs : goal.returns-clause-runs
 returns-clause-runs g c =
