@@ -26,8 +26,7 @@ def run(report, words):
     wanted = answers(program, b"book counts", crowds)
     for way in (b"locked counts", b"head 1000 counts"):
         compare(report, way, crowds, answers(program, way, crowds), wanted)
-    for way in (b"locked", b"head 1000"):
-        histories(report, way, program, crowds, answers(program, way, crowds))
+    histories(report, b"head 1000", program, crowds, answers(program, b"head 1000", crowds))
 
 
 def answers(program, way, scripts):
