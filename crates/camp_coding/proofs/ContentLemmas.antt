@@ -2,14 +2,14 @@
 use Rattle.std.proofs.Common.{◌≡◌, ℕ, zero, suc, ◌+◌, ◌-◌, ◌<◌, ◌≤◌, Bool, true, false, true≢false, List, [], ◌∷◌, ◌++◌, length, take, drop, refl, sym, ◌∙◌, ap, subst, Option, Some, ◌⊎◌, ⊎_elim, arith, append_assoc, append-nil, length-append, length-drop, take-append-drop, take_at, not, ◌==◌}
 use Rattle.std.specs.Prelude.{nat_lt}
 use Rattle.std.specs.List.{flat_map, join_with_byte, slice_split}
-use Rattle.std.proofs.lemmas.Bool.{cond-true, cond-false, cases_Bool, le-ltb, lt-ltb}
+use Rattle.std.proofs.lemmas.Bool.{cond-true, cond-false, cases_Bool, eqb-true, le-ltb, lt-ltb}
 use Rattle.std.proofs.lemmas.Grind.{flat_map-append}
 use Rattle.std.proofs.lemmas.List.Splits.{join_with_byte-slice_split}
 use Rattle.camp_base.specs.Trees.{Lines}
-use Rattle.camp_coding.specs.Contents.{ContentsComeBack, Encodes, HasLines, are_pieces_after, content_of_lines, decoded, ended_line, ends, goes_on, longest_piece, piece_content, without_last_if, wrapped, wrapped_if, wrapped_in}
+use Rattle.camp_coding.specs.Contents.{ContentsComeBack, Encodes, HasLines, are_pieces_after, content_of_lines, content_lines, decoded, ended_line, ends, goes_on, has_full_last, lacks_last_newline, longest_piece, piece_content, without_empty_end, without_last_if, wrapped, wrapped_if, wrapped_in}
 use Rattle.camp_coding.specs.Inside.Splitting.{AreLinesBefore}
 
--- pieces that are joined by LF have LF behind each but the last
+-- pieces that are joined by line feeds have one after each but the last
 join_is : (before : Lines) (last : List ℕ) → join_with_byte 10 (before ++ last ∷ []) ≡ flat_map ended_line before ++ last
 join_is [] last = refl
 join_is (x ∷ []) last =
@@ -62,6 +62,41 @@ no_pieces content lines pieces none = record {
   content_is = ap (flat_map ended_line) none ∙ ap (join_with_byte 10) (sym none ∙ pieces) ∙ join_with_byte-slice_split 10 content;
   last = λ lacks. absurd (true≢false (sym lacks));
 }
+
+without_last_of : (before : Lines) (last : List ℕ) → without_empty_end (before ++ last ∷ []) ≡ before ++ without_empty_end (last ∷ [])
+without_last_of [] last = refl
+without_last_of (x ∷ []) last = refl
+without_last_of (x ∷ y ∷ more) last = ap (λ (l : Lines). x ∷ l) (without_last_of (y ∷ more) last)
+
+full_last_of : (before : Lines) (last : List ℕ) → has_full_last (before ++ last ∷ []) ≡ not (length last == 0)
+full_last_of [] last = refl
+full_last_of (x ∷ []) last = refl
+full_last_of (x ∷ y ∷ more) last = full_last_of (y ∷ more) last
+
+full : (last : List ℕ) → 0 < length last → (length last == 0) ≡ false
+full last some =
+    ⊎_elim (λ is. absurd (omega (arith, eqb-true (length last) 0 is, some))) (λ other. other) (cases_Bool (length last == 0))
+
+-- the lines of a content are those of its pieces
+pub content_lines_from_pieces : (content : List ℕ) (before : Lines) (last : List ℕ) (lines : Lines) (lacks : Bool) → before ++ last ∷ [] ≡ slice_split (λ byte. byte == 10) content → AreLinesBefore before last lines lacks → lines ≡ content_lines content
+content_lines_from_pieces content before last lines false pieces are =
+    are.0
+    ∙ sym (append-nil before)
+    ∙ ap (λ (l : List ℕ). before ++ without_empty_end (l ∷ [])) (sym are.1)
+    ∙ sym (without_last_of before last)
+    ∙ ap without_empty_end pieces
+content_lines_from_pieces content before last lines true pieces are =
+    are.0
+    ∙ ap (λ (l : Lines). before ++ l) (sym (cond-false _ _ _ (full last are.1)))
+    ∙ sym (without_last_of before last)
+    ∙ ap without_empty_end pieces
+
+-- its last line lacks its LF where the last piece is not empty
+pub lacks_from_pieces : (content : List ℕ) (before : Lines) (last : List ℕ) (lines : Lines) (lacks : Bool) → before ++ last ∷ [] ≡ slice_split (λ byte. byte == 10) content → AreLinesBefore before last lines lacks → lacks ≡ lacks_last_newline content
+lacks_from_pieces content before last lines false pieces are =
+    ap (λ (l : List ℕ). not (length l == 0)) (sym are.1) ∙ sym (full_last_of before last) ∙ ap has_full_last pieces
+lacks_from_pieces content before last lines true pieces are =
+    ap not (sym (full last are.1)) ∙ sym (full_last_of before last) ∙ ap has_full_last pieces
 
 -- a longer line in pieces: one, and those of the rest
 pub wrapped_more : (count : ℕ) (line : List ℕ) → nat_lt longest_piece (length line) ≡ true → wrapped_in (suc count) line ≡ (goes_on ∷ take longest_piece line) ∷ wrapped_in count (drop longest_piece line)

@@ -1,3 +1,5 @@
-mod AttributeLemmas
+pub mod AttributeLemmas
 pub mod ContentLemmas
 pub mod EscapeLemmas
+pub mod GitTreeLemmas
+pub mod PlaceLemmas

@@ -30,7 +30,7 @@ AttributePathsDiffer =
     → attribute_path attribute path ≡ attribute_path other other_path
     → (attribute_folder attribute ≡ attribute_folder other) × (path ≡ other_path)
 
--- bytes make a path of camp: they are one, or they are none and the fault says so, unless memory runs out
+-- bytes make a path of camp: they are one, or they are not and the fault says so, unless memory runs out
 abbrev pub MakesPath : List ℕ → Result (List ℕ) BaseFault → Type 0
 MakesPath bytes (Ok path) = (path ≡ bytes) × (is_path bytes ≡ true)
 MakesPath bytes (Err BadPath) = is_path bytes ≡ false

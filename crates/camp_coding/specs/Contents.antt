@@ -1,6 +1,6 @@
 -- Contents of git as lines of camp.
 use Rattle.std.specs.Prelude.{◌≡◌, ℕ, zero, suc, ◌-◌, ◌<◌, Bool, true, false, not, ◌&&◌, ◌||◌, ◌==◌, List, [], ◌∷◌, ◌++◌, length, take, drop, nat_lt, if◌then◌else◌, Option, None, Some}
-use Rattle.std.specs.List.{flat_map, list_any}
+use Rattle.std.specs.List.{flat_map, list_any, slice_split}
 use Rattle.camp_base.specs.Limits.{longest_line}
 use Rattle.camp_base.specs.Signs.{newline}
 use Rattle.camp_base.specs.Trees.{Lines}
@@ -9,12 +9,12 @@ use Rattle.camp_base.specs.Trees.{Lines}
 abbrev pub ended_line : List ℕ → List ℕ
 ended_line line = line ++ newline ∷ []
 
--- a text, or, where it lacks its LF, the text without its last byte
+-- a text or, if it lacks its final line feed, the text without its last byte
 abbrev pub without_last_if : Bool → List ℕ → List ℕ
 without_last_if true text = take (length text - 1) text
 without_last_if false text = text
 
--- the content of lines: LF follows each, but the last one where it lacks its LF
+-- the content of lines: a line feed after each, except after the last one if it lacks one
 abbrev pub content_of_lines : Lines → Bool → List ℕ
 content_of_lines lines lacks_newline = without_last_if lacks_newline (flat_map ended_line lines)
 
@@ -22,16 +22,40 @@ content_of_lines lines lacks_newline = without_last_if lacks_newline (flat_map e
 abbrev pub HasFullLastLine : Lines → Type 0
 HasFullLastLine lines = (before : Lines) × (last : List ℕ) × (lines ≡ before ++ last ∷ []) × (0 < length last)
 
--- a content has these lines; where the last one lacks its LF, it is not empty
+-- a content has these lines; if the last one lacks its line feed, it is not empty
 pub record HasLines (content : List ℕ) (lines : Lines) (lacks_newline : Bool) : Type 0 where
   pub content_is : content_of_lines lines lacks_newline ≡ content
   pub last : lacks_newline ≡ true → HasFullLastLine lines
+
+-- pieces of a text without the last one where it is empty
+abbrev pub without_empty_end : Lines → Lines
+without_empty_end [] = []
+without_empty_end (last ∷ []) = if length last == 0 then [] else last ∷ []
+without_empty_end (piece ∷ next ∷ more) = piece ∷ without_empty_end (next ∷ more)
+
+-- whether the last one of some pieces is not empty
+abbrev pub has_full_last : Lines → Bool
+has_full_last [] = false
+has_full_last (last ∷ []) = not (length last == 0)
+has_full_last (piece ∷ next ∷ more) = has_full_last (next ∷ more)
+
+-- what stands between the LFs of a content
+abbrev pub between_newlines : List ℕ → Lines
+between_newlines content = slice_split (λ byte. byte == newline) content
+
+-- the lines of a content: what follows the last LF is one where it is not empty
+abbrev pub content_lines : List ℕ → Lines
+content_lines content = without_empty_end (between_newlines content)
+
+-- whether the last line of a content lacks its LF
+abbrev pub lacks_last_newline : List ℕ → Bool
+lacks_last_newline content = has_full_last (between_newlines content)
 
 -- the most bytes of a line in one piece
 abbrev pub longest_piece : ℕ
 longest_piece = 4_095
 
--- `+`, the mark of a piece after which its line goes on
+-- `+`, the mark of a piece whose line continues
 abbrev pub goes_on : ℕ
 goes_on = 43
 
@@ -39,7 +63,7 @@ goes_on = 43
 abbrev pub ends : ℕ
 ends = 61
 
--- a line in pieces, at most one more than this number: each has its mark, and then as many bytes as it can
+-- a line in pieces, at most one more than this number: each has its mark, followed by as many bytes as fit
 abbrev pub wrapped_in : ℕ → List ℕ → Lines
 wrapped_in zero line = (ends ∷ line) ∷ []
 wrapped_in (suc count) line =
@@ -60,49 +84,62 @@ abbrev pub wrapped_if : Bool → Lines → Lines
 wrapped_if true lines = flat_map wrapped lines
 wrapped_if false lines = lines
 
--- a content is stored as these lines: in pieces just where a line is too long
+-- whether the lines of a content are stored in pieces: one of them is too long
+abbrev pub needs_pieces : List ℕ → Bool
+needs_pieces content = list_any is_too_long (content_lines content)
+
+-- the lines that a content is stored as
+abbrev pub stored_lines : List ℕ → Lines
+stored_lines content = wrapped_if (needs_pieces content) (content_lines content)
+
+-- lines, whether they are pieces and whether the last one lacks its LF are those of a content
+abbrev pub StoresContent : List ℕ → Lines → Bool → Bool → Type 0
+StoresContent content stored is_wrapped lacks_newline =
+    (stored ≡ stored_lines content) × (is_wrapped ≡ needs_pieces content) × (lacks_newline ≡ lacks_last_newline content)
+
+-- a content is stored as these lines: in pieces exactly if a line is too long
 pub record Encodes (content : List ℕ) (stored : Lines) (is_wrapped lacks_newline : Bool) : Type 0 where
   pub lines : Lines
   pub has : HasLines content lines lacks_newline
   pub wraps : is_wrapped ≡ list_any is_too_long lines
   pub stored_is : stored ≡ wrapped_if is_wrapped lines
 
--- whether a piece ends its line
+-- a piece ends its line
 abbrev pub ends_line : List ℕ → Bool
 ends_line [] = false
 ends_line (mark ∷ bytes) = mark == ends
 
--- whether a piece has a mark
+-- a piece has a mark
 abbrev pub has_mark : List ℕ → Bool
 has_mark [] = false
 has_mark (mark ∷ bytes) = mark == ends || mark == goes_on
 
--- whether lines are pieces, behind one that ended its line or did not: each has a mark, and the last one ends its line
+-- lines are pieces, after one that ended its line or did not: each has a mark, and the last one ends its line
 abbrev pub are_pieces_after : Bool → Lines → Bool
 are_pieces_after ended [] = ended
 are_pieces_after ended (piece ∷ pieces) = has_mark piece && are_pieces_after (ends_line piece) pieces
 
--- whether lines are pieces of whole lines
+-- lines are pieces of whole lines
 abbrev pub are_pieces : Lines → Bool
 are_pieces lines = are_pieces_after true lines
 
--- what a piece has of a content: its bytes, and LF where it ends its line
+-- the content of a piece: its bytes, and a line feed if it ends its line
 abbrev pub piece_content : List ℕ → List ℕ
 piece_content [] = []
 piece_content (mark ∷ bytes) = if mark == ends then ended_line bytes else bytes
 
--- the text of stored lines, LF behind each line
+-- the text of stored lines, a line feed after each line
 abbrev pub stored_text : Bool → Lines → List ℕ
 stored_text true stored = flat_map piece_content stored
 stored_text false stored = flat_map ended_line stored
 
--- the content that stored lines stand for, if any
+-- the content that stored lines represent, if any
 abbrev pub decoded : Lines → Bool → Bool → Option (List ℕ)
 decoded stored is_wrapped lacks_newline =
     if is_wrapped && not (are_pieces stored) then None
     else Some (without_last_if lacks_newline (stored_text is_wrapped stored))
 
--- what is decoded from an encoded content is that content
+-- decoding an encoded content gives that content
 abbrev pub ContentsComeBack : Type 0
 ContentsComeBack =
     (content : List ℕ) (stored : Lines) (is_wrapped lacks_newline : Bool)

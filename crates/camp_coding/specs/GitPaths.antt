@@ -4,7 +4,7 @@ use Rattle.std.specs.List.{flat_map}
 use Rattle.camp_base.specs.Signs.{is_graphic}
 use Rattle.percent_encoding.specs.Percent.{percent_encode_byte, percent_sign}
 
--- whether a byte stands for itself: a printing character of ASCII, and no `%`
+-- a byte represents itself: a printable character of ASCII other than `%`
 abbrev pub is_unescaped : ℕ → Bool
 is_unescaped byte = is_graphic byte && not (byte == percent_sign)
 
@@ -20,7 +20,7 @@ escaped_path path = flat_map escaped_path_byte path
 abbrev pub AreBytes : List ℕ → Type 0
 AreBytes bytes = All (λ byte. byte < 256) bytes
 
--- two paths are one where they are escaped to one
+-- two paths are equal if they are escaped to the same path
 abbrev pub EscapedPathsDiffer : Type 0
 EscapedPathsDiffer =
     (path other : List ℕ) → AreBytes path → AreBytes other → escaped_path path ≡ escaped_path other → path ≡ other

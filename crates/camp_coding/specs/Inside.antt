@@ -1,2 +1,3 @@
--- Definitions that serve only private functions.
+-- Definitions that only private functions use.
+pub mod Placing
 pub mod Splitting

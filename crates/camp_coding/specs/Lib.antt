@@ -1,5 +1,6 @@
 pub mod Attributes
 pub mod Contents
 pub mod GitPaths
+pub mod GitTrees
 pub mod Inside
 pub mod Modes

@@ -1,4 +1,4 @@
-//! What git knows of a file beside its lines, by the paths of camp at which it stands.
+//! What git knows of a file besides its lines, and the paths of camp at which this is stored.
 
 ghost use Rattle.std.specs.Prelude.{◌≡◌, IfOk};
 ghost use Rattle.camp_coding.specs.Attributes.{AttributePathsAreFree, AttributePathsDiffer, MakesPath, attribute_folder, attribute_path};
@@ -8,7 +8,7 @@ use crate::escape_path;
 use camp_base::{BaseFault, Path};
 use std::alloc::{AllocError, Global};
 
-/// What is said of a file of git by a file of camp beside its own.
+/// What a file of camp says of a file of git, besides the file's own lines.
 #[derive(Clone, Copy, Debug, PartialEq, Eq)]
 pub enum Attribute {
     /// Its mode, the one line of a file in `%m`. A file without it is a regular one.
@@ -17,12 +17,13 @@ pub enum Attribute {
     LacksNewline,
     /// Its lines are in pieces: an empty file in `%w`.
     Wrapped,
-    /// A commit that changes nothing: an empty file in `%e`, by the id of the commit, which comes and goes.
+    /// A commit that changes nothing: an empty file in `%e`, under the id of the commit, which is added and
+    /// removed.
     EmptyCommit,
 }
 
-/// Returns the path in camp of a path of git. `BadPath` where camp can't hold it: escaped it has over 200 bytes, or a part
-/// of it is empty, `.` or `..`.
+/// Returns the path in camp of a path of git. `BadPath` if camp can't represent it: escaped it has over 200
+/// bytes, or a part of it is empty, `.` or `..`.
 pub fn encode_path(alloc: Global, path: &[u8]) -> Result<Path, BaseFault>
     ensures exact { MakesPath (escaped_path path.now) result }
 {
@@ -30,7 +31,7 @@ pub fn encode_path(alloc: Global, path: &[u8]) -> Result<Path, BaseFault>
     path_of(alloc, &text)
 }
 
-/// Returns the path in camp of an attribute of a path of git. `BadPath` where camp can't hold it.
+/// Returns the path in camp of an attribute of a path of git. `BadPath` if camp can't represent it.
 pub fn encode_attribute_path(
     alloc: Global,
     attribute: Attribute,
@@ -47,7 +48,7 @@ pub fn attribute_paths_are_free()
     ensures { AttributePathsAreFree }
 {}
 
-/// Two attributes have one path only where they are of one kind and of one path.
+/// Two attributes have the same path only if they are of one kind and of one path.
 pub fn attribute_paths_differ()
     ensures { AttributePathsDiffer }
 {}

@@ -1,7 +1,7 @@
 //! Contents of git as lines of camp, and back.
 
 ghost use Rattle.std.specs.Prelude.{◌≡◌, IfOk, map, option_map};
-ghost use Rattle.camp_coding.specs.Contents.{ContentsComeBack, Encodes, decoded, wrapped_if};
+ghost use Rattle.camp_coding.specs.Contents.{ContentsComeBack, Encodes, StoresContent, decoded, wrapped_if};
 
 use crate::lines::split_lines;
 use crate::pieces::{are_pieces, join_stored};
@@ -9,12 +9,13 @@ use crate::wrapping::{has_long_line, store_plain, store_wrapped};
 use camp_base::{BaseFault, Line};
 use std::alloc::{AllocError, Global};
 
-/// A content of git as the lines of a file of camp, and what the lines alone don't say.
+/// A content of git as the lines of a file of camp, with what the lines alone do not say.
 #[derive(Debug, Drop)]
 pub struct EncodedContent {
-    /// The lines of the content, or, where one of them has over 4,096 bytes, the pieces of all of them.
+    /// The lines of the content or, if one of them has over 4,096 bytes, the pieces of all of them.
     pub lines: Vec<Line>,
-    /// True if the lines are pieces: `+` or `=`, and 4,095 bytes at most. After `+` the line goes on, after `=` it ends.
+    /// True if the lines are pieces: `+` or `=`, and at most 4,095 bytes. After `+` the line continues, after
+    /// `=` it ends.
     pub is_wrapped: bool,
     /// True if the content has bytes and its last one is not LF.
     pub lacks_newline: bool,
@@ -23,6 +24,7 @@ pub struct EncodedContent {
 /// Encodes a content. Lines end at LF alone: CR is a byte of its line.
 pub fn encode_content(alloc: Global, content: &[u8]) -> Result<EncodedContent, BaseFault>
     ensures exact { IfOk result (λ coded. Encodes content.now coded.lines.items coded.is_wrapped coded.lacks_newline) }
+    ensures stores { IfOk result (λ coded. StoresContent content.now coded.lines.items coded.is_wrapped coded.lacks_newline) }
 {
     let split = split_lines(alloc, content)?;
     let is_wrapped = has_long_line(&split.lines);
@@ -34,8 +36,8 @@ pub fn encode_content(alloc: Global, content: &[u8]) -> Result<EncodedContent, B
     })
 }
 
-/// Returns the content that stored lines stand for. Returns None if they are said to be pieces, and one has no mark, or the
-/// last one goes on.
+/// Returns the content that stored lines represent. `None` if they are declared to be pieces, and one has no
+/// mark, or the last one does not end its line.
 pub fn decode_content(
     alloc: Global,
     stored: &[Line],
@@ -54,7 +56,7 @@ pub fn decode_content(
     Ok(Some(content))
 }
 
-/// What is decoded from an encoded content is that content.
+/// Decoding an encoded content gives that content.
 pub fn contents_come_back()
     ensures { ContentsComeBack }
 {}

@@ -1,9 +1,7 @@
 //! The lines of a content.
 
-ghost use Rattle.std.specs.Prelude.{◌≡◌, ◌==◌, map, IfOk};
-ghost use Rattle.std.specs.List.{slice_split};
-ghost use Rattle.camp_base.specs.Signs.{newline};
-ghost use Rattle.camp_coding.specs.Contents.{HasLines};
+ghost use Rattle.std.specs.Prelude.{◌≡◌, map, IfOk};
+ghost use Rattle.camp_coding.specs.Contents.{HasLines, between_newlines, content_lines, lacks_last_newline};
 ghost use Rattle.camp_coding.specs.Inside.Splitting.{AreLinesBefore};
 
 use std::alloc::{AllocError, Global};
@@ -20,7 +18,9 @@ pub(crate) fn split_lines<'content>(
     alloc: Global,
     content: &'content [u8],
 ) -> Result<SplitLines<'content>, AllocError>
-    ensures { IfOk result (λ split. HasLines content.now (map (λ line. line.now) split.lines.items) split.lacks_newline) }
+    ensures has { IfOk result (λ split. HasLines content.now (map (λ line. line.now) split.lines.items) split.lacks_newline) }
+    ensures lines { IfOk result (λ split. map (λ line. line.now) split.lines.items ≡ content_lines content.now) }
+    ensures lacks { IfOk result (λ split. split.lacks_newline ≡ lacks_last_newline content.now) }
 {
     let mut lines = split_at_newlines(alloc, content)?;
     let last = match lines.pop() {
@@ -35,7 +35,8 @@ pub(crate) fn split_lines<'content>(
     Ok(lines_before(lines, last)?)
 }
 
-/// The lines of a content by its pieces between LFs, of which the last one is no line where it is empty.
+/// Returns the lines of a content, given its pieces between line feeds; the last one is no line if it is
+/// empty.
 fn lines_before<'content>(
     mut lines: Vec<&'content [u8]>,
     last: &'content [u8],
@@ -59,7 +60,7 @@ fn split_at_newlines<'content>(
     alloc: Global,
     content: &'content [u8],
 ) -> Result<Vec<&'content [u8]>, AllocError>
-    ensures { IfOk result (λ pieces. map (λ piece. piece.now) pieces.items ≡ slice_split (λ byte. byte == newline) content.now) }
+    ensures { IfOk result (λ pieces. map (λ piece. piece.now) pieces.items ≡ between_newlines content.now) }
 {
     content.split(|byte| *byte == b'\n').collect(alloc)
 }

@@ -1,6 +1,7 @@
 //! Modes of the entries of a git tree.
 
 ghost use Rattle.std.specs.Prelude.{◌≡◌, ◌↔◌, IsTrue, MatchOption};
+ghost use Rattle.camp_coding.specs.GitTrees.{is_regular};
 ghost use Rattle.camp_coding.specs.Modes.{mode_text};
 ghost use Rattle.camp_coding.specs.declared.modes.Mode.{Mode};
 
@@ -20,7 +21,7 @@ pub enum Mode {
 }
 
 impl Mode {
-    /// The digits of the mode.
+    /// Returns the digits of the mode.
     pub fn text(self) -> &'static [u8]
         ensures exact { result.now ≡ mode_text self }
     {
@@ -31,6 +32,13 @@ impl Mode {
             Mode::Submodule => b"160000",
         }
     }
+}
+
+/// True if the mode is that of a regular file.
+pub(crate) fn is_regular(mode: Mode) -> bool
+    ensures { result ≡ is_regular mode }
+{
+    matches!(mode, Mode::Regular)
 }
 
 /// Returns the mode that has these digits, or None if there is none.

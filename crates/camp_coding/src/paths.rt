@@ -32,7 +32,7 @@ pub fn unescape_path(alloc: Global, text: &[u8]) -> Result<Option<Vec<u8>>, Allo
     Ok(None)
 }
 
-/// Two paths are one where they are escaped to one text.
+/// Two paths are equal if they are escaped to the same text.
 pub fn escaped_paths_differ()
     ensures { EscapedPathsDiffer }
 {}

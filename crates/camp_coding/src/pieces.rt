@@ -6,7 +6,7 @@ ghost use Rattle.camp_coding.specs.Contents.{are_pieces, ended_line, ends_line, 
 use camp_base::Line;
 use std::alloc::{AllocError, Global};
 
-/// The mark of a piece after which its line goes on.
+/// The mark of a piece whose line continues.
 pub(crate) const GOES_ON: u8 = b'+';
 
 /// The mark of the last piece of a line.
@@ -26,7 +26,7 @@ pub(crate) fn are_pieces(stored: &[Line]) -> bool
     is_ended
 }
 
-/// Joins stored lines, or pieces of lines, with LF after each line.
+/// Joins stored lines, or pieces of lines, with a line feed after each line.
 pub(crate) fn join_stored(
     alloc: Global,
     stored: &[Line],
