@@ -1,2 +1,4 @@
 pub mod Inside
 pub mod QuotedPaths
+pub mod StreamItems
+pub mod StreamValues

@@ -1,25 +1,26 @@
--- Paths between quotes, as C has strings.
-use Rattle.std.specs.Prelude.{◌≡◌, ℕ, ◌+◌, ◌-◌, ◌*◌, ◌/◌, ◌%◌, ◌<◌, Bool, not, ◌&&◌, ◌==◌, if◌then◌else◌, All, List, [], ◌∷◌, ◌++◌, Option, None, Some, option_map}
+-- Paths in quotes, as C has strings.
+use Rattle.std.specs.Prelude.{◌≡◌, ℕ, ◌+◌, ◌-◌, ◌*◌, ◌/◌, ◌%◌, Bool, not, ◌&&◌, ◌==◌, if◌then◌else◌, List, [], ◌∷◌, ◌++◌, Option, None, Some, option_map}
 use Rattle.std.specs.List.{flat_map}
 use Rattle.camp_base.specs.Signs.{backslash, is_between, is_printing, quote}
+use Rattle.camp_coding.specs.GitPaths.{AreBytes}
 use Rattle.camp_stream.specs.declared.unquoting.EscapeState.{EscapeState}
 use Rattle.camp_stream.specs.declared.unquoting.EscapeState.TheVariants.{Plain, Backslash, OneDigit, TwoDigits}
 
--- whether a byte stands for itself between quotes
+-- a byte represents itself in quotes
 abbrev pub needs_no_escape : ℕ → Bool
 needs_no_escape byte = is_printing byte && (not (byte == quote) && not (byte == backslash))
 
--- a byte between quotes: itself, or a backslash and three octal digits
+-- a byte in quotes: itself, or a backslash and three octal digits
 abbrev pub quoted_path_byte : ℕ → List ℕ
 quoted_path_byte byte =
     if needs_no_escape byte then byte ∷ []
     else backslash ∷ (48 + byte / 64) ∷ (48 + byte / 8 % 8) ∷ (48 + byte % 8) ∷ []
 
--- a path between quotes
+-- a path in quotes
 abbrev pub quoted_path : List ℕ → List ℕ
 quoted_path path = quote ∷ flat_map quoted_path_byte path ++ quote ∷ []
 
--- the byte that a letter behind a backslash stands for
+-- the byte that a backslash and a letter represent
 abbrev pub letter_value : ℕ → Option ℕ
 letter_value letter =
     if letter == 97 then Some 7
@@ -32,7 +33,7 @@ letter_value letter =
     else (if letter == quote then Some quote
     else (if letter == backslash then Some backslash else None))))))))
 
--- a path and what is left behind it, with one more byte at the beginning of the path
+-- a path and the rest after it, with one more byte at the start of the path
 abbrev pub onto_path : ℕ → Option (List ℕ × List ℕ) → Option (List ℕ × List ℕ)
 onto_path byte found = option_map (λ read. (byte ∷ read.0, read.1)) found
 
@@ -45,7 +46,7 @@ onto_path_if (Some byte) found = onto_path byte found
 abbrev pub octal_more : ℕ → ℕ → ℕ
 octal_more value digit = 8 * value + (digit - 48)
 
--- the path that stands before the closing quote, and what is left behind that quote, where an escape has so much of it
+-- the path before the closing quote, and the rest after that quote, given the part of an escape that was read
 abbrev pub unquoted_from : EscapeState → List ℕ → Option (List ℕ × List ℕ)
 unquoted_from state [] = None
 unquoted_from Plain (byte ∷ bytes) =
@@ -59,12 +60,8 @@ unquoted_from (OneDigit value) (byte ∷ bytes) =
 unquoted_from (TwoDigits value) (byte ∷ bytes) =
     if is_between 48 55 byte then onto_path (octal_more value byte) (unquoted_from Plain bytes) else None
 
--- numbers that are bytes
-abbrev pub AreAllBytes : List ℕ → Type 0
-AreAllBytes bytes = All (λ byte. byte < 256) bytes
-
--- what is read from a quoted path is that path, and all that follows is left
+-- reading a quoted path gives that path, and all that follows is left
 abbrev pub QuotedPathsComeBack : Type 0
 QuotedPathsComeBack =
-    (path rest : List ℕ) → AreAllBytes path
+    (path rest : List ℕ) → AreBytes path
     → unquoted_from Plain (flat_map quoted_path_byte path ++ quote ∷ rest) ≡ Some (path, rest)

@@ -1,4 +1,4 @@
-//! Paths between quotes.
+//! Quoting paths.
 
 ghost use Rattle.std.specs.Prelude.{◌≡◌, ◌++◌, IfOk, OnOk};
 ghost use Rattle.std.specs.List.{flat_map};
@@ -6,8 +6,8 @@ ghost use Rattle.camp_stream.specs.QuotedPaths.{QuotedPathsComeBack, quoted_path
 
 use std::alloc::{AllocError, Global};
 
-/// Quotes a path: between two quotes, and each byte outside ` ` to `~`, each quote and each backslash as a backslash and
-/// three octal digits.
+/// Quotes a path: two quotes around it, and each byte outside ` ` to `~`, each quote and each backslash as a
+/// backslash and three octal digits.
 pub fn quote_path(alloc: Global, path: &[u8]) -> Result<Vec<u8>, AllocError>
     ensures exact { IfOk result (λ text. text.items ≡ quoted_path path.now) }
 {
@@ -18,7 +18,7 @@ pub fn quote_path(alloc: Global, path: &[u8]) -> Result<Vec<u8>, AllocError>
     Ok(text)
 }
 
-/// What is read from a quoted path is that path, and all that follows it is left.
+/// Reading a quoted path gives that path, and all that follows it is left.
 pub fn quoted_paths_come_back()
     ensures { QuotedPathsComeBack }
 {}

@@ -1,4 +1,4 @@
--- What a byte between quotes does.
+-- The steps of reading bytes in quotes.
 use Rattle.std.specs.Prelude.{ℕ, ◌≤◌, List, [], ◌++◌, Option, None, Some, option_map}
 use Rattle.camp_stream.specs.QuotedPaths.{onto_path, unquoted_from}
 use Rattle.camp_stream.specs.declared.unquoting.EscapeState.{EscapeState}
@@ -6,7 +6,7 @@ use Rattle.camp_stream.specs.declared.unquoting.EscapeState.TheVariants.{Plain, 
 use Rattle.camp_stream.specs.declared.unquoting.Step.{Step}
 use Rattle.camp_stream.specs.declared.unquoting.Step.TheVariants.{Closes, Continues, Gives, Fails}
 
--- what is read where a step was taken, and these bytes are left
+-- what is read after a step, with these bytes left
 abbrev pub after_step : Step → List ℕ → Option (List ℕ × List ℕ)
 after_step Closes bytes = Some ([], bytes)
 after_step (Continues state) bytes = unquoted_from state bytes
@@ -27,6 +27,6 @@ IsOctalStep (Continues state) = IsOctalState state
 IsOctalStep (Gives byte) = Unit {0}
 IsOctalStep Fails = Unit {0}
 
--- what is read, with the bytes of the path that were read before it
+-- what is read, preceded by the bytes of the path that were read before
 abbrev pub behind_path : List ℕ → Option (List ℕ × List ℕ) → Option (List ℕ × List ℕ)
 behind_path path found = option_map (λ read. (path ++ read.0, read.1)) found
