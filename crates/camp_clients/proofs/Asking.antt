@@ -1,23 +1,23 @@
 -- Lemmas on what one answer says.
-use Rattle.camp_clients.proofs.Words.{◌≡◌, ℕ, ◌+◌, ◌≤◌, true, false, cond, List, [], ◌∷◌, ◌++◌, length, Option, None, Some, IsSome, Result, Ok, Err, MatchOption, refl, sym, ◌∙◌, ap, subst, arith, Ask, Caller, Accepts, AddsNothing, Sequential, IsLawfulObject, Fault, Memory, Busy, Full, own_at, where_done, IsBeginning, IsLegal, IsAccepted, IsAnswered, replay, own, Asks, GoesOn, HasMemory, told, own_mine}
+use Rattle.camp_clients.proofs.Words.{◌≡◌, ℕ, ◌+◌, ◌≤◌, true, false, cond, List, [], ◌∷◌, ◌++◌, length, Option, None, Some, IsSome, Result, Ok, Err, MatchOption, refl, sym, ◌∙◌, ap, subst, arith, Ask, Caller, Accepts, AddsNothing, Sequential, Fault, Memory, Busy, Full, own_at, where_done, IsBeginning, IsLegal, IsAccepted, IsAnswered, replay, own, Asks, GoesOn, HasMemory, told, own_mine}
 use Rattle.std.proofs.lemmas.List.{append-nil, append_cancel_right, length-append}
 use Rattle.std.specs.Option.{option_and_then}
 use Rattle.camp_clients.proofs.Histories.{last_accepted}
 use Rattle.camp_clients.proofs.Positions.{own_at_front, own_at_push}
 
-module _ {State Call Reply : Type 0} (object : Sequential State Call Reply) (lawful : IsLawfulObject object) where
+module _ {State Call Reply : Type 0} (object : Sequential State Call Reply) (writes : (state : State) (call : Call) (next : State) → object.after state call ≡ Some next → object.is_writing call ≡ true) where
   writes_at : (call : Call) (state : Option State) → IsSome (option_and_then (λ s. object.after s call) state) → object.is_writing call ≡ true
   writes_at call None = λ some. absurd (cc some)
   writes_at call (Some state) = λ some.
       let P : Option State → Type 0 = λ next. object.after state call ≡ next → IsSome next → object.is_writing call ≡ true in
-      elim (object.after state call) as P [ None ↦ (λ is some. absurd (cc some)) | Some next ↦ (λ is some. lawful.writes state call next is) ] refl some
+      elim (object.after state call) as P [ None ↦ (λ is some. absurd (cc some)) | Some next ↦ (λ is some. writes state call next is) ] refl some
 
   -- an accepted call writes
   pub accepted_writes : (h : List (ℕ × Call)) (call : Call) → IsAccepted object h call → object.is_writing call ≡ true
   accepted_writes h call accepted = writes_at call (replay object h) accepted
 
   module _ (caller : Caller) (seen : List (ℕ × Call)) (call : Call) (now : List (ℕ × Call)) (legal : IsLegal object now) where
-    -- a call that is done is one that writes
+    -- a done call is one that writes
     done_writes : (at : ℕ) → Accepts caller seen call at now → object.is_writing call ≡ true
     done_writes at done = accepted_writes done.before call
         (last_accepted object done.before (caller.seat, call) (subst (IsLegal object) done.ends legal))
@@ -38,7 +38,7 @@ module _ {State Call Reply : Type 0} (object : Sequential State Call Reply) (law
   own_counts caller seen call (Err (Busy lost)) now asks = rw asks.asks.says.adds_nothing.own_stays (omega arith)
   own_counts caller seen call (Err Full) now asks = absurd asks.goes_on
 
-  -- with room for its calls that write, a caller is not full
+  -- a caller with fewer accepted calls than its limit is not full
   pub goes_on : (caller : Caller) (seen : List (ℕ × Call)) (call : Call) (answer : Result Reply Fault) (now : List (ℕ × Call))
       → Ask object caller seen call answer now
       → (caller.alone ≡ false → length (own caller.seat seen) + cond (object.is_writing call) 1 0 ≤ caller.per_seat)
@@ -53,7 +53,7 @@ module _ {State Call Reply : Type 0} (object : Sequential State Call Reply) (law
       let all = ask.says.no_room in
       absurd (omega arith)
 
--- a call that is done stands at the end, and between what its caller had seen and itself is none of the caller's
+-- a done call is last in the history, and none of its caller's calls comes between what the caller had seen and it
 module _ {Call : Type 0} (caller : Caller) (seen : List (ℕ × Call)) (call : Call) (at : ℕ) (now : List (ℕ × Call)) (done : Accepts caller seen call at now) where
   pub done_alone : own caller.seat done.before ≡ own caller.seat seen
   done_alone = append_cancel_right (own caller.seat done.before) (own caller.seat seen) (call ∷ [])
@@ -79,7 +79,7 @@ module _ {State Call Reply : Type 0} (object : Sequential State Call Reply) (cal
   at_reply grows None reply says = adds_none grows says.0
   at_reply grows (Some at) reply says = done_at_end caller seen call at now says
 
-  -- the calls of a caller with their positions grow by the call that is done, where it is done
+  -- the calls of a caller with their positions grow by the call if it is done
   pub own_at_asks : (answer : Result Reply Fault) → Asks object caller seen call answer now
       → own_at caller.seat 0 now ≡ own_at caller.seat 0 seen ++ where_done (told object answer) call []
   own_at_asks (Ok reply) asks = at_reply asks.asks.grows (object.done_at reply) reply asks.asks.says

@@ -76,7 +76,7 @@ zeros n i = elim (cases_lt i n) [
   | inr past ↦ get_or_past {X = ℕ} (replicate n 0) i 0 (omega (arith, length-replicate {A = ℕ} n 0))
 ]
 
--- what holds of each element below a place, and of the one there, holds of each below the next
+-- a fact of each element below an index and of the one there holds of each below the next index
 pub each_more : {X : Type 0} (P : X → Type 0) (xs : List X) (i : ℕ) (x : X) → i < length xs → x ≡ get_or xs i x → P x
     → ((k : ℕ) (d : X) → k < i → P (get_or xs k d)) → (k : ℕ) (d : X) → k < i + 1 → P (get_or xs k d)
 each_more P xs i x below at holds before k d in_reach =

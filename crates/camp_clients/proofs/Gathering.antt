@@ -3,7 +3,7 @@ use Rattle.std.proofs.lemmas.List.{take_more, get_or-map, map_push, append_assoc
 use Rattle.camp_clients.proofs.Words.{AllZip-long, all_zipped_more, Vec, vec_items, ArePutApart, Gathers, lists_of, section_of, ◌≡◌, ℕ, ◌+◌, ◌<◌, suc, zero, List, [], ◌∷◌, ◌++◌, length, take, get_or, Result, Ok, IfOk, refl, sym, ◌∙◌, ap, subst, add-one, arith, All, AllZip, remove, OnOk, is_err, false, Err}
 
 module _ {A B : Type 0} (R : A → B → Type 0) where
-  -- one element more, at place i
+  -- one more element, at index i
   pub zip_more : (xs : List A) (i : ℕ) (x : A) → i < length xs → x ≡ get_or xs i x → (ys : List B) (y : B) → AllZip R (take i xs) ys → R x y
       → AllZip R (take (i + 1) xs) (ys ++ y ∷ [])
   zip_more xs i x below at ys y all one = rw (take_more xs i x below, ← at) (all_zipped_more R (take i xs) ys x y all one)
@@ -14,7 +14,7 @@ module _ {A B : Type 0} (R : A → B → Type 0) where
   zip_at (a ∷ xs) (b ∷ ys) zero d e below all = all.0
   zip_at (a ∷ xs) (b ∷ ys) (suc i) d e below all = zip_at xs ys i d e (omega arith) all.1
 
--- what was there first, by another name
+-- the elements that were there first, under another name
 pub gathers_here : {Own Fault : Type 0} {here first : List Own} {made : List (Result Own Fault)} {all : List Own}
     → here ≡ first → Gathers here made all → Gathers first made all
 gathers_here {made = made} {all = all} is gathers = subst (λ list. Gathers list made all) is gathers
@@ -59,12 +59,12 @@ module _ {X Z Fault : Type 0} (first : Vec X Z) (made : List (Result (Vec X Z) F
       let holds = subst (λ r. IfOk r (λ own. P (k + 1) own.items)) is (each k (Ok first) in_made) in
       rw (gathers.begins, get_or-map vec_items gathers.others k first [] in_others, ← add-one k) holds
 
--- what an Ok promises
+-- the meaning of an Ok result
 pub ok_holds : {T E : Type 0} (P : Type 0) (r : Result T E) → OnOk r P → is_err r ≡ false → P
 ok_holds P (Ok x) holds none = holds
 ok_holds P (Err e) holds none = absurd (cc none)
 
--- what each of the second list has by its neighbour in the first
+-- a fact about each element of the second list follows from its neighbour in the first
 module _ {A B : Type 0} (R : A → B → Type 0) (P : B → Type 0) (each : (x : A) (y : B) → R x y → P y) where
   pub zip_all : (xs : List A) (ys : List B) → AllZip R xs ys → All P ys
   zip_all [] [] all k d below = absurd (omega arith)
@@ -73,7 +73,7 @@ module _ {A B : Type 0} (R : A → B → Type 0) (P : B → Type 0) (each : (x :
   zip_all (a ∷ xs) (b ∷ ys) all zero d below = each a b all.0
   zip_all (a ∷ xs) (b ∷ ys) all (suc k) d below = zip_all xs ys all.1 k d (omega arith)
 
--- what holds of seat k + 1 holds of seat k behind the first
+-- a fact about seat k + 1 is one about seat k of those after the first
 module _ {Seat : Type 0} (P : ℕ → Seat → Type 0) where
   pub behind_first : (seats rest : List Seat) → rest ≡ remove seats 0 → ((k : ℕ) (d : Seat) → k < length seats → P k (get_or seats k d))
       → (k : ℕ) (d : Seat) → k < length rest → P (k + 1) (get_or rest k d)

@@ -4,7 +4,7 @@ use Rattle.camp_clients.proofs.Words.{◌≡◌, ℕ, ◌==◌, true, List, [], 
 pub same_seat : (seat : ℕ) → (seat == seat) ≡ true
 same_seat seat = elim (eqb_tells seat seat) [ inl same ↦ same.0 | inr other ↦ absurd (other.1 refl) ]
 
--- where a seat has as many calls in the whole as in the beginning, the rest has none of it
+-- if a seat has as many calls in the whole as in a prefix, the rest has none of it
 pub own_rest : {Call : Type 0} (seat : ℕ) (f h : List (ℕ × Call)) (beginning : IsBeginning f h) → own seat h ≡ own seat f → own seat beginning.rest ≡ []
 own_rest seat f h beginning same =
     append_cancel_left (own seat f) (own seat beginning.rest) [] (sym (own-append seat f beginning.rest) ∙ ap (own seat) beginning.makes ∙ same ∙ sym (append-nil (own seat f)))

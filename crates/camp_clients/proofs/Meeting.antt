@@ -12,7 +12,7 @@ module _ {A B : Type 0} (R S : A → B → Type 0) (each : (x : A) (y : B) → R
   zip_map (a ∷ xs) [] all = absurd all
   zip_map (a ∷ xs) (b ∷ ys) all = (each a b all.0, zip_map xs ys all.1)
 
--- a section's first beginning can be moved back over calls of others
+-- the first prefix of a section can be moved back over calls of others
 module _ {State Call Reply : Type 0} (object : Sequential State Call Reply) (seat tries : ℕ)
     (earlier first : List (ℕ × Call)) (beginning : IsBeginning earlier first) (none : own seat beginning.rest ≡ []) where
   says_earlier : (call : Call) (answer : Result Reply Fault) (next : List (ℕ × Call)) → SaysAmongThreads object seat tries first call answer next → SaysAmongThreads object seat tries earlier call answer next
@@ -40,17 +40,17 @@ module _ {State Call Reply : Type 0} (object : Sequential State Call Reply) (sea
   }
 
 -- who asks at a seat of this number
-abbrev pub caller_of : HeadId → ℕ → Caller
+abbrev pub caller_of : {State : Type 0} → HeadId State → ℕ → Caller
 caller_of head number = record { seat = number; tries = head.tries; per_seat = calls_per_seat head; alone = false }
 
 -- from a new seat to the end of the run
-module _ {State Call Reply : Type 0} (object : Sequential State Call Reply) (head : HeadId) (sections : List (List Call)) (opened history : List (ℕ × Call)) where
+module _ {State Call Reply : Type 0} (object : Sequential State Call Reply) (head : HeadId State) (sections : List (List Call)) (opened history : List (ℕ × Call)) where
   -- what the run says of a client's section
   pub record Holds (seat : ℕ) (answers : List (Result Reply Fault)) : Type 0 where
     pub beginnings : HasBeginnings object seat head.tries opened (section_of sections seat) answers history
     pub own_done : own_at seat 0 history ≡ done_at (told object) (section_of sections seat) answers
 
-  module _ (s0 s1 s2 : Seated Call) (answers : List (Result Reply Fault)) (fresh : history_of s0 ≡ []) (m1 : HasMet head opened s0 s1)
+  module _ (s0 s1 s2 : Seated State Call) (answers : List (Result Reply Fault)) (fresh : history_of s0 ≡ []) (m1 : HasMet head opened s0 s1)
       (ran : Ran object head sections s1 s2 answers) (met : IsMet history s2) where
     asked : Section (Asks object (caller_of head (number_of s0))) (history_of s1) (section_of sections (number_of s0)) answers (history_of s2)
     asked = subst (λ n. Section (Asks object (caller_of head n)) (history_of s1) (section_of sections n) answers (history_of s2)) m1.number ran.section
@@ -83,12 +83,12 @@ module _ {State Call Reply : Type 0} (object : Sequential State Call Reply) (hea
     }
 
   module _ {Z : Type 0} where
-    pub clients_hold : (l0 l1 : List (Seated Call)) (l2 : List (Seated Call × Vec (Result Reply Fault) Z)) → AreNew head l0 → AllZip (HasMet head opened) l0 l1
+    pub clients_hold : (l0 l1 : List (Seated State Call)) (l2 : List (Seated State Call × Vec (Result Reply Fault) Z)) → AreNew head l0 → AllZip (HasMet head opened) l0 l1
         → AllZip (λ seat one. Ran object head sections seat one.0 one.1.items) l1 l2
         → All (λ one. IsMet history one.0) l2
-        → (k : ℕ) (d : Seated Call × Vec (Result Reply Fault) Z) → k < length l0 → Holds (k + 1) (get_or l2 k d).1.items
+        → (k : ℕ) (d : Seated State Call × Vec (Result Reply Fault) Z) → k < length l0 → Holds (k + 1) (get_or l2 k d).1.items
     clients_hold l0 l1 l2 fresh one two met k d below =
-        let R : Seated Call → Seated Call × Vec (Result Reply Fault) Z → Type 0 = λ seat one. Ran object head sections seat one.0 one.1.items in
+        let R : Seated State Call → Seated State Call × Vec (Result Reply Fault) Z → Type 0 = λ seat one. Ran object head sections seat one.0 one.1.items in
         let in_l1 : k < length l1 = omega (arith, below, AllZip-long (HasMet head opened) l0 l1 one) in
         let new = fresh k d.0 below in
         let s2 = get_or l2 k d in
@@ -97,8 +97,8 @@ module _ {State Call Reply : Type 0} (object : Sequential State Call Reply) (hea
         (zip_at R l1 l2 k d.0 d in_l1 two) (met k d (omega (arith, in_l1, AllZip-long R l1 l2 two))))
 
 -- where the history grows, all of a seat was known still
-pub still_met : {Call : Type 0} (head : HeadId) (least : ℕ) (h more : List (ℕ × Call)) → IsBeginning h more
-    → (before after : List (Seated Call)) → AllZip (WasMet head least h) before after → AllZip (WasMet head least more) before after
+pub still_met : {State Call : Type 0} (head : HeadId State) (least : ℕ) (h more : List (ℕ × Call)) → IsBeginning h more
+    → (before after : List (Seated State Call)) → AllZip (WasMet head least h) before after → AllZip (WasMet head least more) before after
 still_met head least h more grows before after met =
     zip_map (WasMet head least h) (WasMet head least more)
     (λ b a was. record {
@@ -112,7 +112,7 @@ still_met head least h more grows before after met =
     }) before after met
 
 -- one seat more was met, of which the first tells how many calls the history has at least
-pub one_met : {Call : Type 0} (head : HeadId) (least now : ℕ) (h more : List (ℕ × Call)) (before after : List (Seated Call)) (b a : Seated Call)
+pub one_met : {State Call : Type 0} (head : HeadId State) (least now : ℕ) (h more : List (ℕ × Call)) (before after : List (Seated State Call)) (b a : Seated State Call)
     → IsBeginning h more → AllZip (WasMet head least h) before after → (length after ≡ 0) ⊎ (now ≡ least) → WasMet head now more b a
     → AllZip (WasMet head now more) (before ++ b ∷ []) (after ++ a ∷ [])
 one_met head least now h more before after b a grows met (inr same) one =
@@ -122,16 +122,16 @@ one_met head least now h more [] [] b a grows met (inl none) one = (one, tt)
 one_met head least now h more (x ∷ before) [] b a grows met (inl none) one = absurd met
 one_met head least now h more before (y ∷ after) b a grows met (inl none) one = absurd (omega (arith, none))
 
-module _ {Call : Type 0} (head : HeadId) (least : ℕ) (history : List (ℕ × Call)) where
+module _ {State Call : Type 0} (head : HeadId State) (least : ℕ) (history : List (ℕ × Call)) where
   -- where the history is no longer than it was then, all of each seat is known
-  pub all_met : (before after : List (Seated Call)) → length history ≤ least → AllZip (WasMet head least history) before after → All (IsMet history) before
+  pub all_met : (before after : List (Seated State Call)) → length history ≤ least → AllZip (WasMet head least history) before after → All (IsMet history) before
   all_met before after short met k d below =
       let was = zip_at (WasMet head least history) before after k d d below met in
       subst (λ h. IsMet h (get_or before k d)) (begins_whole was.earlier history was.since (omega (arith, was.long, short))) was.met
 
   -- a seat that meets the opening's once more, and sees no further call of its own, has none in the history beyond
   -- those that it had seen
-  met_again : (before mid after : Seated Call) → WasMet head least history before mid → HasMet head history mid after → IsMet history before
+  met_again : (before mid after : Seated State Call) → WasMet head least history before mid → HasMet head history mid after → IsMet history before
   met_again before mid after first last =
       let number = number_of before in
       let known = begins_through first.met.known first.since in
@@ -150,7 +150,7 @@ module _ {Call : Type 0} (head : HeadId) (least : ℕ) (history : List (ℕ × C
         own_known = part ∙ ap (λ rest. own number (history_of before) ++ rest) none ∙ append-nil (own number (history_of before));
       }
 
-  pub all_met_again : (before mid after : List (Seated Call)) → AllZip (WasMet head least history) before mid → AllZip (HasMet head history) mid after → All (IsMet history) before
+  pub all_met_again : (before mid after : List (Seated State Call)) → AllZip (WasMet head least history) before mid → AllZip (HasMet head history) mid after → All (IsMet history) before
   all_met_again before mid after first last k d below =
       met_again (get_or before k d) (get_or mid k d) (get_or after k d) (zip_at (WasMet head least history) before mid k d d below first)
       (zip_at (HasMet head history) mid after k d d (omega (arith, below, AllZip-long (WasMet head least history) before mid first)) last)
@@ -173,13 +173,13 @@ module _ {X Y E : Type 0} (R : X → Y → Type 0) where
       )
 
 -- a whole run, put together
-module _ {State Call Reply Z : Type 0} (object : Sequential State Call Reply) (head : HeadId)
-    (sections : List (List Call)) (opened history : List (ℕ × Call)) (opening : List (Result Reply Fault)) (clients : List (Seated Call × Vec (Result Reply Fault) Z))
-    (d : Seated Call × Vec (Result Reply Fault) Z) (as_many : length clients + 1 ≡ length sections)
-    (holds : (k : ℕ) (d : Seated Call × Vec (Result Reply Fault) Z) → k < length clients → Holds object head sections opened history (k + 1) (get_or clients k d).1.items)
+module _ {State Call Reply Z : Type 0} (object : Sequential State Call Reply) (head : HeadId State)
+    (sections : List (List Call)) (opened history : List (ℕ × Call)) (opening : List (Result Reply Fault)) (clients : List (Seated State Call × Vec (Result Reply Fault) Z))
+    (d : Seated State Call × Vec (Result Reply Fault) Z) (as_many : length clients + 1 ≡ length sections)
+    (holds : (k : ℕ) (d : Seated State Call × Vec (Result Reply Fault) Z) → k < length clients → Holds object head sections opened history (k + 1) (get_or clients k d).1.items)
     (ran : Section (Asks object (caller_of head 0)) [] (section_of sections 0) opening opened)
     (beginning : IsBeginning opened history) (same : own 0 history ≡ own 0 opened) where
-  answers_of : Seated Call × Vec (Result Reply Fault) Z → List (Result Reply Fault)
+  answers_of : Seated State Call × Vec (Result Reply Fault) Z → List (Result Reply Fault)
   answers_of one = one.1.items
 
   all : List (List (Result Reply Fault))
@@ -215,7 +215,7 @@ module _ {State Call Reply Z : Type 0} (object : Sequential State Call Reply) (h
   }
 
 -- new seats that met the opening's can begin
-pub can_begin : {Call : Type 0} (head : HeadId) (sections : ℕ) (opened : List (ℕ × Call)) (l0 l1 : List (Seated Call)) → length l0 + 1 ≡ sections
+pub can_begin : {State Call : Type 0} (head : HeadId State) (sections : ℕ) (opened : List (ℕ × Call)) (l0 l1 : List (Seated State Call)) → length l0 + 1 ≡ sections
     → AreNew head l0 → AllZip (HasMet head opened) l0 l1 → All (IsReady head sections) l1
 can_begin head sections opened l0 l1 as_many fresh met k d below =
     let short : k < length l0 = omega (arith, below, AllZip-long (HasMet head opened) l0 l1 met) in

@@ -1,16 +1,16 @@
--- Lemmas on a section whose calls stand in a history one after the other, with nothing between them.
+-- Lemmas on a section whose calls are adjacent in a history.
 use Rattle.camp_clients.proofs.Words.{◌≡◌, ℕ, ◌+◌, ◌<◌, List, [], ◌∷◌, ◌++◌, length, Option, None, Some, Result, Ok, Err, MatchOption, refl, sym, ◌∙◌, ap, subst, append_assoc, inl, inr, arith, All-same, cases_lt, All, IsBeginning, IsAnswered, own, Sequential, Fault, Memory, Busy, Full, IsDone, IsOvertaken, SaysAmongThreads, SaysAlone, told, own_at, where_done, done_at, Section, begins_through, own-append, length-own-all, length-own-within, HasOpening, begins_whole, length-beginning}
 use Rattle.std.proofs.lemmas.List.{length-append, get_or-append-add}
 use Rattle.camp_clients.proofs.SectionSteps.{says_grows, section_front, own_at_first, own_at_mine, same_first}
 
--- what holds of all elements holds of those behind a beginning
+-- a fact about all elements holds of those after a prefix
 pub all_behind : {X : Type 0} (P : X → Type 0) (beginning whole : List X) (begins : IsBeginning beginning whole) → All P whole → All P begins.rest
 all_behind P beginning whole begins all k d below =
     subst P (get_or-append-add beginning begins.rest k d)
     (All-same P (beginning ++ begins.rest) whole begins.makes all (length beginning + k) d (omega (arith, below, length-append beginning begins.rest)))
 
 module _ {State Call Reply : Type 0} (object : Sequential State Call Reply) (seat tries : ℕ) where
-  -- the first of these positions lies behind a beginning
+  -- the first of these positions is after a prefix
   abbrev pub Behind : List (ℕ × Call) → List (ℕ × Call) → Type 0
   Behind beginning left = (at : ℕ) (call : Call) (more : List (ℕ × Call)) → left ≡ (at, call) ∷ more → length beginning < at
 
@@ -31,7 +31,7 @@ module _ {State Call Reply : Type 0} (object : Sequential State Call Reply) (sea
       let further = behind at other more is in omega (arith, ap length says.makes, length-append before says.others)
   behind_says before call (Err Full) next left says behind = absurd says
 
-  -- what a section tells lies behind its first beginning
+  -- the calls that a section reports as done come after its first prefix
   pub section_behind : (first : List (ℕ × Call)) (calls : List Call) (answers : List (Result Reply Fault)) (last : List (ℕ × Call))
       → Section (SaysAmongThreads object seat tries) first calls answers last → Behind first (done_at (told object) calls answers)
   section_behind first [] [] last s = λ at call more is. absurd (cc is)
@@ -41,12 +41,12 @@ module _ {State Call Reply : Type 0} (object : Sequential State Call Reply) (sea
       behind_says first c a s.0 (done_at (told object) calls answers) s.1 (section_behind s.0 calls answers last s.2)
 
 module _ {State Call Reply : Type 0} (object : Sequential State Call Reply) (seat : ℕ) (history : List (ℕ × Call)) where
-  -- a beginning of the history, and behind it these calls of the seat with their positions
+  -- a prefix of the history, and these calls of the seat after it, with their positions
   pub record Leaves (beginning left : List (ℕ × Call)) : Type 0 where
     pub begins : IsBeginning beginning history
     pub are : own_at seat (length beginning) begins.rest ≡ left
 
-  -- the next call that is done lengthens the beginning, by itself
+  -- the next done call adds itself to the prefix, and nothing else
   done_leaves : (before : List (ℕ × Call)) (call : Call) (next left : List (ℕ × Call)) (at : ℕ)
       → Leaves before ((at, call) ∷ left) → next ≡ before ++ (seat, call) ∷ [] → at ≡ length next → Leaves next left
   done_leaves before call next left at leaves is position =
@@ -72,8 +72,7 @@ module _ {State Call Reply : Type 0} (object : Sequential State Call Reply) (sea
   says_leaves before call (Ok reply) next left leaves says = reply_leaves before call (object.done_at reply) reply next left leaves says
   says_leaves before call (Err fault) next left leaves says = absurd says
 
-  -- a section that was asked alone, whose calls are those behind its first beginning, leaves none of them behind its
-  -- last
+  -- a section asked alone, whose calls are those after its first prefix, leaves none of them after its last
   section_leaves : (first : List (ℕ × Call)) (calls : List Call) (answers : List (Result Reply Fault)) (last : List (ℕ × Call))
       → Section (SaysAlone object seat) first calls answers last → Leaves first (done_at (told object) calls answers) → Leaves last []
   section_leaves first [] [] last s leaves = subst (λ f. Leaves f []) s leaves
@@ -82,7 +81,7 @@ module _ {State Call Reply : Type 0} (object : Sequential State Call Reply) (sea
   section_leaves first (c ∷ calls) (a ∷ answers) last s leaves =
       section_leaves s.0 calls answers last s.2 (says_leaves first c a s.0 (done_at (told object) calls answers) leaves s.1)
 
-  -- a section that was asked first, and alone, stands at the beginning of the history
+  -- a section that was asked first, and alone, is at the start of the history
   pub alone_begins : (calls : List Call) (answers : List (Result Reply Fault)) (last : List (ℕ × Call))
       → Section (SaysAlone object seat) [] calls answers last → own_at seat 0 history ≡ done_at (told object) calls answers → Leaves last []
   alone_begins calls answers last s is = section_leaves [] calls answers last s (record { begins = record { rest = history; makes = refl }; are = is })
@@ -95,7 +94,7 @@ module _ {State Call Reply : Type 0} (object : Sequential State Call Reply) (sea
       (entry.1, own_at seat (before + 1) rest, sym are ∙ own_at_mine seat before entry rest (mine 0 entry (omega arith)))
 
   module _ (mine : All (λ entry. entry.0 ≡ seat) history) where
-    -- where all calls are the seat's, a beginning that isn't all of the history leaves the next position first
+    -- if all calls are the seat's, the first call after a prefix of the history has the next position
     next_position : (beginning left : List (ℕ × Call)) → Leaves beginning left → length beginning < length history
         → (call : Call) × (more : List (ℕ × Call)) × (left ≡ (length beginning + 1, call) ∷ more)
     next_position beginning left leaves below =
@@ -103,7 +102,7 @@ module _ {State Call Reply : Type 0} (object : Sequential State Call Reply) (sea
         first_position (length beginning) leaves.begins.rest left (all_behind (λ entry. entry.0 ≡ seat) beginning history leaves.begins mine)
         (omega (arith, length-append beginning leaves.begins.rest)) leaves.are
 
-    -- and one that leaves nothing is all of it
+    -- and if it leaves nothing it is the whole history
     pub leaves_none : (beginning : List (ℕ × Call)) → Leaves beginning [] → beginning ≡ history
     leaves_none beginning leaves = elim (cases_lt (length beginning) (length history)) [
       | inl below ↦ (let next = next_position beginning [] leaves below in absurd (cc next.2))
@@ -112,7 +111,7 @@ module _ {State Call Reply : Type 0} (object : Sequential State Call Reply) (sea
 
     module _ (tries : ℕ) (some : 0 < tries) where
       module _ (before : List (ℕ × Call)) (call : Call) (next left : List (ℕ × Call)) (within : IsBeginning next history) (behind : Behind object seat tries next left) where
-        -- nothing is left between a beginning and the next one where no call is done
+        -- if no call is done, nothing comes between a prefix and the next
         no_more : Leaves before left → IsBeginning before next → next ≡ before
         no_more leaves grows = sym (begins_whole before next grows (elim (cases_lt (length before) (length history)) [
           | inl below ↦ (
@@ -122,7 +121,7 @@ module _ {State Call Reply : Type 0} (object : Sequential State Call Reply) (sea
           | inr past ↦ omega (arith, length-beginning within)
         ]))
 
-        -- and nothing but the call where it is done
+        -- if a call is done, only this call comes between them
         done_next : (at : ℕ) → Leaves before ((at, call) ∷ left) → IsDone seat before call at next → next ≡ before ++ (seat, call) ∷ []
         done_next at leaves done =
             let long = length-append done.stood ((seat, call) ∷ []) in
@@ -173,7 +172,7 @@ module _ {State Call Reply : Type 0} (object : Sequential State Call Reply) (sea
         says_is_alone (Err (Busy lost)) leaves says = never_overtaken lost says
         says_is_alone (Err Full) leaves says = says
 
-      -- a section whose calls are all that the history has was asked alone
+      -- a section whose calls are all of the history was asked alone
       pub section_is_alone : (first : List (ℕ × Call)) (calls : List Call) (answers : List (Result Reply Fault)) (last : List (ℕ × Call))
           → IsBeginning last history → Leaves first (done_at (told object) calls answers) → Section (SaysAmongThreads object seat tries) first calls answers last
           → Section (SaysAlone object seat) first calls answers last

@@ -12,14 +12,14 @@ up_to_right : {Call : Type 0} (end : ℕ) (xs ys : List (ℕ × Call)) → AreUp
 up_to_right end [] ys all = all
 up_to_right end (x ∷ xs) ys all = up_to_right end xs ys all.1
 
--- positions behind a number that do not lie past it are none
+-- there are no positions after a number that are not greater than it
 none_between : {Call : Type 0} (seat end : ℕ) (h list : List (ℕ × Call)) → own_at seat end h ≡ list → AreUpTo end list → list ≡ []
 none_between seat end h [] is all = refl
 none_between seat end h (entry ∷ list) is all =
     let behind = own_at_behind seat end h entry.0 entry.1 list is in
     let first = all.0 in absurd (omega arith)
 
--- a seat whose first position lies behind a beginning has no call in it
+-- a seat whose first position is after a prefix has no call in it
 none_before : {Call : Type 0} (seat before : ℕ) (h more : List (ℕ × Call))
     → ((at : ℕ) (call : Call) (rest : List (ℕ × Call)) → own_at seat before (h ++ more) ≡ (at, call) ∷ rest → before + length h < at)
     → own seat h ≡ []
@@ -32,7 +32,7 @@ none_before {Call = Call} seat before (entry ∷ h) more =
       | false ↦ (λ behind. none_before seat (before + 1) h more (λ at call rest is. let past = behind at call rest is in omega arith))
     ]
 
--- what holds of all elements holds of those of a beginning
+-- a fact about all elements holds of those of a prefix
 all_of_front : {X : Type 0} (P : X → Type 0) (beginning whole : List X) (begins : IsBeginning beginning whole) → All P whole → All P beginning
 all_of_front P beginning whole begins all k d below =
     subst P (get_or-append beginning begins.rest d k below)
@@ -42,7 +42,7 @@ all_of_front P beginning whole begins all k d below =
 has_own : {Call : Type 0} (seat : ℕ) (entry : ℕ × Call) (h : List (ℕ × Call)) → entry.0 ≡ seat → own seat (entry ∷ h) ≡ [] → ⊥
 has_own seat entry h mine = rw (eq-eqb entry.0 seat mine) (λ is. cc is)
 
--- without calls of a seat there are none behind the first
+-- a history without calls of a seat has none after its first entry
 own_tail : {Call : Type 0} (seat : ℕ) (entry : ℕ × Call) (h : List (ℕ × Call)) → own seat (entry ∷ h) ≡ [] → own seat h ≡ []
 own_tail seat entry h =
     elim (entry.0 == seat) as (λ b. cond b (entry.1 ∷ own seat h) (own seat h) ≡ [] → own seat h ≡ [])
@@ -61,7 +61,7 @@ all_of_first seats (entry ∷ h) below none =
     (all_of_first seats h (λ k d here. below (suc k) d (omega arith)) (λ seat some few. own_tail seat entry h (none seat some few)))
 
 module _ {State Call Reply : Type 0} (object : Sequential State Call Reply) (seat tries : ℕ) where
-  -- what a section tells lies in its last beginning
+  -- the calls that a section reports as done are in its last prefix
   done_up_to : (before : List (ℕ × Call)) (call : Call) (at : Option ℕ) (reply : Reply) (next left : List (ℕ × Call)) (end : ℕ)
       → MatchOption at (IsBeginning before next × IsAnswered object next call reply) (λ at. IsDone seat before call at next)
       → length next ≤ end → AreUpTo end left → AreUpTo end (where_done at call left)
@@ -84,7 +84,7 @@ module _ {State Call Reply : Type 0} (object : Sequential State Call Reply) (sea
       (length-beginning (section_front (SaysAmongThreads object seat tries) (says_grows object seat tries) s.0 calls answers last s.2))
       (section_up_to s.0 calls answers last s.2)
 
-  -- a beginning that holds what a section tells has all calls of its seat
+  -- a prefix that has all calls that a section reports as done has all calls of its seat
   own_at_last : (last history : List (ℕ × Call)) (calls : List Call) (answers : List (Result Reply Fault))
       → (within : IsBeginning last history) → own_at seat 0 history ≡ done_at (told object) calls answers
       → Section (SaysAmongThreads object seat tries) [] calls answers last → own_at seat 0 last ≡ done_at (told object) calls answers

@@ -15,7 +15,7 @@ own_at-append seat before (entry ∷ h) more =
     ≡ cond b ((before + 1, entry.1) ∷ own_at seat (before + 1) h) (own_at seat (before + 1) h) ++ own_at seat (before + length (entry ∷ h)) more)
     [ true ↦ ap (λ xs. (before + 1, entry.1) ∷ xs) rest | false ↦ rest ]
 
--- what two lists with one first call have in common
+-- two lists with the same first call
 pub same_first : {Call : Type 0} (n m : ℕ) (a b : Call) (xs ys : List (ℕ × Call)) → (n, a) ∷ xs ≡ (m, b) ∷ ys → (n ≡ m) × (a ≡ b) × (xs ≡ ys)
 same_first {Call} n m a b xs ys is =
     let one : ℕ × Call = (n, a) in
@@ -23,7 +23,7 @@ same_first {Call} n m a b xs ys is =
     let same : one ≡ two = cc is in
     (ap (λ p. p.0) same, ap (λ p. p.1) same, cc is)
 
--- the positions in a part of a history lie behind what stands in front of it
+-- the positions in a part of a history are greater than the number of entries before it
 pub own_at_behind : {Call : Type 0} (seat before : ℕ) (h : List (ℕ × Call)) (at : ℕ) (call : Call) (more : List (ℕ × Call))
     → own_at seat before h ≡ (at, call) ∷ more → before < at
 own_at_behind seat before [] at call more = λ is. absurd (cc is)
@@ -62,7 +62,7 @@ own_at_none seat before (entry ∷ h) =
     as (λ b. cond b (entry.1 ∷ own seat h) (own seat h) ≡ [] → cond b ((before + 1, entry.1) ∷ own_at seat (before + 1) h) (own_at seat (before + 1) h) ≡ [])
     [ true ↦ (λ none. absurd (cc none)) | false ↦ (λ none. own_at_none seat (before + 1) h none) ]
 
--- a beginning with all calls of a seat has them at the same positions
+-- a prefix with all calls of a seat has them at the same positions
 pub own_at_front : {Call : Type 0} (seat : ℕ) (f h : List (ℕ × Call)) (beginning : IsBeginning f h) → own seat h ≡ own seat f → own_at seat 0 h ≡ own_at seat 0 f
 own_at_front seat f h beginning same =
     let none = own_at_none seat (0 + length f) beginning.rest (own_rest seat f h beginning same) in
@@ -90,7 +90,7 @@ module _ {Call Answer : Type 0} (told : Answer → Option ℕ) where
         | inr past ↦ rw (drop_all i calls past)
       ]
 
-  -- the call and the answer at a place
+  -- the call and the answer at an index
   pub done_at_more : (calls : List Call) (answers : List Answer) (i : ℕ) (call : Call) (answer : Answer) (at : Option ℕ)
       → i < length calls → i < length answers → call ≡ get_or calls i call → answer ≡ get_or answers i answer → told answer ≡ at
       → done_at told (drop i calls) (drop i answers) ≡ where_done at call (done_at told (drop (i + 1) calls) (drop (i + 1) answers))

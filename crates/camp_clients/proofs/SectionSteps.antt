@@ -1,11 +1,11 @@
 -- Lemmas on sections of calls.
-use Rattle.camp_clients.proofs.Words.{append-nil, length-append, take_more, IsBeginning, IsAnswered, own, Sequential, IsLawfulObject, Fault, Memory, Busy, Full, Asks, HasMemory, IsDone, IsOvertaken, SaysAmongThreads, SaysAlone, told, own_at, where_done, done_at, OneByOne, Section, ◌≡◌, ℕ, ◌+◌, ◌≤◌, false, List, [], ◌∷◌, ◌++◌, length, Option, None, Some, Result, Ok, Err, MatchOption, zero, suc, cond, count_by, get_or, drop, take, ◌<◌, refl, sym, ◌∙◌, ap, subst, append_assoc, add-zero, arith, begins_longer, begins_self, begins_through, Ask, Caller, IsBusy, Loses, alone_at}
+use Rattle.camp_clients.proofs.Words.{append-nil, length-append, take_more, IsBeginning, IsAnswered, own, Sequential, Fault, Memory, Busy, Full, Asks, HasMemory, IsDone, IsOvertaken, SaysAmongThreads, SaysAlone, told, own_at, where_done, done_at, OneByOne, Section, ◌≡◌, ℕ, ◌+◌, ◌≤◌, false, true, List, [], ◌∷◌, ◌++◌, length, Option, None, Some, Result, Ok, Err, MatchOption, zero, suc, cond, count_by, get_or, drop, take, ◌<◌, refl, sym, ◌∙◌, ap, subst, append_assoc, add-zero, arith, begins_longer, begins_self, begins_through, Ask, Caller, IsBusy, Loses, alone_at}
 use Rattle.std.proofs.lemmas.List.Sums.{sum_by-drop_more}
 use Rattle.camp_clients.proofs.Asking.{own_at_asks, own_counts, goes_on}
 use Rattle.camp_clients.proofs.Histories.{own_rest}
 pub use Rattle.camp_clients.proofs.Positions.{own_at-append, own_at_behind, own_at_first, own_at_front, own_at_mine, own_at_none, same_first, where_done-append}
 
--- what an answer says, in other words, whether or not it tells a position
+-- restates what an answer says, whether or not it has a position
 pub either : {A P P' : Type 0} {Q Q' : A → Type 0} (o : Option A) → (P → P') → ((x : A) → Q x → Q' x) → MatchOption o P Q → MatchOption o P' Q'
 either None none some says = none says
 either (Some x) none some says = some x says
@@ -21,7 +21,7 @@ module _ {Beginning Call Answer : Type 0} (SaysAmongThreads : Beginning → Call
   section_push first (c ∷ calls) (a ∷ answers) next last call answer s says =
       (s.0, s.1, section_push s.0 calls answers next last call answer s.2 says)
 
-  -- what each answer says, in other words
+  -- restates what each answer says
   pub section_map : (Tells : Beginning → Call → Answer → Beginning → Type 0)
       → ((before : Beginning) (call : Call) (answer : Answer) (beginning : Beginning) → SaysAmongThreads before call answer beginning → Tells before call answer beginning)
       → (first : Beginning) (calls : List Call) (answers : List Answer) (last : Beginning)
@@ -32,10 +32,10 @@ module _ {Beginning Call Answer : Type 0} (SaysAmongThreads : Beginning → Call
   section_map Tells each first (c ∷ calls) (a ∷ answers) last s =
       (s.0, each first c a s.0 s.1, section_map Tells each s.0 calls answers last s.2)
 
--- where each answer's beginning begins with the one before it
+-- the prefix of each answer begins with the one before it
 module _ {Entry Call Answer : Type 0} (SaysAmongThreads : List Entry → Call → Answer → List Entry → Type 0)
     (grows : (before : List Entry) (call : Call) (answer : Answer) (beginning : List Entry) → SaysAmongThreads before call answer beginning → IsBeginning before beginning) where
-  -- a section's last beginning begins with its first
+  -- the last prefix of a section begins with its first
   pub section_front : (first : List Entry) (calls : List Call) (answers : List Answer) (last : List Entry)
       → Section SaysAmongThreads first calls answers last → IsBeginning first last
   section_front first [] [] last s = subst (IsBeginning first) s (begins_self first)
@@ -44,7 +44,7 @@ module _ {Entry Call Answer : Type 0} (SaysAmongThreads : List Entry → Call �
   section_front first (c ∷ calls) (a ∷ answers) last s =
       begins_through (grows first c a s.0 s.1) (section_front s.0 calls answers last s.2)
 
-  -- what each answer says, in other words that hold at the beginnings of a history
+  -- restates what each answer says, at prefixes of a history
   pub section_within : (Tells : List Entry → Call → Answer → List Entry → Type 0) (history : List Entry)
       → ((before : List Entry) (call : Call) (answer : Answer) (beginning : List Entry) → IsBeginning beginning history → SaysAmongThreads before call answer beginning → Tells before call answer beginning)
       → (first : List Entry) (calls : List Call) (answers : List Answer) (last : List Entry) → IsBeginning last history
@@ -113,7 +113,7 @@ module _ {State Call Reply : Type 0} (object : Sequential State Call Reply) wher
   says_alone seat before call (Err (Busy lost)) beginning asks = absurd (cc asks.asks.says.not_alone)
   says_alone seat before call (Err Full) beginning asks = asks.goes_on
 
--- what an answer says has a beginning that begins with the one before
+-- the prefix of an answer begins with the prefix before it
 module _ {State Call Reply : Type 0} (object : Sequential State Call Reply) (seat tries : ℕ) where
   reply_grows : (before : List (ℕ × Call)) (call : Call) (at : Option ℕ) (reply : Reply) (beginning : List (ℕ × Call))
       → MatchOption at (IsBeginning before beginning × IsAnswered object beginning call reply) (λ at. IsDone seat before call at beginning)
@@ -141,7 +141,7 @@ module _ {State Call Reply : Type 0} (object : Sequential State Call Reply) (sea
   alone_grows before call (Err fault) beginning says = absurd says
 
 -- one more call of a section, at place i
-module _ {State Call Reply : Type 0} (object : Sequential State Call Reply) (lawful : IsLawfulObject object) (caller : Caller)
+module _ {State Call Reply : Type 0} (object : Sequential State Call Reply) (writes : (state : State) (call : Call) (next : State) → object.after state call ≡ Some next → object.is_writing call ≡ true) (caller : Caller)
     (first : List (ℕ × Call)) (calls : List Call) (i : ℕ) (below : i < length calls) (seen : List (ℕ × Call)) (call : Call) (at : call ≡ get_or calls i call)
     (answer : Result Reply Fault) (now : List (ℕ × Call)) (memory : HasMemory answer) (asks : Ask object caller seen call answer now)
     (room : caller.alone ≡ false → length (own caller.seat seen) + count_by object.is_writing (drop i calls) ≤ caller.per_seat) where
@@ -152,18 +152,18 @@ module _ {State Call Reply : Type 0} (object : Sequential State Call Reply) (law
   pub asked : Asks object caller seen call answer now
   asked = record {
     asks = asks;
-    goes_on = goes_on object lawful caller seen call answer now asks (λ threads. omega (arith, room threads, counted)) memory;
+    goes_on = goes_on object writes caller seen call answer now asks (λ threads. omega (arith, room threads, counted)) memory;
   }
 
   pub room_more : caller.alone ≡ false → length (own caller.seat now) + count_by object.is_writing (drop (i + 1) calls) ≤ caller.per_seat
-  room_more threads = omega (arith, room threads, counted, own_counts object lawful caller seen call answer now asked)
+  room_more threads = omega (arith, room threads, counted, own_counts object writes caller seen call answer now asked)
 
   pub section_more : (answers : List (Result Reply Fault)) → Section (Asks object caller) first (take i calls) answers seen
       → Section (Asks object caller) first (take (i + 1) calls) (answers ++ answer ∷ []) now
   section_more answers so_far =
       rw (take_more calls i call below, ← at) (section_push (Asks object caller) first (take i calls) answers seen now call answer so_far asked)
 
--- a section where nobody else asks
+-- a section if nobody else asks
 pub section_alone : {State Call Reply : Type 0} (object : Sequential State Call Reply) (seat : ℕ)
     (first : List (ℕ × Call)) (calls : List Call) (answers : List (Result Reply Fault)) (last : List (ℕ × Call))
     → Section (Asks object (alone_at seat)) first calls answers last → Section (SaysAlone object seat) first calls answers last

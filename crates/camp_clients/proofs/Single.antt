@@ -11,13 +11,13 @@ module _ {State Call Reply : Type 0} (object : Sequential State Call Reply) wher
     mine : All (λ entry. entry.0 ≡ 0) history
     mine = All-weaker (λ entry. entry.0 < 1) (λ entry. entry.0 ≡ 0) (λ entry below. omega arith) history exactly.no_other
 
-    -- a section that was asked alone has the whole history
+    -- a section asked alone over a lock has the whole history
     pub alone_is_whole : (last : List (ℕ × Call)) → Section (SaysAlone object 0) [] calls answers last → Section (SaysAlone object 0) [] calls answers history
     alone_is_whole last s =
         subst (λ h. Section (SaysAlone object 0) [] calls answers h)
         (leaves_none object 0 history mine last (alone_begins object 0 history calls answers last s (exactly.own_done 0 (omega arith)))) s
 
-    -- and so has one that was asked over a head
+    -- a section asked alone over a head has the whole history
     pub shared_is_whole : (tries : ℕ) → 0 < tries → (last : List (ℕ × Call)) → IsBeginning last history
         → Section (SaysAmongThreads object 0 tries) [] calls answers last → Section (SaysAlone object 0) [] calls answers history
     shared_is_whole tries some last within s =

@@ -25,7 +25,7 @@ pub use Rattle.camp_object.proofs.Beginnings.{begins_through, begins_longer, beg
 pub use Rattle.camp_object.proofs.Replays.{legal_front, length-own-all, length-own-within, own-append, own_mine, run-append}
 pub use Rattle.camp_object.specs.Asking.{Accepts, AddsNothing, Ask, Caller, IsBusy, Loses, alone_at}
 pub use Rattle.camp_object.specs.Histories.{IsAccepted, IsAnswered, IsBeginning, IsLegal, own, replay}
-pub use Rattle.camp_object.specs.Objects.{IsLawfulObject, Sequential}
+pub use Rattle.camp_object.specs.Objects.{Sequential, begun}
 pub use Rattle.camp_object.specs.declared.faults.Fault.{Fault}
 pub use Rattle.camp_object.specs.declared.faults.Fault.TheVariants.{Busy, Full, Memory}
 pub use Rattle.camp_clients.specs.Laws.{DoneWasAccepted, LockedIsSerial, OpeningIsAlone, SharedIsSerial}

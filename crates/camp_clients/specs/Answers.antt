@@ -1,4 +1,4 @@
--- What an answer says of the history, between the beginning before it and the beginning at which it was given.
+-- What an answer says of the history, from the prefix before it to the prefix at which it was given.
 use Rattle.std.specs.Prelude.{◌≡◌, ℕ, ◌≤◌, List, [], ◌∷◌, ◌++◌, length, Option, None, Some, Result, Ok, Err, MatchOption}
 use Rattle.camp_object.specs.Asking.{Ask, Caller}
 use Rattle.camp_object.specs.Histories.{IsAccepted, IsAnswered, IsBeginning, own}
@@ -6,33 +6,32 @@ use Rattle.camp_object.specs.Objects.{Sequential}
 use Rattle.camp_object.specs.declared.faults.Fault.{Fault}
 use Rattle.camp_object.specs.declared.faults.Fault.TheVariants.{Memory, Busy, Full}
 
--- the position that an answer tells, if its call was accepted
+-- the position in an answer, if its call was accepted
 abbrev pub told : {State Call Reply : Type 0} → Sequential State Call Reply → Result Reply Fault → Option ℕ
 told object (Ok reply) = object.done_at reply
 told object (Err fault) = None
 
--- an answer but want of memory
+-- an answer other than out of memory
 abbrev pub HasMemory : {Reply : Type 0} → Result Reply Fault → Type 0
 HasMemory (Ok reply) = Unit {0}
 HasMemory (Err Memory) = ⊥
 HasMemory (Err (Busy lost)) = Unit {0}
 HasMemory (Err Full) = Unit {0}
 
--- an answer with which a section goes on: neither want of memory nor a full seat
+-- an answer after which a section continues: neither out of memory nor a full seat
 abbrev pub GoesOn : {Reply : Type 0} → Result Reply Fault → Type 0
 GoesOn (Ok reply) = Unit {0}
 GoesOn (Err Memory) = ⊥
 GoesOn (Err (Busy lost)) = Unit {0}
 GoesOn (Err Full) = ⊥
 
--- an answer of a desk with which a section goes on
+-- an answer of a desk after which a section continues
 pub record Asks {State Call Reply : Type 0} (object : Sequential State Call Reply) (caller : Caller)
     (seen : List (ℕ × Call)) (call : Call) (answer : Result Reply Fault) (now : List (ℕ × Call)) : Type 0 where
   pub asks : Ask object caller seen call answer now
   pub goes_on : GoesOn answer
 
--- done: the beginning ends with the call, which was accepted after all that stood before it; the answer tells its
--- length
+-- done: the prefix ends with the call, which was accepted after the calls before it; the answer gives its length
 pub record IsDone {Call : Type 0} (seat : ℕ) (before : List (ℕ × Call)) (call : Call) (at : ℕ)
     (beginning : List (ℕ × Call)) : Type 0 where
   pub stood : List (ℕ × Call)
@@ -40,7 +39,8 @@ pub record IsDone {Call : Type 0} (seat : ℕ) (before : List (ℕ × Call)) (ca
   pub ends : stood ++ (seat, call) ∷ [] ≡ beginning
   pub position : at ≡ length beginning
 
--- busy: since the beginning before, at least as many calls as the seat tries went ahead, and all were others' calls
+-- busy: since the prefix before, at least as many calls as the seat tries were accepted first, and all were others'
+-- calls
 pub record IsOvertaken {Call : Type 0} (seat tries : ℕ) (before : List (ℕ × Call)) (lost : ℕ)
     (beginning : List (ℕ × Call)) : Type 0 where
   pub others : List (ℕ × Call)
@@ -49,7 +49,7 @@ pub record IsOvertaken {Call : Type 0} (seat tries : ℕ) (before : List (ℕ ×
   pub enough : tries ≤ length others
   pub all_lost : lost ≡ tries
 
--- what an answer says among threads; any reply but done is the object's at that beginning
+-- what an answer says among threads; any reply but done is that of the object at that prefix
 abbrev pub SaysAmongThreads : {State Call Reply : Type 0} → Sequential State Call Reply → (seat tries : ℕ)
     → List (ℕ × Call) → Call → Result Reply Fault → List (ℕ × Call) → Type 0
 SaysAmongThreads object seat tries before call (Ok reply) beginning =
@@ -59,8 +59,8 @@ SaysAmongThreads object seat tries before call (Err Memory) beginning = ⊥
 SaysAmongThreads object seat tries before call (Err (Busy lost)) beginning = IsOvertaken seat tries before lost beginning
 SaysAmongThreads object seat tries before call (Err Full) beginning = ⊥
 
--- what an answer says where nobody else asks: it is the object's at the history as it stood, and only a call that is
--- done lengthens the history, by itself
+-- what an answer says if nobody else asks: it is that of the object at the history as it was, and only a call that is
+-- done adds to the history, and only itself
 abbrev pub SaysAlone : {State Call Reply : Type 0} → Sequential State Call Reply → (seat : ℕ)
     → List (ℕ × Call) → Call → Result Reply Fault → List (ℕ × Call) → Type 0
 SaysAlone object seat before call (Ok reply) beginning =
@@ -68,7 +68,7 @@ SaysAlone object seat before call (Ok reply) beginning =
     (λ at. (beginning ≡ before ++ (seat, call) ∷ []) × (at ≡ length beginning))
 SaysAlone object seat before call (Err fault) beginning = ⊥
 
--- and where the call is done, it was accepted at the replay of the history as it stood
+-- a call that is done was accepted at the replay of the history as it was
 pub record StepsAlone {State Call Reply : Type 0} (object : Sequential State Call Reply) (seat : ℕ)
     (before : List (ℕ × Call)) (call : Call) (answer : Result Reply Fault) (beginning : List (ℕ × Call)) : Type 0 where
   pub says : SaysAlone object seat before call answer beginning

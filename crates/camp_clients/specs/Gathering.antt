@@ -1,15 +1,15 @@
--- Words for the answers that threads bring back.
+-- Gathering the answers that threads return.
 use Rattle.std.specs.Prelude.{◌≡◌, List, ◌∷◌, ◌++◌, map, Result, Ok}
 use Rattle.std.specs.List.{AllZip}
 
--- what was there first, and then what each thread brought
+-- the elements that were there first, followed by those that each thread returned
 pub record Gathers {Own Fault : Type 0}
     (first : List Own) (made : List (Result Own Fault)) (all : List Own) : Type 0 where
   pub others : List Own
   pub begins : all ≡ first ++ others
   pub brought : AllZip (λ one own. one ≡ Ok own) made others
 
--- the seats that threads bring, and the answers: the opening's, and then theirs
+-- the seats that threads return, and the answers: the opening's, followed by theirs
 pub record ArePutApart {Seat Own Fault : Type 0}
     (opening : Own) (made : List (Result (Seat × Own) Fault)) (seats : List Seat) (all : List Own) : Type 0 where
   pub pairs : List (Seat × Own)

@@ -7,19 +7,18 @@ use Rattle.camp_clients.specs.Answers.{StepsAlone}
 use Rattle.camp_clients.specs.Runs.{HasOpening, InTurn, IsLocked, IsShared, OneByOne, section_of}
 
 module _ {State Call Reply : Type 0} (object : Sequential State Call Reply) where
-  -- a single section that was asked over a head has answers and a history of a run one after the other
+  -- a single section over a head has the answers and the history of a serial run
   abbrev pub SharedIsSerial : Type 0
   SharedIsSerial = (tries : ℕ) (calls : List Call) (answers : List (List (Result Reply Fault)))
       (history : List (ℕ × Call)) → 0 < tries → IsShared object tries (calls ∷ []) answers history
       → OneByOne object 0 [] (calls ∷ []) answers history
 
-  -- and so has one that was asked over a lock
+  -- a single section over a lock has the answers and the history of a serial run
   abbrev pub LockedIsSerial : Type 0
   LockedIsSerial = (calls : List Call) (answers : List (List (Result Reply Fault))) (history : List (ℕ × Call))
       → IsLocked object (calls ∷ []) answers history → OneByOne object 0 [] (calls ∷ []) answers history
 
-  -- in a run one after the other whose history is legal, each call that is done was accepted at the replay of what
-  -- stood before it
+  -- in a serial run whose history is legal, each call that is done was accepted at the replay of the calls before it
   abbrev pub DoneWasAccepted : Type 0
   DoneWasAccepted = (sections : List (List Call)) (answers : List (List (Result Reply Fault)))
       (history : List (ℕ × Call)) → IsLegal object history → OneByOne object 0 [] sections answers history

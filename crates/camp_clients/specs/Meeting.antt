@@ -1,29 +1,29 @@
--- Words for seats that meet the opening's seat, before and after their threads.
+-- Seats synchronised with the opening's seat, before and after their threads.
 use Rattle.std.specs.Prelude.{◌≡◌, ℕ, ◌+◌, ◌<◌, ◌≤◌, List, [], length, slice_index_or}
 use Rattle.camp_object.specs.Histories.{IsBeginning, own}
 use Rattle.camp_history.specs.Seats.{HeadId, Seated, IsSeatOf, history_of, number_of}
 
 -- all of a seat is known: the history begins with what it has seen, and has no further call of it
-pub record IsMet {Call : Type 0} (history : List (ℕ × Call)) (seat : Seated Call) : Type 0 where
+pub record IsMet {State Call : Type 0} (history : List (ℕ × Call)) (seat : Seated State Call) : Type 0 where
   pub known : IsBeginning (history_of seat) history
   pub own_known : own (number_of seat) history ≡ own (number_of seat) (history_of seat)
 
-module _ {Call : Type 0} (head : HeadId) where
+module _ {State Call : Type 0} (head : HeadId State) where
   -- new seats: numbered from 1, with nothing seen
-  abbrev pub AreNew : List (Seated Call) → Type 0
-  AreNew seats = (k : ℕ) (d : Seated Call) → k < length seats →
+  abbrev pub AreNew : List (Seated State Call) → Type 0
+  AreNew seats = (k : ℕ) (d : Seated State Call) → k < length seats →
       IsSeatOf head (slice_index_or seats k d) × (number_of (slice_index_or seats k d) ≡ k + 1)
       × (history_of (slice_index_or seats k d) ≡ [])
 
   -- a seat met another one: it knows what that had seen, and its own calls stay
-  pub record HasMet (known : List (ℕ × Call)) (before after : Seated Call) : Type 0 where
+  pub record HasMet (known : List (ℕ × Call)) (before after : Seated State Call) : Type 0 where
     pub is_seat : IsSeatOf head after
     pub number : number_of after ≡ number_of before
     pub own_stays : own (number_of before) (history_of after) ≡ own (number_of before) (history_of before)
     pub knows : IsBeginning known (history_of after)
 
   -- a seat stays as it was, and all of it was known when the history had at least so many calls
-  pub record WasMet (least : ℕ) (history : List (ℕ × Call)) (before after : Seated Call) : Type 0 where
+  pub record WasMet (least : ℕ) (history : List (ℕ × Call)) (before after : Seated State Call) : Type 0 where
     pub is_seat : IsSeatOf head after
     pub number : number_of after ≡ number_of before
     pub seen : history_of after ≡ history_of before

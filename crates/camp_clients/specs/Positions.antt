@@ -1,19 +1,19 @@
--- Calls with their positions: those of one seat in a history, and those that a section's answers tell to be done.
+-- Calls with their positions: those of one seat in a history, and those that the answers of a section report as done.
 use Rattle.std.specs.Prelude.{ℕ, ◌+◌, ◌==◌, if◌then◌else◌, List, [], ◌∷◌, Option, None, Some}
 
--- the calls of a seat in a history, each with its position: the first entry of all has position 1, and `before` entries
--- stand in front of this part
+-- the calls of a seat in part of a history, each with its position: the first entry of all has position 1, and
+-- `before` entries come before this part
 abbrev pub own_at : {Call : Type 0} → ℕ → ℕ → List (ℕ × Call) → List (ℕ × Call)
 own_at seat before [] = []
 own_at seat before (entry ∷ rest) =
     if entry.0 == seat then (before + 1, entry.1) ∷ own_at seat (before + 1) rest else own_at seat (before + 1) rest
 
--- a list, with a call in front where it was done at some position
+-- a list, with a call prepended if it was done, with its position
 abbrev pub where_done : {Call : Type 0} → Option ℕ → Call → List (ℕ × Call) → List (ℕ × Call)
 where_done None call rest = rest
 where_done (Some at) call rest = (at, call) ∷ rest
 
--- the calls whose answers tell a position, each with that position
+-- the calls that the answers report as done, each with its position
 abbrev pub done_at : {Call Answer : Type 0} → (Answer → Option ℕ) → List Call → List Answer → List (ℕ × Call)
 done_at told [] answers = []
 done_at told (call ∷ calls) [] = []

@@ -29,7 +29,7 @@ pub record IsExactly {Call Answer : Type 0} (told : Answer → Option ℕ) (sect
   pub own_done : OwnDone told sections answers history
   pub no_other : All (λ entry. entry.0 < length sections) history
 
--- sections one after the other, from the section of a seat on: what each answer says, by its seat
+-- serial sections, from the section of a seat on: what each answer says, by its seat
 abbrev pub InTurn : {Beginning Call Answer : Type 0} → (ℕ → Beginning → Call → Answer → Beginning → Type 0) → (seat : ℕ) → Beginning
     → List (List Call) → List (List Answer) → Beginning → Type 0
 InTurn SaysAmongThreads seat first [] [] last = first ≡ last
@@ -38,7 +38,7 @@ InTurn SaysAmongThreads seat first (calls ∷ sections) [] last = ⊥
 InTurn {Beginning} SaysAmongThreads seat first (calls ∷ sections) (answers ∷ others) last =
     (next : Beginning) × Section (SaysAmongThreads seat) first calls answers next × InTurn SaysAmongThreads (seat + 1) next sections others last
 
--- sections one after the other, where nobody else asks
+-- serial sections, if nobody else asks
 abbrev pub OneByOne : {State Call Reply : Type 0} → Sequential State Call Reply → (seat : ℕ) → List (ℕ × Call)
     → List (List Call) → List (List (Result Reply Fault)) → List (ℕ × Call) → Type 0
 OneByOne object = InTurn (SaysAlone object)
@@ -50,14 +50,15 @@ SaysSomewhere {State} {Call} object call (Ok reply) =
     MatchOption (object.done_at reply) ((beginning : List (ℕ × Call)) × IsAnswered object beginning call reply) (λ at. Unit {0})
 SaysSomewhere object call (Err fault) = ⊥
 
--- the opening's answers, asked at seat 0 where nobody else asks; the history begins with what they leave
+-- the answers of the opening, asked at seat 0 while nobody else asks; the history begins with its calls
 pub record HasOpening {State Call Reply : Type 0} (object : Sequential State Call Reply) (calls : List Call)
     (answers : List (Result Reply Fault)) (history : List (ℕ × Call)) : Type 0 where
   pub last : List (ℕ × Call)
   pub alone : Section (SaysAlone object 0) [] calls answers last
   pub within : IsBeginning last history
 
--- a run over a lock: one legal history of exactly the calls that are done, whose beginning the opening was asked alone
+-- a run over a lock: one legal history of exactly the calls that are done; the opening was asked alone, at a prefix
+-- of it
 pub record IsLocked {State Call Reply : Type 0} (object : Sequential State Call Reply) (sections : List (List Call))
     (answers : List (List (Result Reply Fault))) (history : List (ℕ × Call)) : Type 0 where
   pub legal : IsLegal object history
@@ -67,7 +68,7 @@ pub record IsLocked {State Call Reply : Type 0} (object : Sequential State Call 
   pub clients : (seat : ℕ) → 0 < seat → seat < length sections →
       AllZip (SaysSomewhere object) (section_of sections seat) (section_of answers seat)
 
--- a section's answers have beginnings of the history, which begin where they are to and follow one another
+-- the answers of a section have prefixes of the history, the first as given, each the start of the next
 pub record HasBeginnings {State Call Reply : Type 0} (object : Sequential State Call Reply) (seat tries : ℕ)
     (first : List (ℕ × Call)) (calls : List Call) (answers : List (Result Reply Fault)) (history : List (ℕ × Call))
     : Type 0 where
@@ -75,8 +76,8 @@ pub record HasBeginnings {State Call Reply : Type 0} (object : Sequential State 
   pub beginnings : Section (SaysAmongThreads object seat tries) first calls answers last
   pub within : IsBeginning last history
 
--- a run over a head: one legal history of exactly the calls that are done, whose beginnings the answers tell. The
--- opening's begin with the empty one, and each client's with the opening's last
+-- a run over a head: one legal history of exactly the calls that are done; the answers were given at prefixes of it.
+-- Those of the opening begin with the empty one, and each client's with the opening's last
 pub record IsShared {State Call Reply : Type 0} (object : Sequential State Call Reply) (tries : ℕ)
     (sections : List (List Call)) (answers : List (List (Result Reply Fault))) (history : List (ℕ × Call))
     : Type 0 where

@@ -1,4 +1,4 @@
--- Sections of calls: how the beginnings of their answers follow one another.
+-- Sections of calls: how the prefixes of their answers follow one another.
 use Rattle.std.specs.Prelude.{◌≡◌, ℕ, List, [], ◌∷◌}
 use Rattle.camp_history.specs.Opening as opening
 
@@ -10,8 +10,7 @@ most_sections = 64
 abbrev pub most_tries : ℕ
 most_tries = opening.most_tries
 
--- from beginning to beginning: each answer has a beginning of the history, which is what it says after the beginning
--- before it
+-- from prefix to prefix: each answer has a prefix of the history, and says what happened since the prefix before it
 abbrev pub Section : {Beginning Call Answer : Type 0} → (Beginning → Call → Answer → Beginning → Type 0)
     → Beginning → List Call → List Answer → Beginning → Type 0
 Section Says first [] [] last = first ≡ last

@@ -1,13 +1,14 @@
+//! A hook at the sections of a run.
 use camp_history::NoGate;
 
-/// Told of the sections of a run. Like a gate of calls, it may wait, and changes no answer. That it is told of
-/// each section, and with what, is only tested.
+/// Is notified of the sections of a run. Like a gate of calls, it may wait, and changes no answer. That it is
+/// notified of each section, and with which values, is only tested.
 pub trait SectionGate {
-    /// Called before the first call of a seat's section, with whether that call writes: false where the
-    /// section has none.
+    /// Called before the first call of a seat's section, with whether that call writes: false for an empty
+    /// section.
     fn begin(&self, seat: u32, writes: bool);
 
-    /// Called after the last call of a seat's section, once the seat has handed on what it has seen.
+    /// Called after the last call of a seat's section, once the seat has published what it has seen.
     fn end(&self, seat: u32);
 }
 

@@ -10,6 +10,7 @@ ghost use Rattle.camp_clients.specs.Meeting.{AreNew};
 ghost use Rattle.camp_clients.specs.Runs.{IsShared, lists_of, section_of};
 ghost use Rattle.camp_clients.specs.Sections.{most_sections, most_tries, Section};
 ghost use Rattle.camp_object.specs.Histories.{own};
+ghost use Rattle.camp_object.specs.Objects.{IsFirst, begun};
 
 use crate::gates::SectionGate;
 use crate::meetings::{each_meets, meet_all};
@@ -62,9 +63,7 @@ impl<State: Object> HeadRun<State> {
     }
 }
 
-/// Runs sections of calls over a head with a seat for each: the first alone, and then each further one in a
-/// thread of its own, whose seat was synchronised with seat 0. Afterwards seat 0 is synchronised with every
-/// seat; what it has seen is the history.
+/// Runs sections of calls over a head whose history begins with the initial state, as [`shared_from`] does.
 pub fn shared<
     R: Threads + Wait + Sync,
     State: Object + Send + Sync,
@@ -77,10 +76,42 @@ where
     ensures shared { IfOk result (λ run. IsShared State.object plan.now.tries (lists_of plan.now.sections.now)
         (lists_of run.answers.items) (history_of run.opener)) }
 {
+    shared_from(alloc, initial(alloc)?, plan)
+}
+
+/// Returns the initial state, with which a history can begin.
+fn initial<State: Object>(alloc: Global) -> Result<State, AllocError>
+    ensures exact { IfOk result (λ state. state ≡ State.object.initial) }
+    ensures first { IfOk result (IsFirst State.object) }
+{
+    State::initial(alloc)
+}
+
+/// Runs sections of calls over a head with a seat for each: the first alone, and then each further one in a
+/// thread of its own, whose seat was synchronised with seat 0. Afterwards seat 0 is synchronised with every
+/// seat; what it has seen is the history, which begins with a state.
+pub fn shared_from<
+    R: Threads + Wait + Sync,
+    State: Object + Send + Sync,
+    G: Gate + Sync,
+    S: SectionGate + Sync,
+>(
+    alloc: Global,
+    first: State,
+    plan: &HeadPlan<'_, R, State, G, S>,
+) -> Result<HeadRun<State>, AllocError>
+where
+    State::Call: Send + Sync,
+    State::Reply: Send,
+    requires { IsFirst State.object first }
+    ensures shared { IfOk result (λ run. IsShared (begun State.object first) plan.now.tries (lists_of plan.now.sections.now)
+        (lists_of run.answers.items) (history_of run.opener)) }
+{
     let sections = plan.sections;
     let per_seat = most_writing::<State>(sections);
     let (head, mut seats) = open::<State>(
         alloc,
+        first,
         sections.len() as u32,
         per_seat,
         plan.tries,
@@ -103,7 +134,7 @@ where
     })
 }
 
-/// A run over a head: its sections, and where they are asked.
+/// A run over a head: its sections, and the head and gates at which they are asked.
 #[derive(Drop)]
 struct Run<'a, R, State: Object, G, S> {
     rt: &'a R,
@@ -122,7 +153,7 @@ impl<'a, R: Wait, State: Object, G: Gate, S: SectionGate> Run<'a, R, State, G, S
         requires ready { IsReady self.now.head.now (length self.now.sections.now) seat.old }
         ensures seat { IsSeatOf self.now.head.now seat.new }
         ensures number { number_of seat.new ≡ number_of seat.old }
-        ensures section { IfOk result (λ answers. Section (Asks State.object (caller_at self.now.head.now seat.old))
+        ensures section { IfOk result (λ answers. Section (Asks (begun State.object self.now.head.now.first) (caller_at self.now.head.now seat.old))
             (history_of seat.old) (section_of (lists_of self.now.sections.now) (number_of seat.old)) answers.items (history_of seat.new)) }
     {
         let calls = &self.sections[seat.number() as usize];
@@ -136,7 +167,7 @@ impl<'a, R: Wait, State: Object, G: Gate, S: SectionGate> Run<'a, R, State, G, S
     /// is memory for it.
     fn client(&self, seat: Seat<State>) -> Result<(Seat<State>, Answers<State>), AllocError>
         requires { IsReady self.now.head.now (length self.now.sections.now) seat }
-        ensures { IfOk result (λ ran. Ran State.object self.now.head.now (lists_of self.now.sections.now) seat ran.0 ran.1.items) }
+        ensures { IfOk result (λ ran. Ran (begun State.object self.now.head.now.first) self.now.head.now (lists_of self.now.sections.now) seat ran.0 ran.1.items) }
     {
         let mut seat = seat;
         let _shift = shift(self.alloc, seat.number());
@@ -166,7 +197,7 @@ where
         seats: Vec<Seat<State>>,
     ) -> Result<(Vec<Seat<State>>, Vec<Answers<State>>), AllocError>
         requires ready { All (IsReady self.now.head.now (length self.now.sections.now)) seats.items }
-        ensures { IfOk result (λ ran. AllRan State.object self.now.head.now (lists_of self.now.sections.now)
+        ensures { IfOk result (λ ran. AllRan (begun State.object self.now.head.now.first) self.now.head.now (lists_of self.now.sections.now)
             opening seats.items ran.0.items ran.1.items) }
     {
         let made = thread::map_vec(
@@ -174,7 +205,7 @@ where
             seats,
             &|seat: Seat<State>| -> Result<(Seat<State>, Answers<State>), AllocError>
                 requires { IsSync R.row × IsReady self.now.head.now (length self.now.sections.now) seat }
-                ensures { IfOk result (λ ran. Ran State.object self.entry.now.head.now (lists_of self.entry.now.sections.now) seat ran.0 ran.1.items) }
+                ensures { IfOk result (λ ran. Ran (begun State.object self.entry.now.head.now.first) self.entry.now.head.now (lists_of self.entry.now.sections.now) seat ran.0 ran.1.items) }
             { self.client(seat) },
         )?;
         put_apart(self.alloc, opening, made)
@@ -192,7 +223,7 @@ where
         requires as_many { length seats.items + 1 ≡ length self.now.sections.now }
         ensures seat { IfOk result (λ ran. IsSeatOf self.now.head.now ran.0) }
         ensures number { IfOk result (λ ran. number_of ran.0 ≡ 0) }
-        ensures shared { IfOk result (λ ran. IsShared State.object (self.now.head.now.tries) (lists_of self.now.sections.now)
+        ensures shared { IfOk result (λ ran. IsShared (begun State.object self.now.head.now.first) (self.now.head.now.tries) (lists_of self.now.sections.now)
             (lists_of ran.1.items) (history_of ran.0)) }
     {
         let mut opener = opener;
@@ -227,7 +258,7 @@ fn at_desk<'r, 'h, 's, 'g, R: Wait, State: Object, G: Gate>(
     ensures lends { desk.new.seat.ghost_name ≡ desk.old.seat.ghost_name }
     ensures seat { IsSeatOf desk.new.head.now desk.new.seat.now }
     ensures number { number_of desk.new.seat.now ≡ number_of desk.old.seat.now }
-    ensures section { IfOk result (λ answers. Section (Asks State.object (caller_at desk.old.head.now desk.old.seat.now))
+    ensures section { IfOk result (λ answers. Section (Asks (begun State.object desk.old.head.now.first) (caller_at desk.old.head.now desk.old.seat.now))
         (history_of desk.old.seat.now) calls.now answers.items (history_of desk.new.seat.now)) }
 {
     ask_all(alloc, desk, calls)
@@ -271,15 +302,17 @@ fn writing<State: Object>(calls: &[State::Call]) -> u32
 /// Makes a head and its seats.
 fn open<State: Object>(
     alloc: Global,
+    first: State,
     seats: u32,
     per_seat: u32,
     tries: u32,
     every: u32,
 ) -> Result<(Head<State>, Vec<Seat<State>>), AllocError>
-    requires { IsInRange seats per_seat tries every }
-    ensures { IfOk result (λ made. IsOpened seats per_seat tries made.0 made.1.items) }
+    requires first { IsFirst State.object first }
+    requires range { IsInRange seats per_seat tries every }
+    ensures { IfOk result (λ made. IsOpened first seats per_seat tries made.0 made.1.items) }
 {
-    match Head::new(alloc, seats, per_seat, tries, every) {
+    match Head::begun(alloc, first, seats, per_seat, tries, every) {
         Ok(made) => Ok(made),
         Err(HeadFault::Memory) => Err(AllocError),
         Err(HeadFault::BadSize) => unreachable!(),

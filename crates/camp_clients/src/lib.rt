@@ -14,7 +14,7 @@ mod sections;
 pub use comparisons::{MAX_SECTIONS, has_exactly};
 pub use faults::LockFault;
 pub use gates::SectionGate;
-pub use heads::{HeadPlan, HeadRun, shared};
+pub use heads::{HeadPlan, HeadRun, shared, shared_from};
 pub use laws::{done_was_accepted, locked_is_serial, opening_is_alone, shared_is_serial};
 pub use locks::locked;
 pub use one_by_one::{BookRun, serial};

@@ -2,6 +2,7 @@
 ghost use Rattle.std.specs.Prelude.{◌≡◌, ◌+◌, ◌≤◌, false, length, count_by, IfOk, MatchResult};
 ghost use Rattle.camp_object.specs.declared.faults.Fault.TheVariants as fault;
 ghost use Rattle.camp_object.specs.Histories.{IsBeginning, own};
+ghost use Rattle.camp_object.specs.Objects.{begun};
 ghost use Rattle.camp_clients.specs.Answers.{Asks, HasMemory};
 ghost use Rattle.camp_clients.specs.Gathering.{ArePutApart, Gathers};
 ghost use Rattle.camp_clients.specs.Sections.{Section};
@@ -23,9 +24,10 @@ pub fn ask_all<State: Object, D: Desk<State>>(
         length (own caller.seat (D.seen desk.old)) + count_by State.object.is_writing calls.now ≤ caller.per_seat }
     ensures keeps { D.keeps desk.old desk.new }
     ensures caller { D.caller desk.new ≡ D.caller desk.old }
+    ensures first { D.first desk.new ≡ D.first desk.old }
     ensures grows { IsBeginning (D.seen desk.old) (D.seen desk.new) }
     ensures section { IfOk result (λ answers.
-        Section (Asks State.object (D.caller desk.old)) (D.seen desk.old) calls.now answers.items (D.seen desk.new)) }
+        Section (Asks (begun State.object (D.first desk.old)) (D.caller desk.old)) (D.seen desk.old) calls.now answers.items (D.seen desk.new)) }
 {
     let mut answers = Vec::with_capacity(alloc, calls.len())?;
     for call in calls {

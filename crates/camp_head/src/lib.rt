@@ -1,5 +1,5 @@
-//! The repository shared by threads: one growing history of calls, and seats at which they are asked.
-//! All of it is `camp_history`'s, with the repository's `State` as its object.
+//! The repository shared by threads: one growing history of calls, and the seats at which they are asked:
+//! `camp_history` with the repository's `State` as its object.
 #![tactic(auto)]
 
 pub use camp_history::{Gate, HeadFault, NoGate};
@@ -12,7 +12,7 @@ pub type Head = camp_history::Head<State>;
 /// Where one caller asks a head.
 pub type Seat = camp_history::Seat<State>;
 
-/// A call that is to be asked, kept by a head.
+/// A call stored in a head, to be asked.
 pub type Kept = camp_history::Kept<State>;
 
 /// A head, a seat of it and a gate, as a desk.

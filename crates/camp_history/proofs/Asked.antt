@@ -3,11 +3,11 @@ use Rattle.camp_history.proofs.Words.{length-append, length-map, append-nil, app
 pub use Rattle.camp_history.proofs.Seeing.{all_more, history_more, sees_more_more, sees_more_self}
 
 -- a seat that sees more adds nothing of its own
-pub adds_nothing : {Call : Type 0} (head : HeadId) {old new : Seated Call} → SeesMore old new → AddsNothing (caller_at head old) (history_of old) (history_of new)
+pub adds_nothing : {State Call : Type 0} (head : HeadId State) {old new : Seated State Call} → SeesMore old new → AddsNothing (caller_at head old) (history_of old) (history_of new)
 adds_nothing head more = record { own_stays = more.own_stays; exact = λ alone. cc }
 
 -- the same seat and its bounds
-pub same_caller : {Call : Type 0} (head : HeadId) (old new : Seated Call) → new.known.number ≡ old.known.number → caller_at head new ≡ caller_at head old
+pub same_caller : {State Call : Type 0} (head : HeadId State) (old new : Seated State Call) → new.known.number ≡ old.known.number → caller_at head new ≡ caller_at head old
 same_caller head old new number = ap (λ number. record { seat = number; tries = head.tries; per_seat = head.row.per_seat; alone = false }) number
 
 module _ {State Call Reply : Type 0} (object : Sequential State Call Reply) where
@@ -19,7 +19,7 @@ module _ {State Call Reply : Type 0} (object : Sequential State Call Reply) wher
   decided_accepted history call next at = accepted_at object history call at.state next at.replays at.decides
 
   -- a call that was published
-  pub ask_published : IsLawfulObject object → (head : HeadId) (old new : Seated Call) (call : Where Call) (at : ℕ) (reply : Reply)
+  pub ask_published : IsLawfulObject object → (head : HeadId State) (old new : Seated State Call) (call : Where Call) (at : ℕ) (reply : Reply)
       → IsAccepted object (history_of old) call.value → length (own old.known.number (history_of old)) < head.row.per_seat → Publishes old call new
       → at ≡ length (history_of new) → reply ≡ object.done at → Ask object (caller_at head old) (history_of old) call.value (Ok reply) (history_of new)
   ask_published lawful head old new call at reply accepted room publishes position is =
@@ -27,26 +27,27 @@ module _ {State Call Reply : Type 0} (object : Sequential State Call Reply) wher
       (begins_self (history_of old)) refl accepted (λ _. room) (λ _. refl) (history_more old.marks new.marks (record { seat = old.known.number; call = call }) publishes.marks) position is
 
 -- an attempt that fails for want of memory
-pub attempts_nothing : {State Call Reply : Type 0} (object : Sequential State Call Reply) (head : HeadId) (old new : Seated Call) (call : Call) (answer : Result (Option Reply) Fault)
+pub attempts_nothing : {State Call Reply : Type 0} (object : Sequential State Call Reply) (head : HeadId State) (old new : Seated State Call) (call : Call) (answer : Result (Option Reply) Fault)
     → IsErrAnd answer (λ fault. fault ≡ Memory) → IsLegal object (history_of old) → new ≡ old → Attempts object head old call answer new
 attempts_nothing object head old new call (Ok reply) memory legal same = absurd memory
-attempts_nothing {Call = Call} object head old new call (Err fault) memory legal same =
+attempts_nothing {State = State} {Call = Call} object head old new call (Err fault) memory legal same =
     let Asks : Fault → Type 0 = λ fault. Ask object (caller_at head old) (history_of old) call (Err fault) (history_of new) in
-    let Stays : Seated Call → Type 0 = λ seat. Ask object (caller_at head old) (history_of old) call (Err Memory) (history_of seat) in
+    let Stays : Seated State Call → Type 0 = λ seat. Ask object (caller_at head old) (history_of old) call (Err Memory) (history_of seat) in
     subst Asks (sym memory) (
     subst Stays (sym same) (ask_memory object (caller_at head old) (history_of old) (history_of old) call (begins_self (history_of old)) (adds_nothing head (sees_more_self old)) legal)
     )
 
 -- a seat that published is one of its head
-pub seat_published : {Call : Type 0} (head : HeadId) (old new : Seated Call) (call : Where Call) → IsSeatOf head old → Shows head.store call → Publishes old call new → IsSeatOf head new
+pub seat_published : {State Call : Type 0} (head : HeadId State) (old new : Seated State Call) (call : Where Call) → IsSeatOf head old → Shows head.store call → Publishes old call new → IsSeatOf head new
 seat_published head old new call of shows publishes = record {
+  first = publishes.first ∙ of.first;
   row = publishes.row ∙ of.row;
   stored = all_more old.marks new.marks (record { seat = old.known.number; call = call }) publishes.marks (λ mark. Shows head.store mark.call) of.stored shows;
   bases = All-same (IsBaseAt head.slots) new.bases old.bases publishes.bases of.bases;
 }
 
 -- a seat that found more has seen no more
-pub finds_sees : {Call : Type 0} {old new : Seated Call} → FindsMore old new → SeesMore old new
+pub finds_sees : {State Call : Type 0} {old new : Seated State Call} → FindsMore old new → SeesMore old new
 finds_sees {old = old} {new = new} finds = record {
   number = finds.number;
   row = finds.row;
@@ -55,7 +56,7 @@ finds_sees {old = old} {new = new} finds = record {
 }
 
 -- after a lost exchange the seat sees another call, which went ahead
-pub sees_ahead : {Call : Type 0} {old lost new : Seated Call} → FindsMore old lost → SeesMore lost new → entries_of new ≡ lost.known.ahead
+pub sees_ahead : {State Call : Type 0} {old lost new : Seated State Call} → FindsMore old lost → SeesMore lost new → entries_of new ≡ lost.known.ahead
     → (ahead : ℕ × Call) × IsBeginning (history_of old ++ ahead ∷ []) (history_of new)
 sees_ahead {Call = Call} {old = old} {lost = lost} {new = new} finds more whole = at more.more.rest more.more.makes
   where
@@ -73,7 +74,7 @@ sees_ahead {Call = Call} {old = old} {lost = lost} {new = new} finds more whole 
     )
 
 -- an answer to a seat that has seen more than at first
-pub ask_later : {State Call Reply : Type 0} (object : Sequential State Call Reply) (head : HeadId) (start seat : Seated Call) → SeesMore start seat
+pub ask_later : {State Call Reply : Type 0} (object : Sequential State Call Reply) (head : HeadId State) (start seat : Seated State Call) → SeesMore start seat
     → (call : Call) (answer : Result Reply Fault) (now : List (ℕ × Call))
     → Ask object (caller_at head seat) (history_of seat) call answer now → Ask object (caller_at head start) (history_of start) call answer now
 ask_later object head start seat more call answer now ask =
@@ -81,7 +82,7 @@ ask_later object head start seat more call answer now ask =
     ask_since object (caller_at head start) call now (history_of start) (history_of seat) refl more.more more.own_stays answer (subst Asks (same_caller head start seat more.number) ask)
 
 -- one more lost exchange
-pub loses_again : {State Call Reply : Type 0} (object : Sequential State Call Reply) (head : HeadId) (call : Call) (times : ℕ) (start old lost new : Seated Call)
+pub loses_again : {State Call Reply : Type 0} (object : Sequential State Call Reply) (head : HeadId State) (call : Call) (times : ℕ) (start old lost new : Seated State Call)
     → Loses object call times (history_of start) (history_of old) → LosesOne object head old call lost → SeesMore lost new → entries_of new ≡ lost.known.ahead
     → Loses object call (times + 1) (history_of start) (history_of new)
 loses_again object head call times start old lost new loses one more whole =
@@ -90,7 +91,7 @@ loses_again object head call times start old lost new loses one more whole =
     rw add-one again
 
 -- at a head of one seat nobody else asks
-pub one_seat_not_busy : {State Call Reply : Type 0} (object : Sequential State Call Reply) (head : HeadId) (old new : Seated Call) (call : Call) (answer : Result Reply Fault)
+pub one_seat_not_busy : {State Call Reply : Type 0} (object : Sequential State Call Reply) (head : HeadId State) (old new : Seated State Call) (call : Call) (answer : Result Reply Fault)
     → 0 < head.tries → IsSeatOf head new → caller_at head new ≡ caller_at head old
     → new.known.number < new.known.row.seats → All (λ entry. entry.0 < new.known.row.seats) (history_of new)
     → Ask object (caller_at head old) (history_of old) call answer (history_of new) → head.row.seats ≡ 1 → IsNotBusy answer

@@ -1,6 +1,9 @@
 -- Lemmas on what a seat sees.
-use Rattle.camp_history.proofs.Words.{◌≡◌, ℕ, ◌<◌, ◌≤◌, List, [], ◌∷◌, ◌++◌, length, map, All, Some, refl, sym, ◌∙◌, ap, subst, arith, ◌==◌, if◌then◌else◌, cond, filter, false, suc, true, turns, map_push, length-append, All-push, All-same, append_assoc, length-map, Sequential, IsLawfulObject, IsBeginning, replay, own, Entry, Seated, asked, told, Begins, most_listed, history_of, Mark, entry_of, GetsOn, SeesMore, with_mark, made_of, HeadId, IsSeatOf, Shows, Where, Ok, Err, OnOk, OnErr, Result, own_other, count-replay, begins_self, begins_through, Based, All-weaker, ComesNext}
-use Rattle.camp_row.specs.declared.trails.Next.{Next}
+use Rattle.camp_history.proofs.Words.{◌≡◌, ℕ, ◌<◌, ◌≤◌, List, [], ◌∷◌, ◌++◌, length, map, All, Some, refl, sym, ◌∙◌, ap, subst, arith, ◌==◌, if◌then◌else◌, cond, filter, false, suc, true, turns, map_push, length-append, All-push, All-same, append_assoc, length-map, Sequential, IsLawfulObject, IsBeginning, replay, own, Entry, Seated, asked, told, Begins, most_listed, history_of, Mark, entry_of, GetsOn, SeesMore, with_mark, made_of, HeadId, IsSeatOf, Shows, Where, Ok, Err, OnOk, OnErr, Result, own_other, count-replay, begun, IsFirst, replay_began, begins_self, begins_through, Based, All-weaker, ComesNext}
+use Rattle.camp_object.specs.Deciding.{Decides}
+use Rattle.camp_object.specs.declared.objects.Decided.{Decided}
+use Rattle.camp_object.specs.declared.objects.Decided.TheVariants.{Answer, Next}
+use Rattle.camp_row.specs.declared.trails.Next as trail
 
 -- a seat has as many calls as it has entries
 pub length-own : {Call : Type 0} (seat : ℕ) (marks : List (Mark Call)) → length (own seat (map asked marks)) ≡ turns seat (map entry_of marks)
@@ -26,10 +29,10 @@ module _ {Call : Type 0} (marks now : List (Mark Call)) (mark : Mark Call) (grow
   pub all_more : (P : Mark Call → Type 0) → All P marks → P mark → All P now
   all_more P all here = All-same P now (marks ++ mark ∷ []) grows (All-push P marks mark all here)
 
-pub sees_more_self : {Call : Type 0} (seat : Seated Call) → SeesMore seat seat
+pub sees_more_self : {State Call : Type 0} (seat : Seated State Call) → SeesMore seat seat
 sees_more_self seat = record { number = refl; row = refl; more = begins_self (history_of seat); own_stays = refl }
 
-pub sees_more_more : {Call : Type 0} {one two three : Seated Call} → SeesMore one two → SeesMore two three → SeesMore one three
+pub sees_more_more : {State Call : Type 0} {one two three : Seated State Call} → SeesMore one two → SeesMore two three → SeesMore one three
 sees_more_more {one = one} {two = two} {three = three} first second =
     record {
       number = second.number ∙ first.number;
@@ -39,7 +42,7 @@ sees_more_more {one = one} {two = two} {three = three} first second =
     }
 
 -- what a seat noted changes nothing of what it sees
-pub sees_same : {Call : Type 0} (old new now : Seated Call) → SeesMore old new → now.known ≡ new.known → now.marks ≡ new.marks → SeesMore old now
+pub sees_same : {State Call : Type 0} (old new now : Seated State Call) → SeesMore old new → now.known ≡ new.known → now.marks ≡ new.marks → SeesMore old now
 sees_same old new now more known marks = record {
   number = ap (λ known. known.number) known ∙ more.number;
   row = ap (λ known. known.row) known ∙ more.row;
@@ -47,22 +50,22 @@ sees_same old new now more known marks = record {
   own_stays = ap (λ marks. own old.known.number (map asked marks)) marks ∙ more.own_stays;
 }
 
-pub gets_on_self : {Call : Type 0} (head : HeadId) (seat : Seated Call) → IsSeatOf head seat → GetsOn head seat seat
+pub gets_on_self : {State Call : Type 0} (head : HeadId State) (seat : Seated State Call) → IsSeatOf head seat → GetsOn head seat seat
 gets_on_self head seat of = record { of = of; more = sees_more_self seat; ahead = refl }
 
-pub gets_on_more : {Call : Type 0} {head : HeadId} {one two three : Seated Call} → GetsOn head one two → GetsOn head two three → GetsOn head one three
+pub gets_on_more : {State Call : Type 0} {head : HeadId State} {one two three : Seated State Call} → GetsOn head one two → GetsOn head two three → GetsOn head one three
 gets_on_more first second = record { of = second.of; more = sees_more_more first.more second.more; ahead = second.ahead ∙ first.ahead }
 
 -- a seat that saw the call that comes next, which is of another seat, got on; and so did one that stayed as it was
-pub got_on : {Call E : Type 0} (head : HeadId) (old new : Seated Call) (next : Next) (call : Where Call) (answer : Result (Unit {0}) E)
+pub got_on : {State Call E : Type 0} (head : HeadId State) (old new : Seated State Call) (next : trail.Next) (call : Where Call) (answer : Result (Unit {0}) E)
     → IsSeatOf head old → ComesNext old.known next → Shows head.store call
     → OnOk answer (new ≡ with_mark old (record { seat = next.entry.seat; call = call })) → OnErr answer (new ≡ old) → GetsOn head old new
 got_on head old new next call (Err fault) of comes shows ok err = subst (GetsOn head old) (sym err) (gets_on_self head old of)
-got_on {Call} head old new next call (Ok done) of comes shows ok err =
+got_on {Call = Call} head old new next call (Ok done) of comes shows ok err =
     let mark : Mark Call = record { seat = next.entry.seat; call = call } in
     let grows : map asked (old.marks ++ mark ∷ []) ≡ history_of old ++ asked mark ∷ [] = map_push asked old.marks mark in
     let on : GetsOn head old (with_mark old mark) = record {
-      of = record { row = of.row; stored = All-push (λ mark. Shows head.store mark.call) old.marks mark of.stored shows; bases = of.bases };
+      of = record { first = of.first; row = of.row; stored = All-push (λ mark. Shows head.store mark.call) old.marks mark of.stored shows; bases = of.bases };
       more = record {
         number = refl;
         row = refl;
@@ -73,7 +76,7 @@ got_on {Call} head old new next call (Ok done) of comes shows ok err =
     } in
     subst (GetsOn head old) (sym ok) on
 
--- a list of marks has no more than memory has room for
+-- a list of marks is no longer than memory allows
 pub few_marks : {State Call Reply : Type 0} (object : Sequential State Call Reply) → IsLawfulObject object → (front tail : List (Mark Call)) (state : State) (len cap : ℕ)
     → length front ≤ most_listed → (len ≡ length tail) × (len ≤ cap) → cap < 9223372036854775808 → replay object (map asked (front ++ tail)) ≡ Some state → object.count state < 18446744073709551615
 few_marks object lawful front tail state len cap few ok small replays =
@@ -83,16 +86,33 @@ few_marks object lawful front tail state len cap few ok small replays =
     let fits = ok.1 in
     omega (arith, few, length-append front tail)
 
+-- what an object decides does not depend on what its histories begin with
+pub decides_begun : {State Call Reply : Type 0} (object : Sequential State Call Reply) (first state : State) (call : Call) (decided : Decided State Reply) → Decides object state call decided → Decides (begun object first) state call decided
+decides_begun object first state call (Next next) decides = decides
+decides_begun object first state call (Answer reply) decides = decides
+
+-- a history that began with what an earlier state tells began with what its own state tells
+module _ {State Call Reply : Type 0} (object : Sequential State Call Reply) (lawful : IsLawfulObject object) (first : State) (is : IsFirst object first) (history : List (ℕ × Call)) (next : State)
+    (leads : replay (begun object first) history ≡ Some next) where
+  pub begins_same : object.first next ≡ first
+  begins_same = replay_began object lawful first is history next leads
+
+  pub next_first : IsFirst object (object.first next)
+  next_first = subst (IsFirst object) (sym begins_same) is
+
+  pub next_replays : replay (begun object (object.first next)) history ≡ Some next
+  next_replays = subst (λ (state : State). replay (begun object state) history ≡ Some next) (sym begins_same) leads
+
 -- versions that begin what was seen begin what is seen later
 pub bases_begin : {Call : Type 0} (marks version : List (Mark Call)) (bases : List (Based Call)) → Begins marks version → All (λ base. Begins base.marks marks) bases → All (λ base. Begins base.marks version) bases
 bases_begin {Call} marks version bases begins all =
     All-weaker (λ (base : Based Call). Begins base.marks marks) (λ (base : Based Call). Begins base.marks version) (λ base front. begins_through front begins) bases all
 
--- one mark more behind the last
+-- one more mark after the last
 pub one_more : {Call : Type 0} (front tail now : List (Mark Call)) (mark : Mark Call) → now ≡ tail ++ mark ∷ [] → front ++ now ≡ (front ++ tail) ++ mark ∷ []
 one_more front tail now mark is = ap (λ list. front ++ list) is ∙ sym (append_assoc front tail (mark ∷ []))
 
 -- the marks of all that a seat has seen, and of a call of its own
-pub marks_with : {Call : Type 0} (seat : Seated Call) (front tail now : List (Mark Call)) (mark : Mark Call) (call : Where Call) → front ++ tail ≡ seat.marks → now ≡ tail ++ mark ∷ [] → mark.seat ≡ seat.known.number → mark.call ≡ call → front ++ now ≡ made_of seat call
+pub marks_with : {State Call : Type 0} (seat : Seated State Call) (front tail now : List (Mark Call)) (mark : Mark Call) (call : Where Call) → front ++ tail ≡ seat.marks → now ≡ tail ++ mark ∷ [] → mark.seat ≡ seat.known.number → mark.call ≡ call → front ++ now ≡ made_of seat call
 marks_with seat front tail now mark call all is number same =
     one_more front tail now mark is ∙ (λ k. all k ++ record { seat = number k; call = same k } ∷ [])

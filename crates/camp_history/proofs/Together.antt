@@ -12,7 +12,7 @@ own_front seat front whole begins same =
     let none : own seat begins.rest ≡ [] = nil_from_length (own seat begins.rest) (omega (arith, length-append (own seat front) (own seat begins.rest))) in
     parts ∙ ap (λ rest. own seat front ++ rest) none ∙ append-nil (own seat front)
 
-module _ {Call : Type 0} (a b met a' b' : Seated Call) (a_finds : FindsChain a.known met.known) (a_marks : met.marks ≡ a.marks) (b_finds : FindsChain b.known b'.known) (b_marks : b'.marks ≡ b.marks)
+module _ {State Call : Type 0} (a b met a' b' : Seated State Call) (a_finds : FindsChain a.known met.known) (a_marks : met.marks ≡ a.marks) (b_finds : FindsChain b.known b'.known) (b_marks : b'.marks ≡ b.marks)
     (more : SeesMore met a') (a_shorter : length a'.marks ≤ length b'.marks → IsBeginning (history_of a') (history_of b'))
     (b_shorter : length b'.marks ≤ length a'.marks → IsBeginning (history_of b') (history_of a')) where
   b_stays : history_of b' ≡ history_of b
@@ -38,7 +38,7 @@ module _ {Call : Type 0} (a b met a' b' : Seated Call) (a_finds : FindsChain a.k
             ]
       ]
 
-  -- what holds on either answer
+  -- the facts that hold for either answer
   pub met_seats : (answer : Result (Unit {0}) Fault) → OnOk answer (IsBeginning (history_of b) (history_of a')) → OnOk answer (own b.known.number (history_of a') ≡ own b.known.number (history_of b))
       → IfErr answer (λ fault. fault ≡ Memory) → Meets a b a' b' answer
   met_seats answer b_beginning b_own only_memory = record {
@@ -53,7 +53,7 @@ module _ {Call : Type 0} (a b met a' b' : Seated Call) (a_finds : FindsChain a.k
     only_memory = only_memory;
   }
 
-  -- where a has seen all of the chain that both found
+  -- if a has seen all of the chain that both found
   module _ (places : entries_of b ≡ b.known.seen) (one_chain : b'.known.ahead ≡ met.known.ahead) (same : a'.known.ahead ≡ met.known.ahead) (whole : entries_of a' ≡ a'.known.ahead) where
     seen_all : entries_of a' ≡ b'.known.ahead
     seen_all = whole ∙ same ∙ sym one_chain

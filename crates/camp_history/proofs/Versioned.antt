@@ -1,5 +1,5 @@
 -- Lemmas on versions: how they are tied to a store, and how one goes on from what a seat has seen.
-use Rattle.camp_history.proofs.Words.{Entry, HeadId, IsBeginning, IsIn, IsSeatOf, IsSound, Known, Leads, Seated, asked, entry_of, entries_of, begins_shorter, history_of, ids, ids_of, length-beginning, own, told, news, based, bases_in, Begins, Based, IsBaseAt, Share, GoesOn, Adopts, Mark, SeesMore, ◌≡◌, ℕ, zero, suc, ◌+◌, ◌-◌, ◌<◌, ◌≤◌, List, [], ◌∷◌, ◌++◌, length, map, take, drop, splice, get_or, slice_get, slice_index_or, All, Option, None, Some, IfSome, MatchOption, refl, sym, ◌∙◌, ap, subst, arith, append-nil, append_assoc, length-append, length-map, map-append, take-append-drop, take_at, take_more, take_rest, drop_at, drop_more, drop-map, length-drop, length-take-le, map_push, same_Some, take_all, drop_all, begins_self, Bool, true, false, if◌then◌else◌, All-append, All-drop, All-map, All-push, All-same, All-weaker, Shelves, Shows, turns}
+use Rattle.camp_history.proofs.Words.{Entry, GetsOn, HeadId, IsBeginning, IsIn, IsSeatOf, IsSound, Known, Leads, Seated, asked, entry_of, entries_of, begins_shorter, history_of, ids, ids_of, length-beginning, own, told, news, based, bases_in, Begins, Based, IsBaseAt, Share, GoesOn, Adopts, Mark, SeesMore, ◌≡◌, ℕ, zero, suc, ◌+◌, ◌-◌, ◌<◌, ◌≤◌, List, [], ◌∷◌, ◌++◌, length, map, take, drop, splice, get_or, slice_get, slice_index_or, All, Option, None, Some, IfSome, MatchOption, refl, sym, ◌∙◌, ap, subst, arith, append-nil, append_assoc, length-append, length-map, map-append, take-append-drop, take_at, take_more, take_rest, drop_at, drop_more, drop-map, length-drop, length-take-le, map_push, same_Some, take_all, drop_all, begins_self, Bool, true, false, if◌then◌else◌, All-append, All-drop, All-map, All-push, All-same, All-weaker, Shelves, Shows, turns}
 use Rattle.std.proofs.lemmas.List.{get_or-map}
 use Rattle.std.proofs.Math.Seq.{drop-append-add}
 use Rattle.std.proofs.lemmas.Simd.{map-map}
@@ -7,7 +7,8 @@ use Rattle.boxcar.specs.Slot.{Named}
 use Rattle.camp_row.specs.Chains as chain
 use Rattle.camp_row.proofs.Cells.{turns_front}
 use Rattle.camp_row.proofs.TrailSteps.{length-cells_back}
-use Rattle.camp_history.proofs.Seeing.{length-own}
+use Rattle.std.specs.Bool.{MatchBool}
+use Rattle.camp_history.proofs.Seeing.{gets_on_self, length-own}
 use Rattle.camp_history.proofs.Together.{own_front}
 use Rattle.camp_history.specs.declared.versions.Base.{Base}
 
@@ -18,7 +19,7 @@ id_among (bucket ∷ buckets) zero = refl
 id_among (bucket ∷ buckets) (suc i) = id_among buckets i
 
 module _ {Call : Type 0} (store : Shelves) where
-  -- what a store shows has its numbers
+  -- the tokens of a store have its numbers
   pub all_in : (tag : List ℕ) → tag ≡ ids store → (marks : List (Mark Call)) → All (λ mark. Shows store mark.call) marks → All (λ mark. IsIn tag mark.call) marks
   all_in tag is marks all =
       let In : List ℕ → Type 0 = λ tag. All (λ (mark : Mark Call). IsIn tag mark.call) marks in
@@ -29,18 +30,18 @@ module _ {Call : Type 0} (store : Shelves) where
       let In : List ℕ → Type 0 = λ tag. All (λ (mark : Mark Call). IsIn tag mark.call) marks in
       All-weaker (λ (mark : Mark Call). IsIn (ids store) mark.call) (λ (mark : Mark Call). Shows store mark.call) (λ mark is_in. is_in ∙ id_among store.buckets mark.call.bucket) marks (subst In is all)
 
--- the first element of the rest, which is taken next, and what is left behind it
+-- the first element of the rest, which is taken next, and the elements after it
 pub step : {X : Type 0} (list rest : List X) (i : ℕ) (x : X) → drop i list ≡ x ∷ rest → (i < length list) × (take (i + 1) list ≡ take i list ++ x ∷ []) × (drop (i + 1) list ≡ rest)
 step list rest i x left =
     let below : i < length list = omega (arith, ap length left, length-drop i list) in
     let both = sym (drop_more list i x below) ∙ left in
     (below, take_more list i x below ∙ ap (λ y. take i list ++ y ∷ []) (ap (λ l. get_or l 0 x) both), ap (drop 1) both)
 
--- where nothing is left, all was taken
+-- if nothing is left, all was taken
 pub all_taken : {X : Type 0} (list : List X) (i : ℕ) → drop i list ≡ [] → take i list ≡ list
 all_taken list i none = sym (append-nil (take i list)) ∙ ap (λ rest. take i list ++ rest) (sym none) ∙ take-append-drop i list
 
--- a beginning of a chain, with the entry that stands behind it
+-- a prefix of a chain, and the entry after it
 front_step : {X : Type 0} (front whole : List X) (x : X) → chain.IsBeginning front whole → slice_get whole (length front) ≡ Some x → chain.IsBeginning (front ++ x ∷ []) whole
 front_step [] [] x begins at = cc
 front_step [] (y ∷ whole) x begins at = record { rest = whole; is = ap (λ z. z ∷ whole) (sym (same_Some y x at)) }
@@ -67,14 +68,14 @@ one_more_comes seen ahead list rest i mark entry left begins at is =
     let Begins : List Entry → Type 0 = λ list. chain.IsBeginning list ahead in
     subst Begins (append_assoc seen (map entry_of before) (entry_of mark ∷ []) ∙ ap (λ l. seen ++ l) (sym (map_push entry_of before mark) ∙ ap (map entry_of) (sym next.1))) on
 
--- what holds of what is made of each holds of each, as it is made
+-- a fact about what is made of each element holds of all as they are made
 pub all_unmap : {A B : Type 0} (P : B → Type 0) (f : A → B) (list : List A) → All P (map f list) → All (λ x. P (f x)) list
 all_unmap P f list all k d below = subst P (get_or-map f list k d (f d) below) (all k (f d) (omega (arith, length-map list f)))
 
 front_map : {A B : Type 0} (f : A → B) {front whole : List A} → IsBeginning front whole → IsBeginning (map f front) (map f whole)
 front_map f {front = front} begins = record { rest = map f begins.rest; makes = sym (map-append f front begins.rest) ∙ ap (map f) begins.makes }
 
--- what stands behind a beginning
+-- the elements after a prefix
 front_rest : {A : Type 0} (front whole : List A) → IsBeginning front whole → whole ≡ front ++ drop (length front) whole
 front_rest front whole begins =
     sym begins.makes ∙ ap (λ rest. front ++ rest) (sym (drop_at front begins.rest (length front) refl) ∙ ap (drop (length front)) begins.makes)
@@ -145,14 +146,14 @@ news_within known trail more leads ahead =
     let other : length ((known.seen ++ more) ++ ahead.rest) ≡ length known.ahead = ap length ahead.is in
     omega (arith, length-append known.seen leads.left, length-append (known.seen ++ more) ahead.rest, length-append known.seen more)
 
--- so many entries of the chain are those of a beginning of it
+-- the first `count` entries of the chain are those of a prefix of it
 pub taken_front : (known : Known) (more : List Entry) (count : ℕ) → count ≡ length more → chain.IsBeginning (known.seen ++ more) known.ahead → take (length known.seen + count) known.ahead ≡ known.seen ++ more
 taken_front known more count is ahead =
     ap (take (length known.seen + count)) (sym ahead.is)
     ∙ take_at (known.seen ++ more) ahead.rest (length known.seen + count) (length-append known.seen more ∙ ap (λ n. length known.seen + n) (sym is))
 
 -- what a seat that adopts a version has in its fields
-module _ {Call : Type 0} (seat : Seated Call) (version : List (Mark Call)) (goes : GoesOn seat version) where
+module _ {State Call : Type 0} (seat : Seated State Call) (version : List (Mark Call)) (goes : GoesOn seat version) where
   pub version_entries : map entry_of version ≡ map entry_of seat.marks ++ map entry_of (news seat version)
   version_entries =
       front_rest (map entry_of seat.marks) (map entry_of version) (begins_entries seat.marks version goes.begins)
@@ -184,7 +185,7 @@ module _ {Call : Type 0} (seat : Seated Call) (version : List (Mark Call)) (goes
         subst Below (sym (ap (λ known. known.row.seats) adopted_known)) (all_unmap Is entry_of version entries)
 
 -- a seat that adopts a version sees more
-pub adopts_more : {Call : Type 0} (old new : Seated Call) (version : List (Mark Call)) → entries_of old ≡ old.known.seen → IsSound old.known → GoesOn old version → Adopts old version new → SeesMore old new
+pub adopts_more : {State Call : Type 0} (old new : Seated State Call) (version : List (Mark Call)) → entries_of old ≡ old.known.seen → IsSound old.known → GoesOn old version → Adopts old version new → SeesMore old new
 adopts_more old new version places sound goes adopts =
     let list = news old version in
     let number = old.known.number in
@@ -205,12 +206,23 @@ adopts_more old new version places sound goes adopts =
     }
 
 -- and is one of the head
-pub seat_adopted : {Call : Type 0} (head : HeadId) (old new : Seated Call) (version : List (Mark Call)) → IsSeatOf head old → All (λ mark. Shows head.store mark.call) version → Adopts old version new → IsSeatOf head new
-seat_adopted {Call} head old new version of stored adopts = record {
+pub seat_adopted : {State Call : Type 0} (head : HeadId State) (old new : Seated State Call) (version : List (Mark Call)) → IsSeatOf head old → All (λ mark. Shows head.store mark.call) version → Adopts old version new → IsSeatOf head new
+seat_adopted {Call = Call} head old new version of stored adopts = record {
+  first = adopts.first ∙ of.first;
   row = ap (λ known. known.row) adopts.known ∙ of.row;
   stored = All-same (λ (mark : Mark Call). Shows head.store mark.call) new.marks version adopts.marks stored;
   bases = All-same (IsBaseAt head.slots) new.bases old.bases adopts.bases of.bases;
 }
+
+-- a seat that adopted a version, or stays, gets on
+pub adopted_on : {State Call : Type 0} (head : HeadId State) (old new : Seated State Call) (version : List (Mark Call)) (yes : Bool) → IsSeatOf head old → entries_of old ≡ old.known.seen → IsSound old.known → GoesOn old version
+    → All (λ mark. Shows head.store mark.call) version → MatchBool yes (Adopts old version new) (new ≡ old) → GetsOn head old new
+adopted_on head old new version true of places sound goes stored took = record {
+  of = seat_adopted head old new version of stored took;
+  more = adopts_more old new version places sound goes took;
+  ahead = ap (λ known. known.ahead) took.known;
+}
+adopted_on head old new version false of places sound goes stored same = subst (GetsOn head old) (sym same) (gets_on_self head old of)
 
 -- the list that copies share, once the few behind it were moved into it
 pub spliced_behind : {X : Type 0} (front tail longer : List X) (len : ℕ) → len ≡ length front → longer ≡ splice front len len tail → longer ≡ front ++ tail
@@ -218,7 +230,7 @@ spliced_behind front tail longer len len_is spliced =
     spliced ∙ ap (λ n. splice front n n tail) len_is
     ∙ (λ k. take_all (length front) front (omega arith) k ++ (tail ++ drop_all (length front) front (omega arith) k)) ∙ ap (λ l. front ++ l) (append-nil tail)
 
--- what holds of all that was noted and of one more holds of all that is noted then
+-- a fact about all noted snapshots and one more holds of all that are noted then
 pub noted_all : {B : Type 0} (P : B → Type 0) (old room new : List B) (base : B) (gone : ℕ) (is_ok : Bool) → room ≡ drop gone old → new ≡ (if is_ok then room ++ base ∷ [] else room) → All P old → P base → All P new
 noted_all P old room new base gone true left is all here = All-same P new (room ++ base ∷ []) is (All-push P room base (All-same P room (drop gone old) left (All-drop P gone old all)) here)
 noted_all P old room new base gone false left is all here = All-same P new room is (All-same P room (drop gone old) left (All-drop P gone old all))
@@ -228,7 +240,7 @@ get_append [] rest i x at = cc
 get_append (y ∷ list) rest zero x at = at
 get_append (y ∷ list) rest (suc i) x at = get_append list rest i x at
 
--- the element behind a beginning
+-- the element after a prefix
 at_length : {X : Type 0} (front rest : List X) (x : X) → slice_get (front ++ x ∷ rest) (length front) ≡ Some x
 at_length [] rest x = refl
 at_length (y ∷ front) rest x = at_length front rest x
@@ -254,7 +266,7 @@ same_next whole one other marks marks' left others mark mark' first second begin
     same_Some (entry_of mark) (entry_of mark') (sym (stands whole one left here.front mark begins here.one_is) ∙ stands whole other others here.front mark' begins' here.other_is)
 
 -- what a seat has seen begins the chain that it found
-pub seat_begins : {Call : Type 0} (seat : Seated Call) → entries_of seat ≡ seat.known.seen → IsSound seat.known → chain.IsBeginning (entries_of seat) seat.known.ahead
+pub seat_begins : {State Call : Type 0} (seat : Seated State Call) → entries_of seat ≡ seat.known.seen → IsSound seat.known → chain.IsBeginning (entries_of seat) seat.known.ahead
 seat_begins seat places sound = record { rest = sound.front.rest; is = ap (λ list. list ++ sound.front.rest) places ∙ sound.front.is }
 
 -- of two lists that begin one another the shorter one begins the other
@@ -262,7 +274,7 @@ pub begins_either : {Call : Type 0} (one other : List (Mark Call)) → Begins on
 begins_either one other begins short =
     begins_shorter (map asked other) (map asked one) (map asked other) (begins_self (map asked other)) (begins_asked one other begins) (omega (arith, short, length-map one asked, length-map other asked))
 
--- what holds of all that was noted holds of each, as it lies in its slot
+-- a fact about all noted snapshots holds of each, as it is in its slot
 pub noted_at : {State Call Reply : Type 0} (P : Based Call → Type 0) (items : List (Base State Call Reply)) (bases : List (Based Call)) → bases_in items ≡ bases → All P bases
     → (i : ℕ) (base : Base State Call Reply) → i < length items → base ≡ slice_index_or items i base → P (based base)
 noted_at P items bases is all i base below at = subst (λ base. P (based base)) (sym at) (all_unmap P based items (All-same P (bases_in items) bases is all) i base below)
@@ -278,7 +290,7 @@ pub slot_by : {R : Type 0} (now : R → Named) (Holds : R → Type 0) (slots : L
 slot_by now Holds slots number None is within = tt
 slot_by now Holds slots number (Some slot) is within = ap (λ (slot : Named). slot.id) is ∙ sym (get_or-map (λ (slot : Named). slot.id) slots number (now slot) 0 within.0)
 
--- what is left of a list and of a few behind it, from a place among the few on
+-- the elements of a list and of a few elements after it, from an index among the few on
 pub left_behind : {X : Type 0} (front tail none : List X) (from len : ℕ) → len ≡ length front → len ≤ from → none ≡ drop len front → none ++ take (length tail - (from - len)) (drop (from - len) tail) ≡ drop from (front ++ tail)
 left_behind front tail none from len is less left =
     let gone : none ≡ [] = left ∙ ap (λ n. drop n front) is ∙ drop_all (length front) front (omega arith) in
@@ -286,7 +298,7 @@ left_behind front tail none from len is less left =
     let split : length front + (from - len) ≡ from = omega (arith, is, less) in
     (λ k. gone k ++ rest k) ∙ sym (drop-append-add front tail (from - len)) ∙ ap (λ n. drop n (front ++ tail)) split
 
--- what holds of all that are left holds of the first and of the others
+-- a fact about all that are left holds of the first and of the others
 module _ {X : Type 0} (P : X → Type 0) (whole rest : List X) (first : X) (is : whole ≡ first ∷ rest) (all : All P whole) where
   pub left_first : P first
   left_first = All-same P (first ∷ rest) whole (sym is) all 0 first (omega arith)

@@ -18,7 +18,7 @@ pub use Rattle.camp_object.proofs.Beginnings.{begins_append, begins_through, beg
 pub use Rattle.camp_object.specs.Asking.{AddsNothing, Ask, Caller, IsNotBusy, Loses}
 pub use Rattle.camp_object.specs.Deciding.{Decides}
 pub use Rattle.camp_object.specs.Histories.{IsAccepted, IsBeginning, IsLegal, own, replay}
-pub use Rattle.camp_object.specs.Objects.{IsLawfulObject, Sequential}
+pub use Rattle.camp_object.specs.Objects.{IsFirst, IsLawfulObject, Sequential, begun}
 pub use Rattle.camp_object.specs.declared.faults.Fault.{Fault}
 pub use Rattle.camp_object.specs.declared.faults.Fault.TheVariants.{Memory}
 pub use Rattle.camp_object.specs.declared.objects.Decided.TheVariants.{Answer, Next}
@@ -26,4 +26,4 @@ pub use Rattle.camp_row.specs.Chains.{turns}
 pub use Rattle.camp_row.specs.Known.{ComesNext, FindsChain, IsSound, Known, Leads, Won, drafted, newcomer, with_draft}
 pub use Rattle.camp_row.specs.declared.entries.Entry.{Entry}
 pub use Rattle.camp_object.proofs.Asks.{ask_done, ask_memory, ask_since, loses_more, never_busy_among_own}
-pub use Rattle.camp_object.proofs.Replays.{accepted_at, count-replay, own-append, own_other, replay_accepted, some_is_some}
+pub use Rattle.camp_object.proofs.Replays.{accepted_at, begun_lawful, count-replay, initial_first, own-append, own_other, replay_accepted, replay_began, some_is_some}

@@ -1,13 +1,13 @@
--- What two seats know of each other once they have met.
+-- What two seats know of each other after they were synchronised.
 use Rattle.std.specs.Prelude.{◌≡◌, ◌⊎◌, Result, OnOk, IfErr}
 use Rattle.camp_object.specs.Histories.{IsBeginning, own}
 use Rattle.camp_object.specs.declared.faults.Fault.{Fault}
 use Rattle.camp_object.specs.declared.faults.Fault.TheVariants.{Memory}
 use Rattle.camp_history.specs.Seats.{Seated, history_of}
 
--- of what the two had seen one begins the other; b stays as it was, and a sees more, but no new call of its own; if
+-- of what the two had seen one begins with the other; b is unchanged, and a sees more, but no new call of its own; if
 -- the answer is Ok, a has seen all that b has seen, and of b's calls exactly those that b has
-pub record Meets {Call : Type 0} (a b a' b' : Seated Call) (answer : Result (Unit {0}) Fault) : Type 0 where
+pub record Meets {State Call : Type 0} (a b a' b' : Seated State Call) (answer : Result (Unit {0}) Fault) : Type 0 where
   pub a_number : a'.known.number ≡ a.known.number
   pub a_grows : IsBeginning (history_of a) (history_of a')
   pub a_own : own a.known.number (history_of a') ≡ own a.known.number (history_of a)

@@ -1,4 +1,4 @@
--- What a new head is.
+-- A new head and its seats.
 use Rattle.std.specs.Prelude.{◌≡◌, ℕ, ◌≤◌, List, map, All, Result, Ok, Err}
 use Rattle.std.specs.List.{range_with_len}
 use Rattle.camp_row.specs.Known.{most_cells, most_seats, newcomer}
@@ -6,19 +6,19 @@ use Rattle.camp_history.specs.Seats.{HeadId, Seated, calls_per_seat, unseen, IsS
 use Rattle.camp_history.specs.declared.faults.HeadFault.{HeadFault}
 use Rattle.camp_history.specs.declared.faults.HeadFault.TheVariants.{BadSize, Memory}
 
--- accepted calls of a seat: each has a cell of its own
+-- the most accepted calls of a seat: each has a cell of its own
 abbrev pub most_calls : ℕ
 most_calls = most_cells
 
--- tries of a call
+-- the most tries of a call
 abbrev pub most_tries : ℕ
 most_tries = 1_000
 
--- places between two versions
+-- the most positions from one snapshot to the next
 abbrev pub farthest_version : ℕ
 farthest_version = 4_096
 
--- the numbers that a head can be made of
+-- the parameters of a head are in range
 pub record IsInRange (seats per_seat tries every : ℕ) : Type 0 where
   pub some_seats : (1 ≤ seats) × (seats ≤ most_seats)
   pub some_calls : (1 ≤ per_seat) × (per_seat ≤ most_calls)
@@ -26,12 +26,14 @@ pub record IsInRange (seats per_seat tries every : ℕ) : Type 0 where
   pub versions : every ≤ farthest_version
 
 -- the seat of a number, which has seen nothing
-abbrev pub seat_at : {Call : Type 0} → HeadId → ℕ → Seated Call
-seat_at head number = unseen (newcomer head.row number)
+abbrev pub seat_at : {State Call : Type 0} → HeadId State → ℕ → Seated State Call
+seat_at head number = unseen head.first (newcomer head.row number)
 
--- a head of these numbers, with its seats, numbered from 0, none of which has seen anything
-pub record IsOpened {Call : Type 0} (seats per_seat tries : ℕ) (head : HeadId) (made : List (Seated Call))
+-- a head of these numbers whose history begins with this state, with its seats, numbered from 0, none of which has seen
+-- anything
+pub record IsOpened {State Call : Type 0} (first : State) (seats per_seat tries : ℕ) (head : HeadId State) (made : List (Seated State Call))
     : Type 0 where
+  pub begins_with : head.first ≡ first
   pub has_seats : head.row.seats ≡ seats
   pub has_calls : calls_per_seat head ≡ per_seat
   pub has_tries : head.tries ≡ tries
@@ -39,10 +41,10 @@ pub record IsOpened {Call : Type 0} (seats per_seat tries : ℕ) (head : HeadId)
   pub are_seats : All (IsSeatOf head) made
 
 -- a fault of the numbers comes exactly where one is out of its range
-abbrev pub Opens : {Made Call : Type 0} → (Made → HeadId) → (Made → List (Seated Call)) →
+abbrev pub Opens : {Made State Call : Type 0} → State → (Made → HeadId State) → (Made → List (Seated State Call)) →
     (seats per_seat tries every : ℕ)
     → Result Made HeadFault → Type 0
-Opens head all seats per_seat tries every (Ok made) =
-    IsInRange seats per_seat tries every × IsOpened seats per_seat tries (head made) (all made)
-Opens head all seats per_seat tries every (Err BadSize) = ¬ (IsInRange seats per_seat tries every)
-Opens head all seats per_seat tries every (Err Memory) = IsInRange seats per_seat tries every
+Opens first head all seats per_seat tries every (Ok made) =
+    IsInRange seats per_seat tries every × IsOpened first seats per_seat tries (head made) (all made)
+Opens first head all seats per_seat tries every (Err BadSize) = ¬ (IsInRange seats per_seat tries every)
+Opens first head all seats per_seat tries every (Err Memory) = IsInRange seats per_seat tries every

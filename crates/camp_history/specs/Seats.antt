@@ -1,4 +1,4 @@
--- What contracts see of a head and of its seats.
+-- Heads and seats as contracts see them.
 use Rattle.std.specs.Prelude.{◌≡◌, ℕ, false, List, [], map, slice_index_or, All}
 use Rattle.boxcar.specs.Table.{Shelves, Shows}
 use Rattle.camp_object.specs.Asking.{Caller}
@@ -6,45 +6,46 @@ use Rattle.camp_row.specs.Known.{RowId, Known}
 use Rattle.camp_row.specs.declared.entries.Entry.{Entry}
 use Rattle.camp_history.specs.declared.marks.Mark.{Mark}
 
--- which head it is: its row of words, its store of calls, its slots for versions, and how many exchanges a call loses
--- at most
-pub record HeadId : Type 0 where
+-- which head it is: its row of words, its store of calls, its slots for versions, how many exchanges a call loses at
+-- most, and the state that its history begins with
+pub record HeadId (State : Type 0) : Type 0 where
   pub row : RowId
   pub store : Shelves
   pub slots : List ℕ
   pub tries : ℕ
+  pub first : State
 
--- a version that lies in a slot: the slot's place among those of its head, what tells it from other slots, and the
--- version's marks
+-- a snapshot in a slot: the index of the slot, the numbers that identify it, and the marks of the snapshot
 pub record Based (Call : Type 0) : Type 0 where
   pub slot : ℕ
   pub id : ℕ
   pub marks : List (Mark Call)
 
--- the slot is the one at this place
+-- the slot has this index
 abbrev pub IsBaseAt : {Call : Type 0} → List ℕ → Based Call → Type 0
 IsBaseAt ids base = base.id ≡ slice_index_or ids base.slot 0
 
--- a seat: what its pass knows of the row, a mark for each call that it has seen, in order, and versions with which
--- these begin
-pub record Seated (Call : Type 0) : Type 0 where
+-- a seat: the state that its history begins with, what its pass knows of the row, a mark for each call that it has seen,
+-- in order, and versions with which these begin
+pub record Seated (State Call : Type 0) : Type 0 where
+  pub first : State
   pub known : Known
   pub marks : List (Mark Call)
   pub bases : List (Based Call)
 
--- a seat that has seen nothing, by what its pass knows
-abbrev pub unseen : {Call : Type 0} → Known → Seated Call
-unseen known = record { known = known; marks = []; bases = [] }
+-- a seat that has seen nothing, by the state that its history begins with and what its pass knows
+abbrev pub unseen : {State Call : Type 0} → State → Known → Seated State Call
+unseen first known = record { first = first; known = known; marks = []; bases = [] }
 
 -- the entry of the row that a mark is of
 abbrev pub entry_of : {Call : Type 0} → Mark Call → Entry
 entry_of mark = record { seat = mark.seat; place = mark.call.index }
 
--- what a mark tells: the entry, and the call
+-- the entry and the call of a mark
 abbrev pub told : {Call : Type 0} → Mark Call → Entry × Call
 told mark = (entry_of mark, mark.call.value)
 
--- so many calls a list that copies share has at most: no fewer than any head
+-- the most calls of a list that copies share: no fewer than those of any head
 abbrev pub most_listed : ℕ
 most_listed = 4_194_304
 
@@ -53,37 +54,38 @@ abbrev pub asked : {Call : Type 0} → Mark Call → ℕ × Call
 asked mark = (mark.seat, mark.call.value)
 
 -- the history that a seat has seen
-abbrev pub history_of : {Call : Type 0} → Seated Call → List (ℕ × Call)
+abbrev pub history_of : {State Call : Type 0} → Seated State Call → List (ℕ × Call)
 history_of seat = map asked seat.marks
 
--- the seat is one of this head: its pass is to the head's row, its calls lie in the head's store, and its versions in
--- the head's slots
-pub record IsSeatOf {Call : Type 0} (head : HeadId) (seat : Seated Call) : Type 0 where
+-- the seat is one of this head: its history begins with the head's state, its pass is to the head's row, its calls lie
+-- in the head's store, and its versions in the head's slots
+pub record IsSeatOf {State Call : Type 0} (head : HeadId State) (seat : Seated State Call) : Type 0 where
+  pub first : seat.first ≡ head.first
   pub row : seat.known.row ≡ head.row
   pub stored : All (λ mark. Shows head.store mark.call) seat.marks
   pub bases : All (IsBaseAt head.slots) seat.bases
 
 -- how many seats a head has
-abbrev pub seats_of : HeadId → ℕ
+abbrev pub seats_of : {State : Type 0} → HeadId State → ℕ
 seats_of head = head.row.seats
 
 -- how many calls of each seat of a head can be accepted
-abbrev pub calls_per_seat : HeadId → ℕ
+abbrev pub calls_per_seat : {State : Type 0} → HeadId State → ℕ
 calls_per_seat head = head.row.per_seat
 
 -- the number of a seat, from 0
-abbrev pub number_of : {Call : Type 0} → Seated Call → ℕ
+abbrev pub number_of : {State Call : Type 0} → Seated State Call → ℕ
 number_of seat = seat.known.number
 
 -- how many seats its head has
-abbrev pub seats_beside : {Call : Type 0} → Seated Call → ℕ
+abbrev pub seats_beside : {State Call : Type 0} → Seated State Call → ℕ
 seats_beside seat = seat.known.row.seats
 
 -- how many calls of this seat can be accepted
-abbrev pub most_calls_of : {Call : Type 0} → Seated Call → ℕ
+abbrev pub most_calls_of : {State Call : Type 0} → Seated State Call → ℕ
 most_calls_of seat = seat.known.row.per_seat
 
 -- who asks at a seat of a head, and under which bounds; others may add to the history
-abbrev pub caller_at : {Call : Type 0} → HeadId → Seated Call → Caller
+abbrev pub caller_at : {State Call : Type 0} → HeadId State → Seated State Call → Caller
 caller_at head seat =
     record { seat = number_of seat; tries = head.tries; per_seat = calls_per_seat head; alone = false }

@@ -1,5 +1,5 @@
 //! Installing a snapshot at a seat that is behind.
-ghost use Rattle.std.specs.Prelude.{◌≡◌, ℕ, ◌<◌, ◌≤◌, ◌+◌, length, drop, slice_get, slice_index_or, All, Some, IfSome, IsTrue};
+ghost use Rattle.std.specs.Prelude.{◌≡◌, ℕ, ◌<◌, ◌≤◌, ◌+◌, length, drop, slice_get, slice_index_or, All, Some, IfSome, IsTrue, MatchBool};
 ghost use Rattle.boxcar.specs.Table.{Shows};
 ghost use Rattle.camp_history.specs.Versions.{ids, Adopts, Begins, GoesOn, Share};
 
@@ -65,14 +65,18 @@ impl<State: Object> Seat<State> {
         row.entry_at(&mut self.pass, trail, index)
     }
 
-    /// Installs a snapshot.
-    fn adopt(&mut self, row: &Row, trail: &mut Trail, version: Version<State>)
+    /// Installs a snapshot; false if its history began with another state than the seat's, which no snapshot of the
+    /// seat's head does.
+    fn adopt(&mut self, row: &Row, trail: &mut Trail, version: Version<State>) -> bool
         requires row { self.old.known.row ≡ row.now }
         requires leads { Leads self.old.known self.old.known.seen trail.old }
         requires goes_on { GoesOn self.old version }
-        ensures adopts { Adopts self.old version self.new }
+        ensures adopts { MatchBool result (Adopts self.old version self.new) (self.new ≡ self.old) }
         ensures leads { Leads self.new.known self.new.known.seen trail.new }
     {
+        if !self.state.begins_alike(&version.state) {
+            return false;
+        }
         let count = version.len() - (self.earlier.len() + self.tail.len());
         let Version {
             earlier,
@@ -83,6 +87,7 @@ impl<State: Object> Seat<State> {
         self.earlier = earlier;
         self.tail = tail;
         self.state = state;
+        true
     }
 }
 
@@ -364,7 +369,9 @@ impl<State: Object> Head<State> {
         ensures leads { Leads seat.new.known seat.new.known.seen trail.new }
     {
         seat.is_whole();
-        seat.adopt(&self.row, trail, version.share()?);
+        if !seat.adopt(&self.row, trail, version.share()?) {
+            return Ok(());
+        }
         self.note(seat, base.again());
         seat.adopted = seat.adopted.saturating_add(1);
         Ok(())
@@ -416,7 +423,7 @@ impl<State: Object> Head<State> {
         Ok(())
     }
 
-    /// Installs all that another seat has seen and decided at a seat that is behind it.
+    /// Installs all that another seat has seen and decided at a seat that has seen less.
     pub(crate) fn adopt_from(
         &self,
         seat: &mut Seat<State>,
@@ -436,7 +443,7 @@ impl<State: Object> Head<State> {
         if !self.goes_on(seat, &trail, &version, from) {
             return Ok(());
         }
-        seat.adopt(&self.row, &mut trail, version);
+        let _adopted = seat.adopt(&self.row, &mut trail, version);
         Ok(())
     }
 }

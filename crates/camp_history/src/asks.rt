@@ -2,6 +2,7 @@
 ghost use Rattle.std.specs.Prelude.{◌≡◌, false};
 ghost use Rattle.boxcar.specs.Table.{Shows};
 ghost use Rattle.camp_object.specs.Asking.{Ask, IsNotBusy};
+ghost use Rattle.camp_object.specs.Objects.{begun};
 
 use crate::gates::{Gate, NoGate};
 use crate::heads::Head;
@@ -22,7 +23,7 @@ impl<State: Object> Head<State> {
         requires kept { IsKeptBy self.now kept }
         ensures seat { IsSeatOf self.now seat.new }
         ensures caller { caller_at self.now seat.new ≡ caller_at self.now seat.old }
-        ensures asks { Ask State.object (caller_at self.now seat.old) (history_of seat.old) kept.call result (history_of seat.new) }
+        ensures asks { Ask (begun State.object self.now.first) (caller_at self.now seat.old) (history_of seat.old) kept.call result (history_of seat.new) }
         ensures one_seat { seats_of self.now ≡ 1 → IsNotBusy result }
     {
         self.ask_at(seat, kept, &NoGate)
@@ -39,7 +40,7 @@ impl<State: Object> Head<State> {
         requires kept { IsKeptBy self.now kept }
         ensures seat { IsSeatOf self.now seat.new }
         ensures caller { caller_at self.now seat.new ≡ caller_at self.now seat.old }
-        ensures asks { Ask State.object (caller_at self.now seat.old) (history_of seat.old) kept.call result (history_of seat.new) }
+        ensures asks { Ask (begun State.object self.now.first) (caller_at self.now seat.old) (history_of seat.old) kept.call result (history_of seat.new) }
         ensures one_seat { seats_of self.now ≡ 1 → IsNotBusy result }
     {
         // Reading a field shows the prover the invariant of the head.
@@ -61,7 +62,7 @@ impl<State: Object> Head<State> {
         requires question { State.object.is_writing call.now ≡ false }
         ensures seat { IsSeatOf self.now seat.new }
         ensures caller { caller_at self.now seat.new ≡ caller_at self.now seat.old }
-        ensures asks { Ask State.object (caller_at self.now seat.old) (history_of seat.old) call.now result (history_of seat.new) }
+        ensures asks { Ask (begun State.object self.now.first) (caller_at self.now seat.old) (history_of seat.old) call.now result (history_of seat.new) }
     {
         self.catch_up(seat)?;
         match self.decision(seat, call) {
@@ -81,7 +82,7 @@ impl<State: Object> Head<State> {
         requires call { Shows self.now.store call.now }
         ensures seat { IsSeatOf self.now seat.new }
         ensures caller { caller_at self.now seat.new ≡ caller_at self.now seat.old }
-        ensures asks { Ask State.object (caller_at self.now seat.old) (history_of seat.old) call.now.value result (history_of seat.new) }
+        ensures asks { Ask (begun State.object self.now.first) (caller_at self.now seat.old) (history_of seat.old) call.now.value result (history_of seat.new) }
     {
         self.catch_up(seat)?;
         for lost in 0..self.tries {
@@ -106,7 +107,7 @@ impl<State: Object> Head<State> {
         requires call { Shows self.now.store call.now }
         ensures seat { IsSeatOf self.now seat.new }
         ensures caller { caller_at self.now seat.new ≡ caller_at self.now seat.old }
-        ensures attempts { Attempts State.object self.now seat.old call.now.value result seat.new }
+        ensures attempts { Attempts (begun State.object seat.old.first) self.now seat.old call.now.value result seat.new }
     {
         seat.is_whole();
         let state = match self.decision(seat, self.calls.value(call))? {
@@ -128,7 +129,7 @@ impl<State: Object> Head<State> {
         call: &State::Call,
     ) -> Result<Decided<Shared<State>, State::Reply>, Fault>
         requires { IsSeatOf self.now seat.now }
-        ensures { Decision State.object self.now seat.now call.now result }
+        ensures { Decision (begun State.object seat.now.first) self.now seat.now call.now result }
     {
         seat.is_whole();
         let next = match seat.decide(call)? {

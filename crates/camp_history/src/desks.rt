@@ -2,6 +2,7 @@
 ghost use Rattle.std.specs.Prelude.{◌≡◌};
 ghost use Rattle.std.proofs.Common.{refl, ◌∙◌};
 ghost use Rattle.camp_object.specs.Asking.{Ask, IsNotBusy};
+ghost use Rattle.camp_object.specs.Objects.{begun};
 ghost use Rattle.camp_history.specs.Seats.{IsSeatOf, history_of, caller_at, seats_of};
 
 use crate::gates::Gate;
@@ -46,7 +47,7 @@ impl<'r, 'h, 's, 'g, R: Wait, State: Object, G: Gate> HeadDesk<'r, 'h, 's, 'g, R
         ensures head { self.new.head.now ≡ self.old.head.now }
         ensures lends { self.new.seat.ghost_name ≡ self.old.seat.ghost_name }
         ensures caller { caller_at self.new.head.now self.new.seat.now ≡ caller_at self.old.head.now self.old.seat.now }
-        ensures asks { Ask State.object (caller_at self.old.head.now self.old.seat.now) (history_of self.old.seat.now) call.now result (history_of self.new.seat.now) }
+        ensures asks { Ask (begun State.object self.old.head.now.first) (caller_at self.old.head.now self.old.seat.now) (history_of self.old.seat.now) call.now result (history_of self.new.seat.now) }
         ensures one_seat { seats_of self.old.head.now ≡ 1 → IsNotBusy result }
     {
         self.seat.is_whole();
@@ -58,6 +59,8 @@ impl<'r, 'h, 's, 'g, R: Wait, State: Object, G: Gate> HeadDesk<'r, 'h, 's, 'g, R
 impl<'r, 'h, 's, 'g, R: Wait, State: Object, G: Gate> Desk<State>
     for HeadDesk<'r, 'h, 's, 'g, R, State, G> {
     ghost caller = { λ desk. caller_at desk.head.now desk.seat.now };
+
+    ghost first = { λ desk. desk.head.now.first };
 
     ghost seen = { λ desk. history_of desk.seat.now };
 

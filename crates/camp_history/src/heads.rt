@@ -3,6 +3,7 @@ ghost use Rattle.std.specs.Prelude.{◌≡◌, ◌<◌, ◌≤◌, ◌↔◌, []
 ghost use Rattle.camp_history.specs.Inside.HeadFields.{slots_handed_on, slots_kept};
 ghost use Rattle.camp_history.specs.Opening.{IsInRange};
 ghost use Rattle.camp_history.specs.Seats.{unseen};
+ghost use Rattle.camp_object.specs.Objects.{IsFirst};
 ghost use Rattle.camp_object.specs.declared.faults.Fault.TheVariants.{Memory};
 ghost use Rattle.camp_row.specs.Known.{most_cells, most_seats};
 
@@ -14,7 +15,7 @@ use crate::versions::{Slot, StoreIds, slots_under};
 use boxcar::tag::Tag;
 use camp_object::{Fault, Object};
 use camp_row::{Pass, Row};
-use camp_share::{Shared, SharedList};
+use camp_share::{Share, Shared, SharedList};
 use std::alloc::{AllocError, Global};
 use std::marker::Model;
 use std::sync::Wait;
@@ -24,6 +25,8 @@ use std::sync::Wait;
 pub struct Head<State: Object> {
     pub(crate) row: Row,
     pub(crate) calls: boxcar::Vec<State::Call>,
+    /// The state that the history begins with.
+    pub(crate) first: Shared<State>,
     pub(crate) tries: u32,
     pub(crate) every: u32,
     /// A slot for each position at which a snapshot is kept, followed by one for each seat, by its number,
@@ -36,7 +39,7 @@ pub struct Head<State: Object> {
 impl<State: Object> Model for Head<State> {
     ghost use Rattle.camp_history.specs.Seats.{HeadId};
 
-    ghost Value = { HeadId };
+    ghost Value = { HeadId State };
 
     ghost use Rattle.camp_history.specs.Inside.HeadFields.{head_id, IsHead};
 
@@ -71,27 +74,37 @@ fn handing_count(seats: u32, every: u32) -> usize
     if every == 0 { 0 } else { seats as usize }
 }
 
-/// Makes a seat for each pass, which has seen nothing.
-fn seats_of<State: Object>(alloc: Global, passes: Vec<Pass>) -> Result<Vec<Seat<State>>, AllocError>
-    requires { All (λ known. known.seen ≡ []) passes.items }
-    ensures { IfOk result (λ seats. seats.items ≡ map unseen passes.items) }
+/// Makes a seat for each pass, which has seen nothing of a history that begins with a state.
+fn seats_of<State: Object>(
+    alloc: Global,
+    first: &Shared<State>,
+    passes: Vec<Pass>,
+) -> Result<Vec<Seat<State>>, AllocError>
+    requires first { IsFirst State.object first.now }
+    requires seen { All (λ known. known.seen ≡ []) passes.items }
+    ensures { IfOk result (λ seats. seats.items ≡ map (unseen first.now) passes.items) }
 {
     let mut seats = Vec::with_capacity(alloc, passes.len())?;
     for pass in passes {
-        seats.push_reserved(seat_of(alloc, pass)?);
+        seats.push_reserved(seat_of(alloc, first, pass)?);
     }
     Ok(seats)
 }
 
-fn seat_of<State: Object>(alloc: Global, pass: Pass) -> Result<Seat<State>, AllocError>
-    requires { pass.seen ≡ [] }
-    ensures { IfOk result (λ seat. seat ≡ unseen pass) }
+fn seat_of<State: Object>(
+    alloc: Global,
+    first: &Shared<State>,
+    pass: Pass,
+) -> Result<Seat<State>, AllocError>
+    requires first { IsFirst State.object first.now }
+    requires seen { pass.seen ≡ [] }
+    ensures { IfOk result (λ seat. seat ≡ unseen first.now pass) }
 {
     Ok(Seat {
         pass,
         earlier: Shared::new(alloc, SharedList::new(alloc))?,
         tail: Vec::new(alloc),
-        state: Shared::new(alloc, State::initial(alloc)?)?,
+        state: first.share()?,
         bases: Vec::new(alloc),
         adopted: 0,
     })
@@ -102,10 +115,7 @@ impl<State: Object> Head<State> {
     ghost use Rattle.camp_history.specs.Opening.{Opens};
     ghost use Rattle.camp_history.specs.Seats.{IsSeatOf, history_of};
 
-    /// Makes a head and its seats, numbered from 0. `seats` is 1 to 64; `per_seat`, the accepted calls of
-    /// each seat, 1 to 65,536; `tries`, the lost compare-exchanges after which a call that writes gives up, 1
-    /// to 1,000; `every` 0 to 4,096: a snapshot is kept at each position that is a multiple of it, and none
-    /// for 0. Snapshots change no reply; which ones exist is only tested.
+    /// Makes a head whose history begins with the initial state, and its seats.
     pub fn new(
         alloc: Global,
         seats: u32,
@@ -113,21 +123,49 @@ impl<State: Object> Head<State> {
         tries: u32,
         every: u32,
     ) -> Result<(Head<State>, Vec<Seat<State>>), HeadFault>
-        ensures opens { Opens (λ made. made.0) (λ made. made.1.items) seats per_seat tries every result }
+        ensures opens { Opens State.object.initial (λ made. made.0) (λ made. made.1.items) seats per_seat tries every result }
+    {
+        if !is_in_range(seats, per_seat, tries, every) {
+            return Err(HeadFault::BadSize);
+        }
+        Head::begun(alloc, State::initial(alloc)?, seats, per_seat, tries, every)
+    }
+
+    /// Makes a head whose history begins with a state, and its seats, numbered from 0. `seats` is 1 to 64; `per_seat`, the accepted calls of
+    /// each seat, 1 to 65,536; `tries`, the lost compare-exchanges after which a call that writes gives up, 1
+    /// to 1,000; `every` 0 to 4,096: a snapshot is kept at each position that is a multiple of it, and none
+    /// for 0. Snapshots change no reply; which ones exist is only tested.
+    pub fn begun(
+        alloc: Global,
+        first: State,
+        seats: u32,
+        per_seat: u32,
+        tries: u32,
+        every: u32,
+    ) -> Result<(Head<State>, Vec<Seat<State>>), HeadFault>
+        requires { IsFirst State.object first }
+        ensures opens { Opens first (λ made. made.0) (λ made. made.1.items) seats per_seat tries every result }
     {
         if !is_in_range(seats, per_seat, tries, every) {
             return Err(HeadFault::BadSize);
         }
         let (row, passes) = Row::new(alloc, seats, per_seat)?;
-        let all = seats_of(alloc, passes)?;
-        let head = Head::over(alloc, row, tries, every)?;
+        let first = Shared::new(alloc, first)?;
+        let all = seats_of(alloc, &first, passes)?;
+        let head = Head::over(alloc, row, first, tries, every)?;
         Ok((head, all))
     }
 
     /// Makes a head over a row, without calls.
-    fn over(alloc: Global, row: Row, tries: u32, every: u32) -> Result<Head<State>, AllocError>
+    fn over(
+        alloc: Global,
+        row: Row,
+        first: Shared<State>,
+        tries: u32,
+        every: u32,
+    ) -> Result<Head<State>, AllocError>
         requires { 0 < tries }
-        ensures { IfOk result (λ head. (head.row ≡ row) × (head.tries ≡ tries)) }
+        ensures { IfOk result (λ head. (head.row ≡ row) × (head.tries ≡ tries) × (head.first ≡ first)) }
     {
         let calls = boxcar::Vec::new(alloc)?;
         let count = slot_count(row.seats(), row.per_seat(), every)
@@ -139,6 +177,7 @@ impl<State: Object> Head<State> {
         Ok(Head {
             row,
             calls,
+            first,
             tries,
             every,
             versions,

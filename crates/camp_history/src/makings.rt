@@ -24,6 +24,7 @@ const MANY: usize = 104;
 
 impl<State: Object> Version<State> {
     ghost use Rattle.camp_object.specs.Histories.{replay};
+    ghost use Rattle.camp_object.specs.Objects.{begun};
     ghost use Rattle.camp_history.specs.Seats.{asked, most_listed};
 
     /// Makes a snapshot of marks and the state after them. Increments the reference counts of the list and of
@@ -34,7 +35,7 @@ impl<State: Object> Version<State> {
         state: &Shared<State>,
     ) -> Result<Version<State>, AllocError>
         requires few { length earlier.now ≤ most_listed }
-        requires replays { replay State.object (map asked (earlier.now ++ tail.items)) ≡ Some state.now }
+        requires replays { replay (begun State.object (State.object.first state.now)) (map asked (earlier.now ++ tail.items)) ≡ Some state.now }
         ensures { IfOk result (λ version. version ≡ earlier.now ++ tail.items) }
     {
         let earlier = earlier.share()?;
@@ -49,6 +50,7 @@ impl<State: Object> Version<State> {
 
 impl<State: Object> Seat<State> {
     ghost use Rattle.camp_object.specs.Histories.{replay};
+    ghost use Rattle.camp_object.specs.Objects.{begun};
     ghost use Rattle.camp_history.specs.Seats.{history_of};
 
     /// Makes a snapshot of all that the seat has seen.
@@ -65,7 +67,7 @@ impl<State: Object> Seat<State> {
         call: &Pushed<State::Call>,
         next: &Shared<State>,
     ) -> Result<Version<State>, AllocError>
-        requires { replay State.object (history_of self.now ++ (self.now.known.number, call.now.value) ∷ []) ≡ Some next.now }
+        requires { replay (begun State.object self.now.first) (history_of self.now ++ (self.now.known.number, call.now.value) ∷ []) ≡ Some next.now }
         ensures { IfOk result (λ version. version ≡ made_of self.now call.now) }
     {
         let mut tail = share_all(*self.tail.allocator(), &self.tail)?;
@@ -94,6 +96,7 @@ fn slot_of(position: u64, every: u32) -> Option<usize>
 
 impl<State: Object> Head<State> {
     ghost use Rattle.camp_object.specs.Histories.{replay};
+    ghost use Rattle.camp_object.specs.Objects.{begun};
     ghost use Rattle.camp_history.specs.Seats.{IsBaseAt, IsSeatOf, history_of};
     ghost use Rattle.camp_history.specs.Versions.{based};
 
@@ -181,7 +184,7 @@ impl<State: Object> Head<State> {
         call: &Pushed<State::Call>,
         next: &Shared<State>,
     ) -> Result<Option<Version<State>>, AllocError>
-        requires { replay State.object (history_of seat.now ++ (seat.now.known.number, call.now.value) ∷ []) ≡ Some next.now }
+        requires { replay (begun State.object seat.now.first) (history_of seat.now ++ (seat.now.known.number, call.now.value) ∷ []) ≡ Some next.now }
         ensures { IfOk result (λ made. IfSome made (λ version. version ≡ made_of seat.now call.now)) }
     {
         if slot_of(seat.position().saturating_add(1), self.every).is_none() {

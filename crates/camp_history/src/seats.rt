@@ -24,24 +24,26 @@ pub struct Seat<State: Object> {
 impl<State: Object> Model for Seat<State> {
     ghost use Rattle.camp_history.specs.Seats.{Seated};
 
-    ghost Value = { Seated State.Call };
+    ghost Value = { Seated State State.Call };
 
     ghost use Rattle.camp_history.specs.Inside.SeatFields.{seated, IsSeat};
 
-    ghost view = { seated };
+    ghost view = { seated State.object };
 
     ghost invariant = { IsSeat State.object };
 }
 
 impl<State: Object> Seat<State> {
     ghost use Rattle.camp_object.specs.Histories.{IsLegal, own};
+    ghost use Rattle.camp_object.specs.Objects.{IsFirst, begun};
     ghost use Rattle.camp_history.specs.Seats.{history_of, most_calls_of, number_of, seats_beside};
 
     /// Returns its number.
     pub fn number(&self) -> u32
         ensures number { result ≡ number_of self.now }
         ensures below { result < seats_beside self.now }
-        ensures legal { IsLegal State.object (history_of self.now) }
+        ensures first { IsFirst State.object self.now.first }
+        ensures legal { IsLegal (begun State.object self.now.first) (history_of self.now) }
         ensures seats_below { All (λ entry. entry.0 < seats_beside self.now) (history_of self.now) }
     {
         self.pass.number()

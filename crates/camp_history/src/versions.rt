@@ -23,6 +23,7 @@ pub struct Version<State: Object> {
 impl<State: Object> Model for Version<State> {
     ghost use Rattle.std.specs.Prelude.{◌≡◌, ◌++◌, ◌≤◌, List, length, map, Some};
     ghost use Rattle.camp_object.specs.Histories.{replay};
+    ghost use Rattle.camp_object.specs.Objects.{begun};
     ghost use Rattle.camp_history.specs.Seats.{asked, most_listed};
     ghost use Rattle.camp_history.specs.declared.marks.Mark.{Mark};
 
@@ -30,7 +31,7 @@ impl<State: Object> Model for Version<State> {
 
     ghost view = { λ version. version.earlier ++ version.tail.items };
 
-    ghost invariant = { λ version. (length version.earlier ≤ most_listed) × (replay State.object (map asked (version.earlier ++ version.tail.items)) ≡ Some version.state) };
+    ghost invariant = { λ version. (length version.earlier ≤ most_listed) × (replay (begun State.object (State.object.first version.state)) (map asked (version.earlier ++ version.tail.items)) ≡ Some version.state) };
 }
 
 /// A snapshot in a slot: the slot's index, and the token that shows the snapshot there.

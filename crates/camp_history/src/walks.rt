@@ -30,6 +30,7 @@ fn exchange_cell<G: Gate>(row: &Row, pass: &mut Pass, place: usize, gate: &G, lo
 
 impl<State: Object> Seat<State> {
     ghost use Rattle.camp_object.specs.Histories.{replay, IsLegal, own};
+    ghost use Rattle.camp_object.specs.Objects.{IsFirst, begun};
     ghost use Rattle.camp_row.specs.Known.{FindsChain, Leads, ComesNext, IsSound};
     ghost use Rattle.camp_history.specs.Seats.{history_of};
     ghost use Rattle.camp_history.specs.Inside.Steps.{entries_of, with_mark, DecidesAt, Publishes, FindsMore};
@@ -37,7 +38,8 @@ impl<State: Object> Seat<State> {
     /// States the invariant of every seat. Does nothing at run time: callers' proofs use its clauses.
     pub(crate) fn is_whole(&self)
         ensures places { entries_of self.now ≡ self.now.known.seen }
-        ensures legal { IsLegal State.object (history_of self.now) }
+        ensures first { IsFirst State.object self.now.first }
+        ensures legal { IsLegal (begun State.object self.now.first) (history_of self.now) }
         ensures sound { IsSound self.now.known }
         ensures below { self.now.known.number < self.now.known.row.seats }
         ensures seats_below { All (λ entry. entry.0 < self.now.known.row.seats) (history_of self.now) }
@@ -57,9 +59,11 @@ impl<State: Object> Seat<State> {
     /// Synchronises two seats: both have found the same chain, which begins with what either has seen.
     pub(crate) fn meet(&mut self, row: &Row, other: Seat<State>) -> Seat<State>
         requires { (self.old.known.row ≡ row.now) × (other.known.row ≡ row.now) }
+        ensures self_first { self.new.first ≡ self.old.first }
         ensures self_finds { FindsChain self.old.known self.new.known }
         ensures self_marks { self.new.marks ≡ self.old.marks }
         ensures self_bases { self.new.bases ≡ self.old.bases }
+        ensures other_first { result.first ≡ other.first }
         ensures other_finds { FindsChain other.known result.known }
         ensures other_marks { result.marks ≡ other.marks }
         ensures other_bases { result.bases ≡ other.bases }
@@ -130,7 +134,7 @@ impl<State: Object> Seat<State> {
         &self,
         call: &State::Call,
     ) -> Result<Decided<State, State::Reply>, AllocError>
-        ensures { IfOk result (DecidesAt State.object (history_of self.now) call.now) }
+        ensures { IfOk result (DecidesAt (begun State.object self.now.first) (history_of self.now) call.now) }
     {
         // Reading a field shows the prover the invariant of the seat.
         let _len = self.tail.len();
@@ -139,7 +143,7 @@ impl<State: Object> Seat<State> {
 
     /// Computes the state after a next call, whichever seat asked it.
     fn state_behind(&self, call: &State::Call) -> Result<Shared<State>, AllocError>
-        ensures { IfOk result (λ next. (seat : ℕ) → replay State.object (history_of self.now ++ (seat, call.now) ∷ []) ≡ Some next) }
+        ensures { IfOk result (λ next. (seat : ℕ) → replay (begun State.object self.now.first) (history_of self.now ++ (seat, call.now) ∷ []) ≡ Some next) }
     {
         let Decided::Next(next) = self.decide(call)? else {
             return Err(AllocError);
@@ -158,7 +162,7 @@ impl<State: Object> Seat<State> {
         requires row { self.old.known.row ≡ row.now }
         requires next { ComesNext self.old.known next }
         requires place { call.index ≡ next.entry.place }
-        requires state { replay State.object (history_of self.old ++ (next.entry.seat, call.value) ∷ []) ≡ Some state }
+        requires state { replay (begun State.object self.old.first) (history_of self.old ++ (next.entry.seat, call.value) ∷ []) ≡ Some state }
         ensures ok { OnOk result (self.new ≡ with_mark self.old (record { seat = next.entry.seat; call = call })) }
         ensures err { OnErr result (self.new ≡ self.old) }
     {
@@ -184,7 +188,7 @@ impl<State: Object> Seat<State> {
     ) -> Result<bool, Fault>
         requires row { self.old.known.row ≡ row.now }
         requires room { length (own self.old.known.number (history_of self.old)) < row.now.per_seat }
-        requires next { replay State.object (history_of self.old ++ (self.old.known.number, call.now.value) ∷ []) ≡ Some next }
+        requires next { replay (begun State.object self.old.first) (history_of self.old ++ (self.old.known.number, call.now.value) ∷ []) ≡ Some next }
         ensures { MatchResult result (λ won. MatchBool won (Publishes self.old call.now self.new) (FindsMore self.old self.new)) (λ fault. (fault ≡ Memory) × (self.new ≡ self.old)) }
     {
         self.tail.reserve(1)?;
@@ -203,6 +207,7 @@ impl<State: Object> Seat<State> {
 
 impl<State: Object> Head<State> {
     ghost use Rattle.camp_object.specs.Histories.{IsLegal};
+    ghost use Rattle.camp_object.specs.Objects.{begun};
     ghost use Rattle.camp_row.specs.Known.{ComesNext};
     ghost use Rattle.camp_history.specs.Seats.{IsSeatOf, history_of};
     ghost use Rattle.camp_history.specs.Inside.Steps.{entries_of, GetsOn, SeesMore};
@@ -241,7 +246,7 @@ impl<State: Object> Head<State> {
         requires { IsSeatOf self.now seat.old }
         ensures gets_on { GetsOn self.now seat.old seat.new }
         ensures whole { OnOk result (entries_of seat.new ≡ seat.new.known.ahead) }
-        ensures legal { IsLegal State.object (history_of seat.new) }
+        ensures legal { IsLegal (begun State.object self.now.first) (history_of seat.new) }
     {
         let answer = self.see_all(seat);
         seat.is_whole();
@@ -253,7 +258,7 @@ impl<State: Object> Head<State> {
         requires { IsSeatOf self.now seat.old }
         ensures of { IsSeatOf self.now seat.new }
         ensures more { SeesMore seat.old seat.new }
-        ensures legal { IsLegal State.object (history_of seat.new) }
+        ensures legal { IsLegal (begun State.object self.now.first) (history_of seat.new) }
     {
         seat.look(&self.row);
         self.follow(seat)

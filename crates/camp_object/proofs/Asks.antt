@@ -1,4 +1,4 @@
--- How an answer is shown to say what it says of the history.
+-- Shows that an answer says what it has to say of the history.
 use Rattle.std.proofs.Common.{◌≡◌, ℕ, zero, suc, ◌+◌, ◌<◌, ◌≤◌, All, arith, Bool, true, false, List, [], ◌∷◌, ◌++◌, length, Option, Some, None, MatchOption, Result, Ok, Err, sym, ◌∙◌, ap, subst, is_some}
 use Rattle.std.specs.Option.{option_and_then}
 use Rattle.std.proofs.lemmas.Option.{option_and_then_some}
@@ -11,7 +11,7 @@ use Rattle.std.proofs.lemmas.List.{length_push}
 use Rattle.camp_object.proofs.Beginnings.{begins_longer, begins_through, length-beginning}
 use Rattle.camp_object.proofs.Replays.{own_mine, length-own-within, length-own-all, replay_more, state_of_legal}
 
--- a call that was accepted after what stands before it
+-- a call that was accepted after the calls before it
 pub ask_done : {State Call Reply : Type 0} (object : Sequential State Call Reply) → IsLawfulObject object → (caller : Caller) (seen before now : List (ℕ × Call)) (call : Call) (at : ℕ) (reply : Reply)
     → IsBeginning seen before → own caller.seat before ≡ own caller.seat seen → IsAccepted object before call
     → (caller.alone ≡ false → length (own caller.seat seen) < caller.per_seat) → (caller.alone ≡ true → before ≡ seen)
@@ -33,7 +33,7 @@ ask_done {Call = Call} {Reply = Reply} object lawful caller seen before now call
       says = subst P (sym (ap object.done_at is ∙ lawful.tells at)) accepts;
     }
 
--- a call for which memory was wanting
+-- a call that ran out of memory
 pub ask_memory : {State Call Reply : Type 0} (object : Sequential State Call Reply) (caller : Caller) (seen now : List (ℕ × Call)) (call : Call)
     → IsBeginning seen now → AddsNothing caller seen now → IsLegal object now → Ask object caller seen call (Err Memory) now
 ask_memory object caller seen now call grows adds_nothing legal = record { grows = grows; legal = legal; says = adds_nothing }
@@ -58,7 +58,7 @@ loses_longer object call zero seen beginning now begins further = begins_through
 loses_longer object call (suc times) seen beginning now loses further =
     (loses.0, loses.1, loses.2, loses.3, loses_longer object call times (loses.0 ++ loses.1 ∷ []) beginning now loses.4 further)
 
--- the call of a done was accepted at what stood before it
+-- the call of a Done was accepted at the calls before it
 pub accepted_before : {State Call Reply : Type 0} (object : Sequential State Call Reply) (caller : Caller) (seen : List (ℕ × Call)) (call : Call) (at : ℕ) (now : List (ℕ × Call))
     → (accepts : Accepts caller seen call at now) → IsLegal object now → IsAccepted object accepts.before call
 accepted_before object caller seen call at now accepts legal =
@@ -71,7 +71,7 @@ accepted_writes object lawful history call accepted =
     let next = state_of_legal (option_and_then (λ s. object.after s call) (replay object history)) accepted in
     option_and_then_some (λ s. object.after s call) (replay object history) next.0 next.1 (λ state at gives. lawful.writes state call next.0 gives)
 
--- what an answer says of a history that was seen, it says of each beginning of it that has the same calls of the caller
+-- what an answer says of a history that was seen, it says of each prefix of it that has the same calls of the caller
 module _ {State Call Reply : Type 0} (object : Sequential State Call Reply) (caller : Caller) (call : Call) (now seen mid : List (ℕ × Call))
     (not_alone : caller.alone ≡ false) (since : IsBeginning seen mid) (stays : own caller.seat mid ≡ own caller.seat seen) where
   adds_nothing_since : AddsNothing caller mid now → AddsNothing caller seen now
@@ -119,7 +119,7 @@ pub loses_length : {State Call Reply : Type 0} (object : Sequential State Call R
 loses_length object call zero seen now begins = let within = length-beginning begins in omega arith
 loses_length object call (suc times) seen now loses = omega (arith, length-beginning loses.2, length_push loses.0 loses.1, loses_length object call times (loses.0 ++ loses.1 ∷ []) now loses.4)
 
--- where every call is the caller's own, no exchange is lost
+-- if every call is the caller's own, no exchange is lost
 pub never_busy_among_own : {State Call Reply : Type 0} (object : Sequential State Call Reply) (caller : Caller) (seen : List (ℕ × Call)) (call : Call) (answer : Result Reply Fault) (now : List (ℕ × Call))
     → 0 < caller.tries → All (λ entry. entry.0 ≡ caller.seat) now → Ask object caller seen call answer now → IsNotBusy answer
 never_busy_among_own object caller seen call (Ok reply) now tries all ask = tt

@@ -22,13 +22,13 @@ length-beginning {beginning = beginning} {whole = whole} begins =
     let parts : length (beginning ++ begins.rest) ≡ length whole = ap length begins.makes in
     omega (arith, length-append beginning begins.rest)
 
--- a beginning with no fewer entries is the whole
+-- a prefix with no fewer entries is the whole
 pub begins_whole : {Entry : Type 0} (beginning whole : List Entry) → IsBeginning beginning whole → length whole ≤ length beginning → beginning ≡ whole
 begins_whole beginning whole begins short =
     let none : begins.rest ≡ [] = nil_from_length begins.rest (omega (arith, length-append beginning begins.rest, ap length begins.makes)) in
     sym (append-nil beginning) ∙ ap (λ rest. beginning ++ rest) (sym none) ∙ begins.makes
 
--- of two beginnings of a list the shorter begins the longer
+-- of two prefixes of a list the shorter is a prefix of the longer
 pub begins_shorter : {Entry : Type 0} (one two whole : List Entry) → IsBeginning one whole → IsBeginning two whole → length one ≤ length two → IsBeginning one two
 begins_shorter one two whole first second short =
     let left = length two - length one in

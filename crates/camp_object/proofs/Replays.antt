@@ -5,7 +5,7 @@ use Rattle.std.proofs.lemmas.Bool.{ne_eqb}
 use Rattle.std.proofs.lemmas.Option.{option_and_then_some, same_Some}
 use Rattle.std.proofs.lemmas.List.{append-nil}
 use Rattle.std.proofs.lemmas.List.Elements.{All-tail}
-use Rattle.camp_object.specs.Objects.{Sequential, IsLawfulObject}
+use Rattle.camp_object.specs.Objects.{Sequential, IsFirst, IsLawfulObject, begun}
 use Rattle.camp_object.specs.Histories.{IsBeginning, run, replay, IsLegal, IsAccepted, own}
 
 pub run-none : {State Call Reply : Type 0} (object : Sequential State Call Reply) (history : List (ℕ × Call)) → run object None history ≡ None
@@ -15,6 +15,42 @@ run-none object (entry ∷ history) = run-none object history
 pub run-append : {State Call Reply : Type 0} (object : Sequential State Call Reply) (state : Option State) (one two : List (ℕ × Call)) → run object state (one ++ two) ≡ run object (run object state one) two
 run-append object state [] two = refl
 run-append object state (entry ∷ one) two = run-append object (option_and_then (λ s. object.after s entry.1) state) one two
+
+-- what holds of an object holds of it where its histories begin with another state
+pub begun_lawful : {State Call Reply : Type 0} (object : Sequential State Call Reply) → IsLawfulObject object → (first : State) → IsFirst object first → IsLawfulObject (begun object first)
+begun_lawful object lawful first is = record {
+  starts = is.none_yet;
+  counts = lawful.counts;
+  begins = is.itself;
+  stays = lawful.stays;
+  writes = lawful.writes;
+  tells = lawful.tells;
+  tells_exactly = lawful.tells_exactly;
+  tells_none = lawful.tells_none;
+}
+
+-- a history can begin with the first state of each object
+pub initial_first : {State Call Reply : Type 0} (object : Sequential State Call Reply) → IsLawfulObject object → IsFirst object object.initial
+initial_first object lawful = record { none_yet = lawful.starts; itself = lawful.begins }
+
+-- a state that is there began with this one
+abbrev BeganWith : {State Call Reply : Type 0} → Sequential State Call Reply → State → Option State → Type 0
+BeganWith {State} object first option = (state : State) → option ≡ Some state → object.first state ≡ first
+
+run_began : {State Call Reply : Type 0} (object : Sequential State Call Reply) → IsLawfulObject object → (first : State) (from : Option State) (history : List (ℕ × Call))
+    → BeganWith object first from → BeganWith object first (run object from history)
+run_began object lawful first from [] began = began
+run_began object lawful first from (entry ∷ history) began =
+    run_began object lawful first (option_and_then (λ s. object.after s entry.1) from) history (
+    λ next is. option_and_then_some (λ s. object.after s entry.1) from next is (
+    λ state at gives. lawful.stays state entry.1 next gives ∙ began state at
+    )
+    )
+
+-- the state that a history leads to determines the state that it began with
+pub replay_began : {State Call Reply : Type 0} (object : Sequential State Call Reply) → IsLawfulObject object → (first : State) → IsFirst object first → (history : List (ℕ × Call)) (state : State) → replay (begun object first) history ≡ Some state → object.first state ≡ first
+replay_began {Call} object lawful first is history state replays =
+    run_began (begun object first) (begun_lawful object lawful first is) first (Some first) history (λ s at. ap object.first (same_Some s first (sym at)) ∙ is.itself) state replays
 
 -- one more call
 pub replay_more : {State Call Reply : Type 0} (object : Sequential State Call Reply) (history : List (ℕ × Call)) (entry : ℕ × Call) → replay object (history ++ entry ∷ []) ≡ option_and_then (λ s. object.after s entry.1) (replay object history)
@@ -31,12 +67,12 @@ pub accepted_at : {State Call Reply : Type 0} (object : Sequential State Call Re
 accepted_at object history call state next replays accepts =
     some_is_some (ap (option_and_then (λ s. object.after s call)) replays ∙ accepts)
 
--- what a legal history leads to
+-- the state after a legal history
 pub state_of_legal : {A : Type 0} (option : Option A) → IsSome option → (value : A) × (option ≡ Some value)
 state_of_legal None is = cc
 state_of_legal (Some value) is = (value, refl)
 
--- a beginning of a legal history is legal
+-- a prefix of a legal history is legal
 run_from_some : {State Call Reply : Type 0} (object : Sequential State Call Reply) (state : Option State) (rest : List (ℕ × Call)) → IsSome (run object state rest) → IsSome state
 run_from_some object None rest legal = sym (ap is_some (run-none object rest)) ∙ legal
 run_from_some object (Some state) rest legal = refl

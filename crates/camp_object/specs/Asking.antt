@@ -6,15 +6,15 @@ use Rattle.camp_object.specs.Histories.{IsBeginning, IsLegal, IsAccepted, IsAnsw
 use Rattle.camp_object.specs.declared.faults.Fault.{Fault}
 use Rattle.camp_object.specs.declared.faults.Fault.TheVariants.{Memory, Busy, Full}
 
--- who asks, and under which bounds
+-- a caller and its bounds
 pub record Caller : Type 0 where
   -- the number of its seat
   pub seat : ℕ
-  -- how many exchanges a call loses before its caller is told that the object is busy
+  -- the number of lost exchanges after which the caller gets Busy
   pub tries : ℕ
-  -- how many calls of the seat are accepted at most
+  -- the most accepted calls of the seat
   pub per_seat : ℕ
-  -- whether nobody else adds to the history; then neither bound holds
+  -- true if nobody else adds to the history; then neither bound holds
   pub alone : Bool
 
 -- a caller that is alone, at a seat
@@ -22,8 +22,8 @@ abbrev pub alone_at : ℕ → Caller
 alone_at seat = record { seat = seat; tries = 0; per_seat = 0; alone = true }
 
 module _ {Call : Type 0} (caller : Caller) (seen : List (ℕ × Call)) where
-  -- the call was accepted after all that its caller had seen: it ends the history, at this position, and is the one
-  -- new call of its caller
+  -- the call was accepted after all that its caller had seen: it is the last of the history, at this position, and
+  -- the one new call of its caller
   pub record Accepts (call : Call) (at : ℕ) (now : List (ℕ × Call)) : Type 0 where
     pub before : List (ℕ × Call)
     pub since : IsBeginning seen before
@@ -33,12 +33,13 @@ module _ {Call : Type 0} (caller : Caller) (seen : List (ℕ × Call)) where
     pub has_room : caller.alone ≡ false → length (own caller.seat seen) < caller.per_seat
     pub exact : caller.alone ≡ true → before ≡ seen
 
-  -- no call of the caller is new, and no call at all where it is alone
+  -- no call of the caller is new, and no call at all if it is alone
   pub record AddsNothing (now : List (ℕ × Call)) : Type 0 where
     pub own_stays : own caller.seat now ≡ own caller.seat seen
     pub exact : caller.alone ≡ true → now ≡ seen
 
--- the call lost so many times: at a beginning it was accepted but another call went ahead, and so on from there
+-- the call lost an exchange this number of times: each time it was accepted at a prefix of the history, but another
+-- call came next
 abbrev pub Loses : {State Call Reply : Type 0} → Sequential State Call Reply → Call → ℕ
     → List (ℕ × Call) → List (ℕ × Call) → Type 0
 Loses object call zero seen now = IsBeginning seen now
@@ -63,7 +64,7 @@ module _ {State Call Reply : Type 0} (object : Sequential State Call Reply)
     pub no_room : length (own caller.seat seen) ≡ caller.per_seat
     pub accepted : IsAccepted object now call
 
-  -- what each answer says; a reply tells a position exactly where the call was accepted
+  -- what each answer says; a reply has a position exactly if the call was accepted
   abbrev pub Says : Result Reply Fault → List (ℕ × Call) → Type 0
   Says (Ok reply) now =
       MatchOption (object.done_at reply)
@@ -79,7 +80,7 @@ module _ {State Call Reply : Type 0} (object : Sequential State Call Reply)
     pub legal : IsLegal object now
     pub says : Says answer now
 
--- the caller is not told that the object is busy
+-- the caller does not get Busy
 abbrev pub IsNotBusy : {Reply : Type 0} → Result Reply Fault → Type 0
 IsNotBusy (Ok reply) = Unit {0}
 IsNotBusy (Err Memory) = Unit {0}

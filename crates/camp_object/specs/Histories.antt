@@ -3,7 +3,7 @@ use Rattle.std.specs.Prelude.{◌≡◌, ℕ, List, [], ◌∷◌, ◌++◌, Opt
 use Rattle.std.specs.Option.{option_and_then}
 use Rattle.camp_object.specs.Objects.{Sequential}
 
--- one list begins another
+-- one list is a prefix of another
 pub record IsBeginning {Entry : Type 0} (beginning whole : List Entry) : Type 0 where
   pub rest : List Entry
   pub makes : beginning ++ rest ≡ whole
@@ -23,7 +23,7 @@ module _ {State Call Reply : Type 0} (object : Sequential State Call Reply) wher
   abbrev pub replay : List (ℕ × Call) → Option State
   replay history = run (Some object.initial) history
 
-  -- each call is accepted at the replay of what stands before it
+  -- each call is accepted at the replay of the calls before it
   abbrev pub IsLegal : List (ℕ × Call) → Type 0
   IsLegal history = IsSome (replay history)
 

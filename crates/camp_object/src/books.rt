@@ -1,3 +1,4 @@
+//! The book: a state with the history that led to it.
 ghost use Rattle.std.specs.Prelude.{◌≡◌, [], Some, IfOk};
 ghost use Rattle.camp_object.specs.Histories.{replay, IsLegal};
 ghost use Rattle.camp_object.specs.Asking.{Ask, alone_at};
@@ -39,14 +40,14 @@ impl<State: Object> Book<State> {
         })
     }
 
-    /// The state after the calls of the history.
+    /// Returns the state after the calls of the history.
     pub fn state(&self) -> &State
         ensures exact { replay State.object self.now ≡ Some result.now }
     {
         &self.state
     }
 
-    /// The accepted calls in order, each under its seat.
+    /// Returns the accepted calls in order, each under its seat.
     pub fn history(&self) -> &[(u32, State::Call)]
         ensures value { result.now ≡ self.now }
         ensures legal { IsLegal State.object self.now }
@@ -54,7 +55,8 @@ impl<State: Object> Book<State> {
         &self.history
     }
 
-    /// Asks for a seat. An accepted call is booked under it. The only fault is want of memory.
+    /// Executes a call for a seat. An accepted call is appended to the book under the seat. The only fault is
+    /// out of memory.
     pub fn ask(&mut self, seat: u32, call: &State::Call) -> Result<State::Reply, Fault>
         ensures asks { Ask State.object (alone_at seat) self.old call.now result self.new }
     {

@@ -1,15 +1,19 @@
+//! The desk: where one caller asks an object.
 ghost use Rattle.std.specs.Prelude.{◌≡◌, List, ℕ};
 ghost use Rattle.std.proofs.Common.{refl, ◌∙◌};
 ghost use Rattle.camp_object.specs.Asking.{Ask, Caller, IsNotBusy, alone_at};
+ghost use Rattle.camp_object.specs.Objects.{begun};
 
 use crate::{Book, Fault, Object};
 
 /// Where one caller asks an object. Its calls are answered at a history that others may lengthen.
-/// Proofs see who asks (`caller`), the history that it has seen (`seen`), whether nobody else can ask
-/// (`is_only`), and whether one desk is another at a later moment (`keeps`): what the desk lends stays
-/// the same.
+/// Proofs see who asks (`caller`), the state that the history begins with (`first`), the history that the
+/// caller has seen (`seen`), whether nobody else can ask (`is_only`), and whether one desk is another at a
+/// later moment (`keeps`): what the desk lends stays the same.
 pub trait Desk<State: Object> {
     ghost caller: { Self → Caller };
+
+    ghost first: { Self → State };
 
     ghost seen: { Self → List (ℕ × State.Call) };
 
@@ -20,7 +24,8 @@ pub trait Desk<State: Object> {
     fn ask(&mut self, call: &State::Call) -> Result<State::Reply, Fault>
         ensures keeps { keeps self.old self.new }
         ensures caller { caller self.new ≡ caller self.old }
-        ensures asks { Ask State.object (caller self.old) (seen self.old) call.now result (seen self.new) }
+        ensures first { first self.new ≡ first self.old }
+        ensures asks { Ask (begun State.object (first self.old)) (caller self.old) (seen self.old) call.now result (seen self.new) }
         ensures only { is_only self.old → IsNotBusy result };
 
     ghost reflexive: { (desk : Self) → keeps desk desk };
@@ -39,6 +44,7 @@ impl<'a, State: Object> BookDesk<'a, State> {
     pub fn new(book: &'a mut Book<State>, seat: u32) -> BookDesk<'a, State>
         ensures lends { result.book.ghost_name ≡ book.entry.ghost_name }
         ensures caller { ⟦<BookDesk<'a, State> as Desk<State>>⟧.caller result ≡ alone_at seat }
+        ensures first { ⟦<BookDesk<'a, State> as Desk<State>>⟧.first result ≡ State.object.initial }
         ensures seen { ⟦<BookDesk<'a, State> as Desk<State>>⟧.seen result ≡ book.old }
     {
         BookDesk { book, seat }
@@ -47,6 +53,8 @@ impl<'a, State: Object> BookDesk<'a, State> {
 
 impl<'a, State: Object> Desk<State> for BookDesk<'a, State> {
     ghost caller = { λ desk. alone_at desk.seat };
+
+    ghost first = { λ _. State.object.initial };
 
     ghost seen = { λ desk. desk.book.now };
 

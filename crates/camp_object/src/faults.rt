@@ -1,3 +1,4 @@
+//! Why a call got no reply.
 ghost use Rattle.std.specs.Prelude.{◌≡◌};
 ghost use Rattle.camp_object.specs.declared.faults.Fault.TheVariants as fault;
 
@@ -9,10 +10,10 @@ use thiserror::Error;
 pub enum Fault {
     #[error("out of memory")]
     Memory,
-    /// Another call went ahead of this one as often as the caller tries.
+    /// Other calls were accepted before this one as often as the caller tries.
     #[error("busy after {lost} lost exchanges")]
     Busy { lost: u32 },
-    /// The call would be accepted, but its seat has as many accepted calls as it may.
+    /// The call would be accepted, but its seat has its most accepted calls.
     #[error("the seat is full")]
     Full,
 }

@@ -1,10 +1,11 @@
+//! What an object is: its first state, its decisions and its replies.
 ghost use Rattle.std.specs.Prelude.{◌≡◌, ◌<◌, ◌^◌, ◌-◌, ◌↔◌, IfOk, IsTrue};
 ghost use Rattle.camp_object.specs.Objects.{Sequential, IsLawfulObject};
 ghost use Rattle.camp_object.specs.Deciding.{Decides};
 
 use std::alloc::{AllocError, Global};
 
-/// What a call comes to.
+/// The result of a call.
 #[derive(Drop)]
 pub enum Decided<State, Reply> {
     /// The call is accepted, and this is the state after it.
@@ -24,15 +25,19 @@ pub trait Object: Sized + Drop {
     fn initial(alloc: Global) -> Result<Self, AllocError>
         ensures { IfOk result (λ state. state ≡ object.initial) };
 
+    /// True if histories that lead to the two states began with the same state.
+    fn begins_alike(&self, other: &Self) -> bool
+        ensures { IsTrue result ↔ (object.first self.now ≡ object.first other.now) };
+
     fn decide(&self, call: &Self::Call) -> Result<Decided<Self, Self::Reply>, AllocError>
         requires { object.count self.now < 2 ^ 64 - 1 }
         ensures { IfOk result (Decides object self.now call.now) };
 
-    /// The reply to an accepted call at a position of the history, counted from 1.
+    /// Returns the reply to an accepted call at a position of the history, counted from 1.
     fn done(at: u64) -> Self::Reply
         ensures { result ≡ object.done at };
 
-    /// The position that a reply tells, if its call was accepted.
+    /// Returns the position in a reply, if its call was accepted.
     fn done_at(reply: &Self::Reply) -> Option<u64>
         ensures { result ≡ object.done_at reply.now };
 

@@ -1,4 +1,4 @@
--- What a call passes on its way to a next state.
+-- The tests that an accepted call has passed.
 use Rattle.camp_repo.proofs.Words.{◌≡◌, ℕ, Bool, true, false, List, [], Option, None, Some, Result, Ok, Err, bytes_eq, refl, option_map_or, Files, Catch, Outcome, Refusal, Next, Has, Branches, Contents, after, catches_of, with_catches, NoBranch, NoPatch, SameBranch, first_lacked, Decision, accepted, becomes, record_leads, refused, refused_if, step, with_branch, with_patches}
 use Rattle.camp_call.specs.declared.calls.Call.TheVariants as call
 use Rattle.camp_repo.specs.Objects.{next_of}

@@ -1,4 +1,4 @@
--- What is known of beginnings stays so while branches grow.
+-- What is known of common prefixes still holds when branches grow.
 use Rattle.camp_repo.proofs.Words.{◌≡◌, ℕ, zero, suc, List, [], ◌∷◌, ◌++◌, length, slice_get, slice_set, Some, Result, Ok, Err, IfOk, refl, sym, ap, ◌∙◌, subst, append-nil, all_append, none-some, same_Some, Catch, Agree, AgreesIn, AllHold, catches_in, placed, Branches, AllByRecursion, remove, agree_grown, agree_itself}
 use Rattle.std.proofs.lemmas.List.Elements.{All-from_recursion, All-set, recursion_from_All}
 use Rattle.camp_repo.specs.declared.beginnings.KnownBeginning.{KnownBeginning}
@@ -16,7 +16,7 @@ rest_more all rest more beginning hold steps branches w =
     let now = subst (AllByRecursion (AgreesIn branches)) steps (hold branches w) in
     now.1
 
--- the beginnings of two branches agree, as long as is known of their places
+-- the prefixes of two branches agree, for the length known of their pair
 pub known_agrees : (all rest more : List KnownBeginning) (beginning : KnownBeginning) (from to : ℕ) → RestHold all rest → rest ≡ beginning ∷ more → beginning.from ≡ from → beginning.to ≡ to → (branches : List (List Catch)) → AllByRecursion (AgreesIn branches) all → (theirs ours : List Catch) → slice_get branches from ≡ Some theirs → slice_get branches to ≡ Some ours → Agree theirs ours beginning.long
 known_agrees all rest more beginning from to hold steps is is_too branches w theirs ours there here =
     let now = subst (AllByRecursion (AgreesIn branches)) steps (hold branches w) in
@@ -25,7 +25,7 @@ known_agrees all rest more beginning from to hold steps is is_too branches w the
     let other = same_Some found.ours ours (sym found.to_is ∙ ap (slice_get branches) is_too ∙ here) in
     subst (λ l. Agree l ours beginning.long) one (subst (λ l. Agree found.theirs l beginning.long) other found.agree)
 
--- a branch at a place, and what it is where the one at another place grows
+-- a branch at an index, and the same branch after the one at another index has grown
 grown_at : (branches : Branches) (place i : ℕ) (old more b : List Catch) → slice_get (catches_in branches) place ≡ Some old → slice_get (catches_in branches) i ≡ Some b → (x : List Catch) × (slice_get (catches_in (placed branches place (old ++ more))) i ≡ Some (b ++ x))
 grown_at [] place i old more b is at = absurd (none-some b at)
 grown_at (h ∷ bs) zero zero old more b is at =
@@ -70,7 +70,7 @@ all_further branches new (known ∷ all) w =
       all_further branches new all w.1,
     )
 
--- what is known of a branch is so of its copy
+-- what is known of a branch holds of its copy
 pub from_copy : (branches : List (List Catch)) (known : KnownBeginning) (of copy : ℕ) → known.from ≡ of → AgreesIn branches known → slice_get branches copy ≡ slice_get branches of → AgreesIn branches (record { from = copy; to = known.to; long = known.long })
 from_copy branches known of copy is w same =
     record { theirs = w.theirs; ours = w.ours; from_is = same ∙ ap (slice_get branches) (sym is) ∙ w.from_is; to_is = w.to_is; agree = w.agree }
@@ -87,7 +87,7 @@ last_at : (branches : Branches) (name : List ℕ) (catches : List Catch) → sli
 last_at [] name catches = refl
 last_at (branch ∷ branches) name catches = last_at branches name catches
 
--- a copy of a branch, which stands behind all, agrees with it
+-- a copy of a branch, which comes last, agrees with it
 pub all_copied : (branches : Branches) (name : List ℕ) (of copy long : ℕ) (catches : List Catch) → slice_get (catches_in branches) of ≡ Some catches → copy ≡ length branches → long ≡ length catches → (known : List KnownBeginning) → AllHold branches known → (all : List KnownBeginning)
     → ((copied : List (List Catch)) → AllByRecursion (AgreesIn copied) known → slice_get copied copy ≡ slice_get copied of → AgreesIn copied (record { from = of; to = copy; long = long }) → AgreesIn copied (record { from = copy; to = of; long = long }) → AllByRecursion (AgreesIn copied) all)
     → AllHold (branches ++ (name, catches) ∷ []) all
@@ -100,7 +100,7 @@ all_copied branches name of copy long catches at behind whole known w all then_a
     (record { theirs = catches; ours = catches; from_is = old; to_is = new; agree = same })
     (record { theirs = catches; ours = catches; from_is = new; to_is = old; agree = same })
 
--- what holds where all of a list does, and one more
+-- a fact that holds of all elements of a list, and of one more
 abbrev pub HoldWithOne : {E : Type 0} → List KnownBeginning → KnownBeginning → Result (List KnownBeginning) E → Type 0
 HoldWithOne {E} known beginning result =
     IfOk result (λ all. (branches : List (List Catch)) → AllByRecursion (AgreesIn branches) known → AgreesIn branches beginning → AllByRecursion (AgreesIn branches) all)
@@ -118,6 +118,6 @@ pushed_hold known others beginning hold (Ok all) is = λ branches w new.
     subst (AllByRecursion (AgreesIn branches)) (sym is) (all_append (AgreesIn branches) others (beginning ∷ []) (hold branches w) (new, tt))
 pushed_hold known others beginning hold (Err error) is = tt
 
--- nothing is known at first
+-- at first nothing is known
 pub none_hold : (branches : Branches) (all : List KnownBeginning) → all ≡ [] → AllHold branches all
 none_hold branches all is = subst (AllHold branches) (sym is) tt

@@ -27,11 +27,11 @@ others_stay (branch ∷ rest) name other catches differs =
     (λ e. ap (cond (bytes_eq other branch.0) (Some branch.1)) (others_stay rest name other catches differs))
 
 module _ (P : List Catch → Type 0) where
-  -- what holds of all branches
+  -- a fact about all branches
   abbrev pub OfEach : Branches → Type 0
   OfEach branches = AllByRecursion (λ branch. P branch.1) branches
 
-  -- it holds of all where it holds of the other catches
+  -- it holds of all if it holds of the other catches
   pub of_each_with : (branches : Branches) (name : List ℕ) (catches : List Catch) → OfEach branches → P catches → OfEach (with_catches branches name catches)
   of_each_with [] name catches all new = all
   of_each_with (branch ∷ rest) name catches all new =

@@ -58,6 +58,6 @@ pub none_among : (names : List (List ℕ)) → is_empty names ≡ (length names 
 none_among [] = refl
 none_among (n ∷ names) = sym (eqb-suc-zero (length names))
 
--- a set has no name where it has no entry
+-- a set does not have a name if it has no entry for it
 pub none_there : (set : Names) → is_empty (keys set) ≡ (len set == 0)
 none_there set = none_among (keys set) ∙ ap (λ n. n == 0) (length-map (entries set) (λ e. e.0) ∙ sym (len-entries set))

@@ -24,7 +24,7 @@ pub next_lawful : (state : Contents) (call : Call) (next : Contents) → IsLawfu
 next_lawful state call next lawful e = steps_lawful state call next lawful (sym e)
 
 module _ (state : Contents) (branch name : List ℕ) (changes : List Primitive) (catches : List Catch) (tree : Files) (has : Has state branch catches) (free : stands state.branches name ≡ false) (small : is_too_large state.limits.catches catches changes ≡ false) (leads : LeadsTo catches tree) where
-  -- the record comes to what its changes lead to
+  -- the decision on the record is that of its changes
   pub record_comes : record_leads state branch (catches ++ recorded name 1 changes) (changed changes tree) ≡ step_record state branch name changes
   record_comes =
       let found = tree_found catches tree leads in
@@ -53,7 +53,7 @@ module _ (state : Contents) (from to : List ℕ) (names : Option (List (List ℕ
           (outcomes_are_determined.pulls theirs ours (wanted ours (listed theirs names))).2 outcome
           (pull_alike set (wanted ours (listed theirs names)) alike theirs ours outcome gives)
 
-      -- the pull comes to its outcome
+      -- the decision on the pull is its outcome
       pub pull_comes : becomes state to outcome ≡ step_pull state from to names
       pull_comes =
           ap (becomes state to) is_pulled ∙ rw has_theirs (rw has_ours (rw two (rw all (rw some (rw few refl)))))
@@ -67,7 +67,7 @@ module _ (state : Contents) (branch : List ℕ) (names : List (List ℕ)) (catch
   is_obliterated =
       (outcomes_are_determined.obliterates catches names).2 outcome (obliterate_alike set names alike catches outcome gives)
 
-  -- the obliteration comes to its outcome
+  -- the decision on the obliteration is its outcome
   pub obliterate_comes : becomes state branch outcome ≡ step_obliterate state branch names
   obliterate_comes = ap (becomes state branch) is_obliterated ∙ rw has (rw all (rw some refl))
 

@@ -8,7 +8,7 @@ use Rattle.camp_repo.proofs.LawfulBranches.{lawful_alone, left_lawful, pulled_la
 use Rattle.camp_repo.proofs.SizeSteps.{sized_of}
 use Rattle.camp_repo.proofs.TreeSteps.{changes_apply, tree_found}
 
--- what comes of a pull that goes through
+-- the effect of a pull that succeeds
 pub pull_gives : (from to pulled_to : List Catch) (names : List (List ℕ)) → pulled from to names ≡ Ok pulled_to → PullGives from to names (Ok pulled_to)
 pull_gives from to pulled_to names e = subst (PullGives from to names) e (outcomes_are_determined.pulls from to names).1
 
@@ -16,7 +16,7 @@ pull_gives from to pulled_to names e = subst (PullGives from to names) e (outcom
 pub obliterate_gives : (branch left : List Catch) (names : List (List ℕ)) → obliterated branch names ≡ Ok left → ObliterateGives branch names (Ok left)
 obliterate_gives branch left names e = subst (ObliterateGives branch names) e (outcomes_are_determined.obliterates branch names).1
 
--- what is wanted is lacked
+-- each wanted name is lacked
 pub wanted_is_lacked : (ours : List Catch) (names : List (List ℕ)) → AreLacked ours (wanted ours names)
 wanted_is_lacked ours names name among =
     let both = and_parts (is_among names name) _ (sym (among_kept (λ n. not (has_patch ours n)) names name) ∙ among) in
@@ -41,7 +41,7 @@ pub lawful_branch : (state : Contents) (lawful : IsLawfulState state) (branch : 
 lawful_branch state lawful branch catches has =
     of_one (IsLawfulBy lawful.changes_of) state.branches branch catches lawful.lawful has
 
--- the branches, one of them with other catches, by these numbers of changes
+-- lawful branches, after the catches of one were replaced, for these numbers of changes
 with_lawful : (state next : Contents) (branch : List ℕ) (catches : List Catch) (changes_of : List ℕ → ℕ) → IsLawfulState state → OfEach (IsLawfulBy changes_of) state.branches → IsLawfulBy changes_of catches → accepted state (with_catches state.branches branch catches) ≡ Next next → IsLawfulState next
 with_lawful state next branch catches changes_of lawful each new e = subst IsLawfulState (next_is state next (with_catches state.branches branch catches) e) (record {
   distinct = subst AreDistinct (sym (names_stay state.branches branch catches)) lawful.distinct;
@@ -185,7 +185,7 @@ called state (call.Names branch) next lawful e = let there = has_branch state ne
 pub accepted_calls : AcceptedCallsHaveEffect
 accepted_calls state call next lawful e = (called state call next lawful e).0
 
--- what the functions give is what the relations say
+-- the functions give exactly what the relations say
 pub outcomes_defined : OutcomesAreDefined
 outcomes_defined = record {
   pulls = λ from to wanted. (outcomes_are_determined.pulls from to wanted).1;

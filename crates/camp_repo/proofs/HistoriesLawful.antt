@@ -1,4 +1,4 @@
--- The state behind a legal history of calls.
+-- The state after a legal history of calls.
 use Rattle.camp_repo.proofs.Words.{◌≡◌, ℕ, List, [], ◌∷◌, Option, None, Some, subst, refl, same_Some, option_and_then, Call, Next, Answer, IsLawfulState, repositories_are_lawful, sym, Contents, new_within, Decision, step, HistoriesAreCounted, HistoriesAreLawful, HistoriesKeepLimits, HistoriesTellTrees, StepsKeepLimits, ◌∙◌, ap, Bounds}
 use Rattle.camp_object.specs.Histories.{run}
 use Rattle.camp_object.proofs.Replays.{count-replay}
@@ -10,12 +10,12 @@ use Rattle.camp_repo.proofs.StepsLawful.{initial_lawful, steps_lawful, trees_ans
 abbrev IsLawfulIfThere : Option Contents → Type 0
 IsLawfulIfThere o = (state : Contents) → o ≡ Some state → IsLawfulState state
 
--- what a decision leads to
+-- the state after a decision
 of_decision : (d : Decision) (state : Contents) → next_of d ≡ Some state → d ≡ Next state
 of_decision (Next next) state is = rw (same_Some next state is) refl
 of_decision (Answer answer) state is = cc
 
--- one more call keeps it
+-- one more call keeps it lawful
 one_more : (first : Option Contents) (call : Call) → IsLawfulIfThere first
     → IsLawfulIfThere (option_and_then (λ s. next_of (step s call)) first)
 one_more None call lawful state there = cc

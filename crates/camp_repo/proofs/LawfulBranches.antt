@@ -1,4 +1,4 @@
--- Branches in which each name goes with its number of changes.
+-- Branches in which each name has its number of changes.
 use Rattle.camp_repo.proofs.Words.{◌≡◌, ◌≤◌, ℕ, false, not, if◌then◌else◌, cond, List, [], ◌∷◌, ◌++◌, Ok, length, bytes_eq, sym, ap, ◌∙◌, AllByRecursion, Files, Primitive, Catch, ObliterateGives, PullGives, IsLawfulBy, AppliesEach, AreLacked, others_of, those_of, left_tree, pulled_tree, recorded_tree, all_append, all_filter, name_itself, or_parts}
 use Rattle.camp_branch.specs.Branches.{IsLawfulBranch as IsLawfulBranch, LeadsTo, Patch, has_patch, is_among, patch_names, recorded}
 use Rattle.camp_branch.proofs.BranchLabels.{left_patches, not_a_patch, pulled_patches, recorded_patches}
@@ -7,7 +7,7 @@ use Rattle.camp_branch.proofs.BranchLabels.{left_patches, not_a_patch, pulled_pa
 pub lawful_alone : (changes_of : List ℕ → ℕ) (catches : List Catch) → IsLawfulBy changes_of catches → IsLawfulBranch catches
 lawful_alone changes_of catches v = record { patches = v.patches; has = v.has; tree = v.tree; leads = v.leads }
 
--- what a pull gives
+-- the branch after a pull
 pub pulled_lawful : (changes_of : List ℕ → ℕ) (from to pulled : List Catch) (wanted : List (List ℕ)) → PullGives from to wanted (Ok pulled) → IsLawfulBy changes_of from → IsLawfulBy changes_of to → AreLacked to wanted → IsLawfulBy changes_of pulled
 pulled_lawful changes_of from to pulled wanted gives v w lacked =
     let tree = pulled_tree from to pulled wanted v.tree w.tree gives v.leads w.leads in
@@ -20,7 +20,7 @@ pulled_lawful changes_of from to pulled wanted gives v w lacked =
       leads = tree.1;
     }
 
--- what an obliteration leaves
+-- the branch after an obliteration
 pub left_lawful : (changes_of : List ℕ → ℕ) (branch left : List Catch) (names : List (List ℕ)) → ObliterateGives branch names (Ok left) → IsLawfulBy changes_of branch → IsLawfulBy changes_of left
 left_lawful changes_of branch left names gives v =
     let tree = left_tree branch left names v.tree gives v.leads in
@@ -33,7 +33,7 @@ left_lawful changes_of branch left names gives v =
       leads = tree.1;
     }
 
--- the numbers of changes, with another one for a name
+-- the number of changes of each name, with another number for one name
 abbrev pub with_number : (List ℕ → ℕ) → List ℕ → ℕ → List ℕ → ℕ
 with_number changes_of name changes other = if bytes_eq name other then changes else changes_of other
 

@@ -12,6 +12,7 @@ pub mod LawfulBranches
 pub mod NameSteps
 pub mod PlaceSteps
 pub mod RecordSteps
+pub mod SameLimits
 pub mod SizeSteps
 pub mod StateSteps
 pub mod StepsLawful

@@ -15,7 +15,7 @@ without_has : (a b o : Bool) → (a ≡ true → o ≡ true) → (b && not o) �
 without_has true b o has = ap (λ x. b && not x) (has refl) ∙ and_false b ∙ sym (ap not (has refl))
 without_has false b o has = refl
 
--- what is wanted stands behind beginnings that agree
+-- the wanted catches come after prefixes that agree
 pub wanted_behind_fronts : (theirs ours : List Catch) (m : ℕ) → Agree theirs ours m → (name : List ℕ) → is_among (wanted ours (map name_of (drop m theirs))) name ≡ is_among (wanted ours (names_of theirs)) name
 wanted_behind_fronts theirs ours m agree name =
     let lacks : List ℕ → Bool = λ n. not (has_patch ours n) in
@@ -31,7 +31,7 @@ no_wanted : (w o : Bool) → (w ≡ true → o ≡ false) → o ≡ true → w �
 no_wanted true o lacks has = absurd (true≢false (sym has ∙ lacks refl))
 no_wanted false o lacks has = refl
 
--- catches of lacked names stand behind beginnings that agree
+-- catches of lacked names come after prefixes that agree
 pub named_behind : (theirs ours : List Catch) (m : ℕ) (names : List (List ℕ)) → Agree theirs ours m → AreLacked ours names → catches_named names theirs ≡ catches_named names (drop m theirs)
 named_behind theirs ours m names agree lacked =
     let none = none_named names (take m theirs) (λ n has. no_wanted (is_among names n) (has_patch ours n) (lacked n) (agreed_has theirs ours m agree n has)) in

@@ -27,7 +27,7 @@ zip_stands (n ∷ ns) [] name e = cc
 zip_stands (n ∷ ns) (b ∷ bs) name e =
     ap (λ t. has_patch b name || t) (zip_stands ns bs name (ap pred e))
 
--- the first branch of a name stands at a place
+-- the first branch of a name is at an index
 pub record StandsAt (names : List (List ℕ)) (branches : List (List Catch)) (name : List ℕ) (place : ℕ) : Type 0 where
   pub within : place < length branches
   pub has : slice_get branches place ≡ catches_of (zip names branches) name
@@ -69,7 +69,7 @@ missing_from (n ∷ names) (b ∷ branches) name i e =
     (λ here at. absurd (none-some i (sym at)))
     (λ there at. ap (λ t. cond t (Some b) (catches_of (zip names branches) name)) there ∙ missing_from names branches name (i + 1) at) e
 
--- the place that a search finds
+-- the index that a search finds
 pub found : (names : List (List ℕ)) (branches : List (List Catch)) (name : List ℕ) (place : ℕ) → length names ≡ length branches → position (bytes_eq name) names ≡ Some place → StandsAt names branches name place
 found names branches name place long e =
     let w = found_from names branches name 0 place long (sym (position_from-zero (bytes_eq name) names) ∙ e) in
@@ -77,7 +77,7 @@ found names branches name place long e =
     let same : w.0 ≡ place = omega arith in
     subst (StandsAt names branches name) same w.2
 
--- where a search finds none, there is no branch of the name
+-- if a search finds none, there is no branch of the name
 pub missing : (names : List (List ℕ)) (branches : List (List Catch)) (name : List ℕ) → position (bytes_eq name) names ≡ None → catches_of (zip names branches) name ≡ None
 missing names branches name e =
     missing_from names branches name 0 (sym (position_from-zero (bytes_eq name) names) ∙ e)

@@ -5,7 +5,7 @@ use Rattle.camp_repo.proofs.BranchSteps.{free_of_each, of_one}
 use Rattle.camp_repo.proofs.DecideSteps.{next_lawful, record_accepted}
 use Rattle.camp_repo.proofs.TreeSteps.{changes_apply}
 
--- a name that stands nowhere is not that of a patch of the branch
+-- a name that no branch has is not that of a patch of the branch
 pub is_new : (state : Contents) (branch name : List ℕ) (catches : List Catch) → Has state branch catches → stands state.branches name ≡ false → has_patch catches name ≡ false
 is_new state branch name catches has free =
     of_one (λ catches. has_patch catches name ≡ false) state.branches branch catches (free_of_each state.branches name free) has

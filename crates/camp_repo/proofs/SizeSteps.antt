@@ -27,7 +27,8 @@ short_or_gone (Add path) old tree never adds = sym (ap (has_long_file path) adds
 short_or_gone (Remove path) old tree never removes = sym (ap (has_long_file path) removes.becomes ∙ ap is_long (get_removed old path))
 short_or_gone (Hunk edit) old tree never applies = absurd (never edit refl)
 
--- a branch has room for what another one has behind beginnings that agree, and so for those of some names
+-- if a branch has headroom for all that another one has after agreeing prefixes, it has headroom for those of some
+-- names
 pub has_room : (most : ℕ) (ours theirs : List Catch) (long : ℕ) (names : List (List ℕ)) → Agree theirs ours long → AreLacked ours names → length ours + (length theirs - long) ≤ most → false ≡ is_full_with most ours theirs names
 has_room most ours theirs long names agree lacked room =
     let behind = drop long theirs in

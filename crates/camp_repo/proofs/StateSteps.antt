@@ -8,7 +8,7 @@ module _ (names : List (List ℕ)) (branches : List (List Catch)) (count : ℕ) 
   same_branches : zip names branches ≡ now.branches
   same_branches = ap (λ s. s.branches) view
 
-  -- a place among the branches is one among their fields
+  -- an index of the branches is an index of the fields
   pub within_fields : length branches ≡ length now.branches
   within_fields = sym (as_long names branches long) ∙ ap length same_branches
 
@@ -38,7 +38,7 @@ module _ (names : List (List ℕ)) (branches : List (List Catch)) (count : ℕ) 
         let made = (λ i. zip (next_keys i) (pushed i)) ∙ zip_grown names branches name branch long ∙ ap (λ bs. bs ++ (name, branch) ∷ []) same_branches in
         λ i. record { branches = made i; count = (view i).count + 1; limits = (view i).limits }
 
--- the branch of a name is at a place
+-- the branch of a name is at an index
 pub settled_by_name : (state : Contents) (name : List ℕ) (place : ℕ) (outcome : Outcome) → ((catches : List Catch) → placed state.branches place catches ≡ with_catches state.branches name catches) → settled state place outcome ≡ becomes state name outcome
 settled_by_name state name place (Ok catches) is = ap (accepted state) (is catches)
 settled_by_name state name place (Err why) is = refl

@@ -3,7 +3,7 @@ use Rattle.camp_repo.proofs.Words.{◌≡◌, Bool, true, false, cond, List, [],
 use Rattle.camp_prim.specs.declared.named.Named.{Named}
 use Rattle.camp_seq.specs.Running.{AppliesAll}
 
--- what primitives lead to is what the function gives
+-- primitives lead to exactly the tree that the function gives
 pub leads_after : (ps : List Named) (old new : Files) → AppliesAll ps old new → tree_after old ps ≡ Some new
 leads_after [] old new e = ap Some (sym e)
 leads_after (p ∷ ps) old new v =

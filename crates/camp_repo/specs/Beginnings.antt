@@ -1,4 +1,4 @@
--- What a state knows of the beginnings of its branches.
+-- What a state knows of the common prefixes of its branches.
 use Rattle.std.specs.Prelude.{◌≡◌, List, Some, map, slice_get}
 use Rattle.std.specs.List.{AllByRecursion}
 use Rattle.camp_catch.specs.declared.catches.Catch.{Catch}
@@ -10,7 +10,7 @@ use Rattle.camp_repo.specs.declared.beginnings.KnownBeginning.{KnownBeginning}
 abbrev pub catches_in : Branches → List (List Catch)
 catches_in branches = map (λ branch. branch.1) branches
 
--- there are two branches at these places, and their beginnings agree for this length
+-- there are branches at these two indexes, and their prefixes of this length agree
 pub record AgreesIn (branches : List (List Catch)) (known : KnownBeginning) : Type 0 where
   pub theirs : List Catch
   pub ours : List Catch

@@ -1,15 +1,15 @@
--- How a state lies in its fields.
+-- The representation of a state in its fields.
 use Rattle.std.specs.Prelude.{◌≡◌, length, zip}
 use Rattle.camp_repo.specs.Beginnings.{AllHold}
 use Rattle.camp_repo.specs.Lawful.{IsLawfulState}
 use Rattle.camp_repo.specs.States.{Contents}
 use Rattle.camp_repo.specs.declared.states.State.TheInside.{Inside}
 
--- the names and the branches stand side by side, in order of creation
+-- names and branches, paired by index, in order of creation
 abbrev pub contents_of : Inside → Contents
 contents_of state = record { branches = zip state.names.keys state.branches; count = state.count; limits = state.limits }
 
--- there are as many names as branches, the state is lawful, and what is known of beginnings of its branches holds
+-- there are as many names as branches, the state is lawful, and what it knows of common prefixes holds
 pub record IsState (state : Inside) : Type 0 where
   pub as_many : length state.names.keys ≡ length state.branches
   pub lawful : IsLawfulState (contents_of state)

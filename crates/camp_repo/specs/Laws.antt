@@ -1,4 +1,4 @@
--- The laws of what calls come to.
+-- The laws of calls on a repository.
 use Rattle.std.specs.Prelude.{◌≡◌, ◌≢◌, ℕ, ◌+◌, List, [], ◌∷◌, ◌++◌, length, Option, Some, filter}
 use Rattle.camp_base.specs.Trees.{Files}
 use Rattle.camp_prim.specs.declared.primitives.Primitive.{Primitive}
@@ -25,7 +25,7 @@ use Rattle.camp_repo.specs.Steps.{listed, step, wanted}
 abbrev pub Has : Contents → List ℕ → List Catch → Type 0
 Has state branch catches = catches_of state.branches branch ≡ Some catches
 
--- one more call is counted, the limits stay, and no branch but this one changes, comes or goes
+-- one more call is counted, the limits stay, and no branch but this one changes, appears or disappears
 pub record ChangesOne (branch : List ℕ) (old new : Contents) : Type 0 where
   pub counted : new.count ≡ old.count + 1
   pub limits : new.limits ≡ old.limits
@@ -40,8 +40,8 @@ pub record Copies (new_branch from : List ℕ) (old new : Contents) : Type 0 whe
   pub was : Has old from catches
   pub becomes : new.branches ≡ old.branches ++ (new_branch, catches) ∷ []
 
--- a patch of these changes is put at the end of a branch, and they lead, one after the other, from the tree of the
--- branch to its next one
+-- a patch of these changes is appended to a branch, and they lead, in order, from the tree of the branch to its next
+-- one
 pub record Records (branch name : List ℕ) (changes : List Primitive) (old new : Contents) : Type 0 where
   pub changes_one : ChangesOne branch old new
   pub catches : List Catch
@@ -52,8 +52,8 @@ pub record Records (branch name : List ℕ) (changes : List Primitive) (old new 
   pub leads : LeadsTo catches tree
   pub applies : AppliesEach changes tree next_tree
 
--- a branch keeps its catches, and has further ones behind them; its names are its old ones and then, in the order of
--- the other branch, the wanted ones
+-- a branch keeps its catches and gets further ones after them; its names are its old ones followed by the wanted
+-- ones, in the order of the other branch
 pub record Pulls (from to : List ℕ) (names : Option (List (List ℕ))) (old new : Contents) : Type 0 where
   pub changes_one : ChangesOne to old new
   pub theirs : List Catch
@@ -101,8 +101,8 @@ StepsKeepLawful =
     (state : Contents) (call : Call) (next : Contents) → IsLawfulState state → step state call ≡ Next next →
     IsLawfulState next
 
--- each branch of a lawful state has a tree: that which its catches lead to, and with which the question for it is
--- answered; so no record is refused for want of one
+-- each branch of a lawful state has a tree: its catches lead to it, and a question for it is answered with it; so no
+-- record is refused for lack of one
 abbrev pub TreesAreAnswered : Type 0
 TreesAreAnswered =
     (state : Contents) (branch : List ℕ) (catches : List Catch) → IsLawfulState state → Has state branch catches →
@@ -115,8 +115,8 @@ HistoriesAreLawful =
     (limits : Bounds) (history : List (ℕ × Call)) (state : Contents) → replay (repository_within limits) history ≡ Some state →
     IsLawfulState state
 
--- after a legal history each branch has a tree: the effects of its catches, in their order, applied to the
--- empty tree; with it the question for the tree is answered
+-- after a legal history each branch has a tree: the effects of its catches, in order, applied to the empty tree; a
+-- question for the tree is answered with it
 abbrev pub HistoriesTellTrees : Type 0
 HistoriesTellTrees =
     (limits : Bounds) (history : List (ℕ × Call)) (state : Contents) (branch : List ℕ) (catches : List Catch)
@@ -124,7 +124,8 @@ HistoriesTellTrees =
     (tree : Files) × LeadsTo catches tree × (tree_of catches ≡ Some tree)
     × (step state (call.Tree branch) ≡ Answer (reply.Tree tree))
 
--- a state counts the calls of the history that leads to it, so the number that an accepted call is told is its place
+-- a state counts the calls of the history that leads to it, so the number in the reply to an accepted call is its
+-- position
 abbrev pub HistoriesAreCounted : Type 0
 HistoriesAreCounted =
     (limits : Bounds) (history : List (ℕ × Call)) (state : Contents) → replay (repository_within limits) history ≡ Some state →
@@ -140,7 +141,7 @@ HistoriesKeepLimits =
     (limits : Bounds) (history : List (ℕ × Call)) (state : Contents) → replay (repository_within limits) history ≡ Some state →
     state.limits ≡ limits
 
--- a pull, an obliteration and the conflicts of a branch come to what their definitions say
+-- a pull, an obliteration and the conflicts of a branch are as their definitions say
 pub record OutcomesAreDefined : Type 0 where
   pub pulls : (from to : List Catch) (wanted : List (List ℕ)) → PullGives from to wanted (pulled from to wanted)
   pub obliterates : (branch : List Catch) (names : List (List ℕ))

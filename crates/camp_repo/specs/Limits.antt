@@ -1,9 +1,9 @@
--- How far a repository may grow.
+-- The limits of a repository.
 use Rattle.std.specs.Prelude.{ℕ, ◌<◌, ◌≤◌, ◌&&◌, nat_le, if◌then◌else◌, Result, Ok, Err}
 use Rattle.camp_repo.specs.declared.faults.LimitFault.{LimitFault}
 use Rattle.camp_repo.specs.declared.faults.LimitFault.TheVariants.{Branches, Catches}
 
--- the limits of a repository: how many catches a branch has at most, and how many branches there are at most
+-- the limits of a repository: the most catches of a branch, and the most branches
 pub record Bounds : Type 0 where
   pub catches : ℕ
   pub branches : ℕ
@@ -19,7 +19,7 @@ pub record AreLimits (catches branches : ℕ) : Type 0 where
   pub some_branches : 0 < branches
   pub few_branches : branches ≤ 65_536
 
--- the limits of these numbers, or the first of them that can't be a limit
+-- the limits with these numbers, or the first number that can't be a limit
 abbrev pub bounded : ℕ → ℕ → Result Bounds LimitFault
 bounded catches branches =
     if nat_le 1 catches && nat_le catches 16_777_216

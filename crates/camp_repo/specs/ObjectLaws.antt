@@ -1,6 +1,6 @@
 -- The repository is lawful as an object.
 use Rattle.std.proofs.Common.{◌≡◌, ℕ, ◌+◌, Bool, true, false, List, ◌++◌, Option, None, Some, Result}
-use Rattle.std.proofs.Common.{Ok, Err, bytes_eq, is_some, length, nat_le, refl, subst}
+use Rattle.std.proofs.Common.{Ok, Err, ap, bytes_eq, is_some, length, nat_le, refl, subst}
 use Rattle.std.proofs.lemmas.Option.{same_Some}
 use Rattle.std.specs.Option.{option_map_or}
 use Rattle.camp_base.specs.Trees.{Files}
@@ -20,11 +20,11 @@ use Rattle.camp_object.specs.declared.objects.Decided.TheVariants.{Next, Answer}
 use Rattle.camp_repo.specs.Limits.{Bounds, default_bounds}
 use Rattle.camp_repo.specs.Objects.{next_of, number_told, repository, repository_within}
 use Rattle.camp_repo.specs.Outcomes.{obliterated, pulled}
-use Rattle.camp_repo.specs.States.{Contents, after, catches_of, stands, tree_of, with_catches}
+use Rattle.camp_repo.specs.States.{Contents, after, catches_of, new_within, stands, tree_of, with_catches}
 use Rattle.camp_repo.specs.Steps.{Decision, becomes, changed, is_empty, is_full_with, is_too_large}
 use Rattle.camp_repo.specs.Steps.{listed, record_leads, refused, refused_if, shown, step, wanted}
 
--- one thing of the next state, another of the answer
+-- one condition on the next state, another on the reply
 abbrev pub Comes : (Contents → Type 0) → (Reply → Type 0) → Decision → Type 0
 Comes P Q (Next state) = P state
 Comes P Q (Answer answer) = Q answer
@@ -69,7 +69,7 @@ abbrev pub CountsOne : Contents → Call → Contents → Type 0
 CountsOne state call next =
     (next.count ≡ state.count + 1) × (is_writing call ≡ true) × (next.limits ≡ state.limits)
 
--- the answer tells no number
+-- the reply has no number
 abbrev pub TellsNone : Reply → Type 0
 TellsNone answer = number_told answer ≡ None
 
@@ -139,6 +139,8 @@ repositories_are_lawful limits = record {
   starts = refl;
   counts = λ state call next is. (on_next (CountsOne state call) TellsNone (step state call) next
       (step_comes state call) is).0;
+  begins = refl;
+  stays = λ state call next is. ap new_within (limits_stay state call next is);
   writes = λ state call next is. (on_next (CountsOne state call) TellsNone (step state call) next
       (step_comes state call) is).1;
   tells = λ at. refl;

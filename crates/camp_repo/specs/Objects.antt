@@ -10,12 +10,12 @@ use Rattle.camp_repo.specs.Limits.{Bounds, default_bounds}
 use Rattle.camp_repo.specs.States.{Contents, new_within}
 use Rattle.camp_repo.specs.Steps.{Decision, step}
 
--- the state that a decision leads to, if it leads on
+-- the state after a decision, if the call is accepted
 abbrev pub next_of : Decision → Option Contents
 next_of (Next state) = Some state
 next_of (Answer answer) = None
 
--- the number that a reply tells, if it is one to an accepted call
+-- the number in a reply, if it is one to an accepted call
 abbrev pub number_told : Reply → Option ℕ
 number_told (reply.Done at) = Some at
 number_told (reply.Refused refusal) = None
@@ -23,12 +23,13 @@ number_told (reply.Tree tree) = None
 number_told (reply.Conflicts pairs) = None
 number_told (reply.Names names) = None
 
--- a repository with these limits as an object: a call is accepted where it comes to a next state
+-- a repository with these limits as an object: a call is accepted if it leads to a next state
 abbrev pub repository_within : Bounds → Sequential Contents Call Reply
 repository_within limits = record {
   initial = new_within limits;
   after = λ state call. next_of (step state call);
   answers = λ state call answer. step state call ≡ Answer answer;
+  first = λ state. new_within state.limits;
   count = λ state. state.count;
   is_writing = is_writing;
   done = reply.Done;
@@ -39,22 +40,22 @@ repository_within limits = record {
 abbrev pub repository : Sequential Contents Call Reply
 repository = repository_within default_bounds
 
--- the reply that a decision gives: an accepted call is told its number
+-- the reply for a decision: that to an accepted call has its number
 abbrev pub reply_of : Decision → Reply
 reply_of (Next state) = reply.Done state.count
 reply_of (Answer answer) = answer
 
--- the state behind a decision
+-- the state after a decision
 abbrev pub state_behind : Contents → Decision → Contents
 state_behind state (Next next) = next
 state_behind state (Answer answer) = state
 
--- the state after calls one after the other, refused ones among them
+-- the state after a list of calls, some of which may be refused
 abbrev pub state_after : Contents → List Call → Contents
 state_after state [] = state
 state_after state (call ∷ calls) = state_after (state_behind state (step state call)) calls
 
--- the replies to calls one after the other
+-- the replies to a list of calls
 abbrev pub replies_to : Contents → List Call → List Reply
 replies_to state [] = []
 replies_to state (call ∷ calls) = reply_of (step state call) ∷ replies_to (state_behind state (step state call)) calls

@@ -15,13 +15,13 @@ use Rattle.camp_repo.specs.Limits.{Bounds, default_bounds}
 abbrev pub Branches : Type 0
 Branches = List (List ℕ × List Catch)
 
--- the branches in order of creation, how many calls were accepted, and the limits, which no call changes
+-- the branches in order of creation, the number of accepted calls, and the limits, which no call changes
 pub record Contents : Type 0 where
   pub branches : Branches
   pub count : ℕ
   pub limits : Bounds
 
--- the state after one more accepted call, which leaves these branches
+-- the state after one more accepted call, with these branches
 abbrev pub after : Contents → Branches → Contents
 after state branches = record { branches = branches; count = state.count + 1; limits = state.limits }
 
@@ -38,17 +38,17 @@ abbrev pub catches_of : Branches → List ℕ → Option (List Catch)
 catches_of [] name = None
 catches_of (branch ∷ branches) name = if bytes_eq name branch.0 then Some branch.1 else catches_of branches name
 
--- the branches, where the one of this name has other catches
+-- the branches with the catches of the one of this name replaced
 abbrev pub with_catches : Branches → List ℕ → List Catch → Branches
 with_catches [] name catches = []
 with_catches (branch ∷ branches) name catches =
     if bytes_eq name branch.0 then (branch.0, catches) ∷ branches else branch ∷ with_catches branches name catches
 
--- whether a patch of a name stands in some branch
+-- some branch has a patch of a name
 abbrev pub stands : Branches → List ℕ → Bool
 stands branches name = list_any (λ branch. has_patch branch.1 name) branches
 
--- the tree that primitives, one after the other, lead to from this one, if each applies
+-- the tree that primitives, in order, lead to from this one, if each applies
 abbrev pub tree_after : Files → List Named → Option Files
 tree_after tree [] = Some tree
 tree_after tree (p ∷ ps) = option_and_then (λ next. tree_after next ps) (applied p.prim tree)

@@ -1,4 +1,4 @@
--- What a call leads to. Each kind of call has its tests, in an order, and the first that fails decides.
+-- The decision on a call. Each kind of call has its tests, in an order, and the first that fails decides.
 use Rattle.std.specs.Prelude.{ℕ, ◌+◌, Bool, true, false, not, ◌&&◌, ◌||◌, nat_le, nat_lt, if◌then◌else◌, List, [], ◌∷◌, ◌++◌}
 use Rattle.std.specs.Prelude.{length, filter, Option, None, Some, Result, Ok, Err, bytes_eq, is_some}
 use Rattle.std.specs.Option.{option_map_or}
@@ -29,7 +29,7 @@ use Rattle.camp_object.specs.declared.objects.Decided.TheVariants.{Next, Answer}
 use Rattle.camp_repo.specs.Outcomes.{conflicts_of, obliterated, pulled}
 use Rattle.camp_repo.specs.States.{Branches, Contents, after, catches_of, stands, tree_of, with_catches}
 
--- what a call comes to: the next state, or a reply
+-- a decision on a call: the next state, or a reply
 abbrev pub Decision : Type 0
 Decision = Decided Contents Reply
 
@@ -41,26 +41,26 @@ refused refusal = Answer (reply.Refused refusal)
 abbrev pub accepted : Contents → Branches → Decision
 accepted state branches = Next (after state branches)
 
--- the call goes on with the catches of a branch, and is refused where there is no branch of the name
+-- continues with the catches of a branch; refuses if there is no branch of the name
 abbrev pub with_branch : Contents → List ℕ → (List Catch → Decision) → Decision
 with_branch state name goes_on = option_map_or goes_on (catches_of state.branches name) (refused (NoBranch name))
 
--- where a test fails, the call is refused, and else it goes on
+-- refuses if a test is true, else continues
 abbrev pub refused_if : Bool → Refusal → Decision → Decision
 refused_if fails refusal goes_on = if fails then refused refusal else goes_on
 
--- the refusal that tells why a branch can't be changed
+-- the refusal that says why a branch can't be changed
 abbrev pub refusal_of : Blocked → Refusal
 refusal_of (blocked.Depends patch on) = Depends patch on
 refusal_of (blocked.Diverged name) = Diverged name
 refusal_of (blocked.NoMerge left right) = NoMerge left right
 
--- the branch of a name becomes what a pull or an obliteration comes to, or the call is refused
+-- the branch of a name becomes the outcome of a pull or an obliteration, or the call is refused
 abbrev pub becomes : Contents → List ℕ → Outcome → Decision
 becomes state branch (Ok catches) = accepted state (with_catches state.branches branch catches)
 becomes state branch (Err why) = refused (refusal_of why)
 
--- a branch is copied; the copy comes last, and there are at most as many branches as the limits of the state say
+-- a branch is copied; the copy comes last, and there are at most as many branches as the limits of the state allow
 abbrev pub step_branch : Contents → List ℕ → List ℕ → Decision
 step_branch state new from =
     with_branch state from (λ catches.
@@ -68,55 +68,56 @@ step_branch state new from =
     refused_if (nat_le state.limits.branches (length state.branches)) TooLarge (
     accepted state (state.branches ++ (new, catches) ∷ []))))
 
--- lines of a side of a hunk that a record takes
+-- the most lines of one side of a recorded hunk
 abbrev pub longest_side : ℕ
 longest_side = 65_535
 
--- lines of a file that a record leaves
+-- the most lines of a file after a record
 abbrev pub longest_file : ℕ
 longest_file = 1_000_000
 
--- whether a side of a hunk is longer than a record takes
+-- a side of a hunk is longer than a record allows
 abbrev pub has_long_side : Primitive → Bool
 has_long_side (Add path) = false
 has_long_side (Remove path) = false
 has_long_side (Hunk hunk) = nat_lt longest_side (length hunk.old) || nat_lt longest_side (length hunk.new)
 
--- whether the file of a path is longer than a record leaves
+-- the file of a path is longer than a record allows
 abbrev pub has_long_file : List ℕ → Files → Bool
 has_long_file path tree = option_map_or (λ lines. nat_lt longest_file (length lines)) (get tree path) false
 
--- what a change leads to: a tree whose file is not too long, or a refusal
+-- the tree after a change, if its file is not too long, or a refusal
 abbrev pub led_to : Primitive → Option Files → Result Files Refusal
 led_to change None = Err DoesNotApply
 led_to change (Some tree) = if has_long_file (path_of change) tree then Err TooLarge else Ok tree
 
--- then, from the tree that was led to
+-- the same, from the tree before it
 abbrev pub then_from : Result Files Refusal → (Files → Result Files Refusal) → Result Files Refusal
 then_from (Ok tree) goes_on = goes_on tree
 then_from (Err refusal) goes_on = Err refusal
 
--- what changes lead to, each from the tree that those before it leave; the first that fails decides
+-- the tree after changes, each applied to the tree that those before it give; the first that fails decides
 abbrev pub changed : List Primitive → Files → Result Files Refusal
 changed [] tree = Ok tree
 changed (change ∷ changes) tree = then_from (led_to change (applied change tree)) (changed changes)
 
--- what a record comes to whose changes lead to a tree, or to a refusal
+-- the decision on a record whose changes lead to a tree, or to a refusal
 abbrev pub record_leads : Contents → List ℕ → List Catch → Result Files Refusal → Decision
 record_leads state branch catches (Ok tree) = accepted state (with_catches state.branches branch catches)
 record_leads state branch catches (Err refusal) = refused refusal
 
--- whether there are as many changes as a patch may have, as there are in each record that a program holds
+-- the number of changes is one that a patch may have, as in each record that a program can hold
 abbrev pub is_patch_sized : List Primitive → Bool
 is_patch_sized changes = nat_le 1 (length changes) && nat_le (length changes) most_changes
 
--- whether a record is too large for a branch of at most so many catches: it would have more, or a side of a hunk is too
--- long; or it has not the size of a patch, which no program comes to
+-- a record is too large for a branch with this limit: the branch would have more catches, or a side of a hunk is too
+-- long; or it does not have the size of a patch, which no program reaches
 abbrev pub is_too_large : ℕ → List Catch → List Primitive → Bool
 is_too_large most catches changes =
     nat_lt most (length catches + length changes) || (list_any has_long_side changes || not (is_patch_sized changes))
 
--- a patch is appended to a branch, whole or not at all; the branch has at most as many catches as the limits of the state say
+-- a patch is appended to a branch as a whole or not at all; the branch has at most as many catches as the limits of
+-- the state allow
 abbrev pub step_record : Contents → List ℕ → List ℕ → List Primitive → Decision
 step_record state branch name changes =
     with_branch state branch (λ catches.
@@ -126,11 +127,11 @@ step_record state branch name changes =
     (λ tree. record_leads state branch (catches ++ recorded name 1 changes) (changed changes tree))
     (tree_of catches) (refused DoesNotApply))))
 
--- the call goes on where a branch has a patch of each listed name
+-- continues if a branch has a patch of each listed name
 abbrev pub with_patches : List Catch → List (List ℕ) → Decision → Decision
 with_patches catches names goes_on = option_map_or (λ name. refused (NoPatch name)) (first_lacked catches names) goes_on
 
--- the names that are listed: where there is no list, those of all patches
+-- the listed names or, without a list, those of all patches
 abbrev pub listed : List Catch → Option (List (List ℕ)) → List (List ℕ)
 listed theirs None = names_of theirs
 listed theirs (Some names) = names
@@ -139,7 +140,7 @@ listed theirs (Some names) = names
 abbrev pub wanted : List Catch → List (List ℕ) → List (List ℕ)
 wanted ours names = filter (λ name. not (has_patch ours name)) names
 
--- whether there is nothing in a list
+-- a list is empty
 abbrev pub is_empty : List (List ℕ) → Bool
 is_empty [] = true
 is_empty (name ∷ names) = false
@@ -148,11 +149,11 @@ is_empty (name ∷ names) = false
 abbrev pub catches_named : List (List ℕ) → List Catch → List Catch
 catches_named names catches = filter (λ k. is_among names (name_of k)) catches
 
--- whether a branch would have more than so many catches with those of these names of another
+-- a branch would exceed this limit with the catches of these names of another branch
 abbrev pub is_full_with : ℕ → List Catch → List Catch → List (List ℕ) → Bool
 is_full_with most ours theirs names = nat_lt most (length ours + length (catches_named names theirs))
 
--- patches of these names are pulled into a branch, which has at most as many catches as the limits of the state say
+-- patches of these names are pulled into a branch, which has at most as many catches as the limits of the state allow
 abbrev pub pull_wanted : Contents → List ℕ → List Catch → List Catch → List (List ℕ) → Decision
 pull_wanted state to theirs ours names =
     refused_if (is_empty names) NothingToDo (
@@ -168,7 +169,7 @@ step_pull state from to names =
     with_patches theirs (listed theirs names) (
     pull_wanted state to theirs ours (wanted ours (listed theirs names))))))
 
--- patches are taken out of a branch
+-- patches are removed from a branch
 abbrev pub step_obliterate : Contents → List ℕ → List (List ℕ) → Decision
 step_obliterate state branch names =
     with_branch state branch (λ catches.
@@ -181,7 +182,7 @@ abbrev pub shown : Option Files → Decision
 shown None = refused DoesNotApply
 shown (Some tree) = Answer (reply.Tree tree)
 
--- what a call comes to
+-- the decision on a call
 abbrev pub step : Contents → Call → Decision
 step state (call.Branch new from) = step_branch state new from
 step state (call.Record branch name changes) = step_record state branch name changes

@@ -1,3 +1,4 @@
+//! What a state knows of the common prefixes of its branches.
 ghost use Rattle.std.specs.Prelude.{◌≡◌, ◌<◌, ◌↔◌, List, [], Some, length, slice_get, IfOk, IfSome, IsTrue};
 ghost use Rattle.std.specs.List.{AllByRecursion};
 ghost use Rattle.camp_branch.specs.Agreeing.{Agree};
@@ -8,11 +9,11 @@ use camp_share::{Share, SharedList};
 use std::alloc::{AllocError, Global};
 use std::marker::Model;
 
-/// The most pairs of branches of which a state keeps how long their beginnings agree.
+/// The most pairs of branches of which a state keeps the length of their common prefix.
 const MAX_PAIRS: usize = 64;
 
-/// Two branches, by their places in the order of creation, and how long their beginnings are known
-/// to agree.
+/// Two branches, by their indexes in the order of creation, and the length of the prefixes that are known to
+/// agree.
 #[derive(Clone, Copy, Debug, PartialEq, Eq)]
 pub(crate) struct KnownBeginning {
     pub(crate) from: usize,
@@ -26,8 +27,8 @@ impl Share for KnownBeginning {
     }
 }
 
-/// Pairs of branches, and how long the beginnings of each are known to agree. Where there are too many
-/// pairs, the oldest is dropped. A pair of which more is learned keeps its place.
+/// Pairs of branches with the length of their prefixes that are known to agree. Beyond the limit the oldest
+/// pair is dropped. A pair of which more is learned keeps its position.
 #[derive(Drop)]
 pub(crate) struct KnownBeginnings {
     beginnings: SharedList<KnownBeginning>,
@@ -43,7 +44,7 @@ impl Model for KnownBeginnings {
 }
 
 impl KnownBeginnings {
-    /// Nothing is known.
+    /// Makes the empty list: nothing is known.
     pub(crate) fn none(alloc: Global) -> KnownBeginnings
         ensures { result ≡ [] }
     {
@@ -52,8 +53,7 @@ impl KnownBeginnings {
         }
     }
 
-    /// How long the beginnings of two branches are known to agree: 0 where nothing is known of
-    /// them.
+    /// Returns the length of the prefixes of two branches that are known to agree: 0 if nothing is known.
     pub(crate) fn between(&self, from: usize, to: usize) -> usize
         ensures { (branches : List (List Catch)) → AllByRecursion (AgreesIn branches) self.now
             → (theirs ours : List Catch) → slice_get branches from ≡ Some theirs → slice_get branches to ≡ Some ours
@@ -67,7 +67,7 @@ impl KnownBeginnings {
         0
     }
 
-    /// All pairs, with how long the beginnings of two branches agree.
+    /// Returns all pairs with the length of the agreeing prefixes of two branches set.
     pub(crate) fn learned(
         &self,
         from: usize,
@@ -81,8 +81,8 @@ impl KnownBeginnings {
         Ok(KnownBeginnings { beginnings })
     }
 
-    /// The pairs, but for the oldest where there are too many, and those of a new branch that is a copy of another: the
-    /// copy agrees with that one for this length, and with others as far as that one does.
+    /// Returns the pairs without the oldest beyond the limit, and with those of a new branch that is a copy
+    /// of another: the copy agrees with that one for this length, and with others as far as that one does.
     pub(crate) fn copied(
         &self,
         of: usize,
@@ -100,7 +100,7 @@ impl KnownBeginnings {
         Ok(KnownBeginnings { beginnings })
     }
 
-    /// An equal value. It shares everything with this one.
+    /// Copies the list, which shares everything with the copy.
     pub(crate) fn try_clone(&self) -> Result<KnownBeginnings, AllocError>
         ensures { IfOk result (λ copy. copy ≡ self.now) }
     {
@@ -115,8 +115,8 @@ fn is_of(beginning: &KnownBeginning, from: usize, to: usize) -> bool
     beginning.from == from && beginning.to == to
 }
 
-/// All pairs, with how long the beginnings of two branches agree: at the place of their pair, if
-/// there is one. Where there are too many pairs, the oldest is dropped.
+/// Returns all pairs with the length for two branches set, at the position of their pair if there is one.
+/// Beyond the limit the oldest pair is dropped.
 fn with_beginning(
     known: &SharedList<KnownBeginning>,
     from: usize,
@@ -137,7 +137,7 @@ fn with_beginning(
     others.pushed(beginning)
 }
 
-/// All pairs, and behind them those that hold of a copy of a branch too, as long as there is room.
+/// Returns all pairs followed by those that hold of a copy of a branch too, up to the limit.
 fn with_pairs_of_copy(
     known: &SharedList<KnownBeginning>,
     of: usize,
@@ -158,7 +158,7 @@ fn with_pairs_of_copy(
     Ok(all)
 }
 
-/// A pair with a branch in it, as it holds of the branch's copy.
+/// Returns a pair with a branch in it as it holds of the branch's copy.
 fn of_copy(beginning: &KnownBeginning, of: usize, copy: usize) -> Option<KnownBeginning>
     ensures { IfSome result (λ other. (branches : List (List Catch)) → AgreesIn branches beginning.now
         → slice_get branches copy ≡ slice_get branches of → AgreesIn branches other) }
@@ -181,11 +181,11 @@ fn of_copy(beginning: &KnownBeginning, of: usize, copy: usize) -> Option<KnownBe
     None
 }
 
-/// The place of the pair of two branches, if there is one.
+/// Returns the index of the pair of two branches, if there is one.
 fn place_of(known: &SharedList<KnownBeginning>, from: usize, to: usize) -> Option<usize>
     ensures { IfSome result (λ at. at < length known.now) }
 {
-    // The proof is told that a length is a number of the machine.
+    // States a fact for the prover: a length fits in a `usize`.
     prove!(known.len() <= usize::MAX);
     known
         .iter()

@@ -1,3 +1,4 @@
+//! The errors of making limits.
 use thiserror::Error;
 
 /// Why two numbers are not the limits of a repository.

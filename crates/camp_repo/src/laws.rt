@@ -1,3 +1,4 @@
+//! The laws of the repository, as functions whose contracts state them.
 ghost use Rattle.camp_repo.specs.Laws.{AcceptedCallsHaveEffect, HistoriesAreCounted, HistoriesAreLawful, HistoriesTellTrees};
 ghost use Rattle.camp_repo.specs.LimitLaws.{DefaultLimitsHold, StatesHoldTheirLimits};
 ghost use Rattle.camp_repo.specs.Laws.{HistoriesKeepLimits, InitialIsLawful, OutcomesAreDefined, RepositoryIsLawful, StepsKeepLawful, StepsKeepLimits, TreesAreAnswered};
@@ -13,9 +14,8 @@ pub fn steps_keep_lawful()
     ensures law { StepsKeepLawful }
 {}
 
-/// A branch is copied, and the copy comes last; a record puts its patch at the end of its branch; a
-/// pull puts the wanted patches behind those of its branch; an obliteration leaves the others. No
-/// other branch changes, and one more call is counted.
+/// A copy of a branch comes last; a record appends its patch to its branch; a pull appends the wanted patches
+/// to its branch; an obliteration keeps the others. No other branch changes, and one more call is counted.
 pub fn accepted_calls_have_effect()
     ensures law { AcceptedCallsHaveEffect }
 {}
@@ -25,14 +25,14 @@ pub fn histories_are_lawful()
     ensures law { HistoriesAreLawful }
 {}
 
-/// After every legal history, the tree of a branch is the effects of its catches applied to
-/// the empty tree, and the question for it is answered with that tree.
+/// After every legal history, the tree of a branch is the effects of its catches applied to the empty tree,
+/// and a question for it is answered with that tree.
 pub fn histories_tell_trees()
     ensures law { HistoriesTellTrees }
 {}
 
-/// A state counts the calls of the history that leads to it: the number that an accepted call is told
-/// is its place in the history, from 1.
+/// A state counts the calls of the history that leads to it: the number in the reply to an accepted call is
+/// its position in the history, from 1.
 #[tactic(auto, using(crate::proofs::HistoriesLawful::histories_counted))]
 pub fn histories_are_counted()
     ensures law { HistoriesAreCounted }
@@ -44,26 +44,26 @@ pub fn calls_keep_limits()
     ensures histories { HistoriesKeepLimits }
 {}
 
-/// A call that passes the tests before those of the limits is refused as too large exactly where a branch
-/// would have more catches, or the repository more branches, than its limits say; and else it goes on.
+/// A call that passes the tests before those of the limits is refused as too large exactly if a branch would
+/// have more catches, or the repository more branches, than its limits allow.
 #[tactic(auto, using(crate::proofs::LimitSteps::states_hold))]
 pub fn states_hold_their_limits()
     ensures law { StatesHoldTheirLimits }
 {}
 
-/// Where a repository was given no limits, these are 4,096 catches of a branch and 256 branches.
+/// Without given limits a repository has 4,096 catches in a branch and 256 branches at most.
 #[tactic(auto, using(crate::proofs::LimitSteps::default_limits_hold))]
 pub fn default_limits_hold()
     ensures law { DefaultLimitsHold }
 {}
 
-/// Each branch of a lawful state has a tree, with which the question for it is answered.
+/// Each branch of a lawful state has a tree, with which a question for it is answered.
 pub fn trees_are_answered()
     ensures law { TreesAreAnswered }
 {}
 
-/// What a pull, an obliteration and the question for conflicts come to is what the definitions of
-/// branches say.
+/// The results of a pull, an obliteration and a question for conflicts are those of the definitions of
+/// branches.
 #[tactic(auto, using(crate::proofs::Effects::outcomes_defined))]
 pub fn outcomes_are_defined()
     ensures law { OutcomesAreDefined }
@@ -71,7 +71,6 @@ pub fn outcomes_are_defined()
 
 /// A repository is an object, whatever its limits: it counts its accepted calls, and only calls that write are
 /// accepted.
-#[tactic(auto, using(crate::specs::ObjectLaws::repositories_are_lawful))]
 pub fn repository_is_lawful()
     ensures law { RepositoryIsLawful }
 {}

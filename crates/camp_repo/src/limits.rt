@@ -1,11 +1,11 @@
-ghost use Rattle.std.specs.Prelude.{◌≡◌, ◌<◌, ◌≤◌, ⊤};
+ghost use Rattle.std.specs.Prelude.{◌≡◌, ◌↔◌, ◌<◌, ◌≤◌, ⊤, IsTrue};
 ghost use Rattle.camp_repo.specs.Limits.{bounded, default_bounds};
 
 use crate::LimitFault;
 use std::alloc::AllocError;
 use std::marker::Model;
 
-/// How far a repository may grow: the most catches of a branch, 1 to 16,777,216, and the most branches, 1 to
+/// The limits of a repository: the most catches of a branch, 1 to 16,777,216, and the most branches, 1 to
 /// 65,536. Contracts see it as `Bounds`.
 #[derive(Debug)]
 pub struct Limits {
@@ -58,7 +58,7 @@ impl Limits {
     /// The greatest limit of the branches of a repository.
     pub const MAX_BRANCHES: usize = 65_536;
 
-    /// The limits of these numbers.
+    /// Makes the limits with these numbers.
     pub fn new(catches: usize, branches: usize) -> Result<Limits, LimitFault>
         ensures exact { result ≡ bounded catches branches }
     {
@@ -71,6 +71,17 @@ impl Limits {
         Ok(Limits { catches, branches })
     }
 
+    /// True if these are the limits of another repository too.
+    #[tactic(auto, using(crate::proofs::SameLimits::same_bounds))]
+    pub(crate) fn is_same(&self, other: &Limits) -> bool
+        ensures exact { IsTrue result ↔ (self.now ≡ other.now) }
+    {
+        if self.catches() != other.catches() {
+            return false;
+        }
+        self.branches() == other.branches()
+    }
+
     /// The most catches of a branch.
     pub fn catches(&self) -> usize
         ensures value { result ≡ self.now.catches }
@@ -80,7 +91,7 @@ impl Limits {
         self.catches
     }
 
-    /// The most branches of a repository.
+    /// Returns the most branches of a repository.
     pub fn branches(&self) -> usize
         ensures value { result ≡ self.now.branches }
         ensures some { 0 < result }

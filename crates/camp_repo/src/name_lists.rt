@@ -1,3 +1,4 @@
+//! The names that a pull or an obliteration is about.
 ghost use Rattle.std.specs.Prelude.{◌≡◌, ℕ, List, drop, length, IfOk};
 ghost use Rattle.camp_branch.specs.Agreeing.{Agree};
 ghost use Rattle.camp_branch.specs.Branches.{first_lacked, is_among, names_of};
@@ -11,7 +12,7 @@ use camp_base::Name;
 use camp_branch::{NameSet, set_of};
 use std::alloc::AllocError;
 
-/// The first listed name of which a branch has no patch. Where there is no list, no name is lacked.
+/// Returns the first listed name of which a branch has no patch; `None` without a list.
 pub(crate) fn first_lacked(branch: &Branch, names: &Option<Names>) -> Option<Name>
     ensures { result ≡ first_lacked branch.now (listed branch.now names.now) }
 {
@@ -21,7 +22,7 @@ pub(crate) fn first_lacked(branch: &Branch, names: &Option<Names>) -> Option<Nam
     }
 }
 
-/// Whether a list is given, and has no name.
+/// True if a list is given and empty.
 pub(crate) fn lists_none(names: &Option<Names>) -> bool
     ensures { result ≡ lists_none names.now }
 {
@@ -30,8 +31,8 @@ pub(crate) fn lists_none(names: &Option<Names>) -> bool
         .is_some_and(|names| names.as_slice().is_empty())
 }
 
-/// Of the listed names, or where there is no list of all names of `theirs`: those of which `ours`
-/// has no patch. Beginnings of the two, of this length, agree.
+/// Returns the listed names or, without a list, all names of `theirs`, of which `ours` has no patch. The
+/// prefixes of the two of this length agree.
 pub(crate) fn wanted(
     ours: &Branch,
     theirs: &Branch,
@@ -48,8 +49,8 @@ pub(crate) fn wanted(
     }
 }
 
-/// The names of the patches that `theirs` has and `ours` lacks. Beginnings of the two agree, so
-/// only the catches of `theirs` behind that are looked at.
+/// Returns the names of the patches that `theirs` has and `ours` lacks. Prefixes of the two agree, so only
+/// the catches of `theirs` after its prefix are read.
 fn wanted_behind(ours: &Branch, theirs: &Branch, long: usize) -> Result<NameSet, AllocError>
     requires { Agree theirs.now ours.now long }
     ensures { IfOk result (λ set. (name : List ℕ) →
@@ -65,7 +66,7 @@ fn wanted_behind(ours: &Branch, theirs: &Branch, long: usize) -> Result<NameSet,
     Ok(set_of(alloc, &lacked)?)
 }
 
-/// The names of which a branch has no patch.
+/// Returns the names of which a branch has no patch.
 fn wanted_of(branch: &Branch, names: &[Name]) -> Result<NameSet, AllocError>
     ensures { IfOk result (λ set. (name : List ℕ) →
         is_among (names_in set) name ≡ is_among (wanted branch.now names.now) name) }
@@ -79,9 +80,8 @@ fn wanted_of(branch: &Branch, names: &[Name]) -> Result<NameSet, AllocError>
     Ok(set_of(alloc, &lacked)?)
 }
 
-/// Whether a branch would be too long with the catches that another one has of these names. The
-/// branch lacks the names, and beginnings of the two, of this length, agree: so only what stands
-/// behind those is counted.
+/// True if a branch would be too long with the catches that another one has of these names. The branch lacks
+/// the names, and the prefixes of the two of this length agree, so only the catches after them are counted.
 pub(crate) fn is_full_with(
     limits: Limits,
     ours: &Branch,
@@ -102,7 +102,7 @@ pub(crate) fn is_full_with(
     len.saturating_add(more) > most
 }
 
-/// How many catches a pull of these names from `theirs` brings to `ours`.
+/// Returns the number of catches that a pull of these names from `theirs` appends to `ours`.
 pub fn count_brought(
     ours: &Branch,
     theirs: &Branch,
@@ -115,12 +115,12 @@ pub fn count_brought(
     Ok(count_behind(theirs, &wanted, 0))
 }
 
-/// How many catches of a branch from a place on have one of these names.
+/// Counts the catches of a branch, from an index on, that have one of these names.
 fn count_behind(branch: &Branch, names: &NameSet, from: usize) -> usize
     ensures { result ≡ length (catches_named (names_in names.now) (drop from branch.now)) }
 {
     let catches = branch.catches();
-    // The proof is told that a length is a number of the machine.
+    // States a fact for the prover: a length fits in a `usize`.
     prove!(catches.len() <= usize::MAX);
     catches
         .iter_from(from)

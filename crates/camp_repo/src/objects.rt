@@ -1,3 +1,4 @@
+//! The repository as an object.
 use crate::{Call, Decided, Object, Reply, State};
 use std::alloc::{AllocError, Global};
 
@@ -13,6 +14,10 @@ impl Object for State {
 
     fn initial(alloc: Global) -> Result<State, AllocError> {
         State::new(alloc)
+    }
+
+    fn begins_alike(&self, other: &State) -> bool {
+        self.limits().is_same(&other.limits())
     }
 
     fn decide(&self, call: &Call) -> Result<Decided<State, Reply>, AllocError> {

@@ -1,3 +1,4 @@
+//! The sizes of a record, and the tree that it leads to.
 ghost use Rattle.std.specs.Prelude.{◌≡◌};
 ghost use Rattle.std.specs.List.{list_any};
 ghost use Rattle.camp_call.specs.Patches.{IsPatchSized};
@@ -12,7 +13,7 @@ use camp_base::{Apply, Path, Tree};
 use camp_catch::Unmade;
 use camp_prim::Primitive;
 
-/// Whether a record is too large for a branch.
+/// True if a record is too large for a branch.
 pub(crate) fn is_too_large(limits: Limits, branch: &Branch, changes: &[Primitive]) -> bool
     requires { IsPatchSized changes.now }
     ensures { result ≡ is_too_large limits.catches branch.now changes.now }
@@ -38,8 +39,8 @@ fn is_long(change: &Primitive) -> bool
     }
 }
 
-/// The tree after all changes, each made in the tree that those before it leave; or why one of them
-/// can't be made.
+/// Returns the tree after all changes, each made in the tree that those before it give, or the reason why one
+/// of them can't be made.
 pub(crate) fn changed(tree: &Tree, changes: &[Primitive]) -> Result<Tree, Unmade<Refusal>>
     ensures { ComesTo (λ led. led ≡ changed changes.now tree.now) result }
 {
@@ -57,7 +58,7 @@ pub(crate) fn changed(tree: &Tree, changes: &[Primitive]) -> Result<Tree, Unmade
     Ok(next)
 }
 
-/// Whether a file is too long where a change has led to this tree: only a hunk can make it so.
+/// True if the file of a change is too long in the tree after it: only a hunk can make it so.
 fn leaves_long_file(change: &Primitive, tree: &Tree) -> bool
     requires led { (old : Files) × Applies change.now old tree.now }
     ensures { result ≡ has_long_file (path_of change.now) tree.now }

@@ -1,3 +1,4 @@
+//! The state of a repository: its branches, its limits and the number of accepted calls.
 ghost use Rattle.std.specs.Prelude.{◌≡◌, ◌-◌, ◌^◌, ◌<◌, ◌++◌, [], ◌∷◌, List, None, Some, length, map, codes, slice_get, bytes_eq, if◌then◌else◌, IfOk, IfSome, MatchOption};
 ghost use Rattle.std.specs.List.{list_any};
 ghost use Rattle.camp_branch.specs.Agreeing.{Agree};
@@ -16,8 +17,8 @@ use indexmap::IndexSet;
 use std::alloc::{AllocError, Global};
 use std::marker::Model;
 
-/// The branches of a repository in order of creation, how many calls it has accepted, and its limits,
-/// which no call changes. A state shares with those that it was made from all that stayed the same.
+/// The branches of a repository in order of creation, the number of calls it has accepted, and its limits,
+/// which no call changes. A state shares all unchanged parts with the states that it was made from.
 #[derive(Drop)]
 pub struct State {
     names: Shared<IndexSet<Name>>,
@@ -44,14 +45,15 @@ impl Model for State {
 }
 
 impl State {
-    /// A new repository with the default limits: one branch `main` without a patch, and no call accepted.
+    /// Makes a new repository with the default limits: one branch `main` without a patch, and no call
+    /// accepted.
     pub fn new(alloc: Global) -> Result<State, AllocError>
         ensures exact { IfOk result (λ state. state ≡ initial) }
     {
         State::with_limits(alloc, Limits::default())
     }
 
-    /// A new repository with these limits: one branch `main` without a patch, and no call accepted.
+    /// Makes a new repository with these limits: one branch `main` without a patch, and no call accepted.
     pub fn with_limits(alloc: Global, limits: Limits) -> Result<State, AllocError>
         ensures exact { IfOk result (λ state. state ≡ new_within limits) }
     {
@@ -69,7 +71,7 @@ impl State {
         })
     }
 
-    /// How many calls were accepted.
+    /// Returns the number of accepted calls.
     pub fn count(&self) -> u64
         ensures value { result ≡ self.now.count }
         ensures lawful { IsLawfulState self.now }
@@ -77,21 +79,21 @@ impl State {
         self.count
     }
 
-    /// The limits of the repository.
+    /// Returns the limits of the repository.
     pub fn limits(&self) -> Limits
         ensures exact { result ≡ self.now.limits }
     {
         self.limits
     }
 
-    /// The names of the branches, in order of creation.
+    /// Returns the names of the branches, in order of creation.
     pub fn names(&self) -> &[Name]
         ensures exact { result.now ≡ map (λ branch. branch.0) self.now.branches }
     {
         self.names.as_slice()
     }
 
-    /// The branch of a name.
+    /// Returns the branch of a name.
     pub fn branch(&self, name: &Name) -> Option<&Branch>
         ensures value { MatchOption result
             (catches_of self.now.branches name.now ≡ None)
@@ -102,7 +104,7 @@ impl State {
         Some(branch)
     }
 
-    /// An equal state. It shares everything with this one.
+    /// Copies the state, which shares everything with the copy.
     pub fn try_clone(&self) -> Result<State, AllocError>
         ensures exact { IfOk result (λ copy. copy ≡ self.now) }
     {
@@ -118,26 +120,26 @@ impl State {
         })
     }
 
-    /// How many branches there are.
+    /// Returns the number of branches.
     pub(crate) fn len(&self) -> usize
         ensures { result ≡ length self.now.branches }
     {
         self.branches.len()
     }
 
-    /// The allocator of the state.
+    /// Returns the allocator of the state.
     pub(crate) fn allocator(&self) -> Global {
         self.branches.allocator()
     }
 
-    /// Whether a patch of this name stands in some branch.
+    /// True if some branch has a patch of this name.
     pub(crate) fn stands(&self, name: &Name) -> bool
         ensures { result ≡ stands self.now.branches name.now }
     {
         is_in_some(&self.branches, name)
     }
 
-    /// The branch of a name, and its place in the order of creation.
+    /// Returns the branch of a name, and its index in the order of creation.
     pub(crate) fn find(&self, name: &Name) -> Option<(usize, &Branch)>
         ensures value { MatchOption result
             (catches_of self.now.branches name.now ≡ None)
@@ -157,7 +159,7 @@ impl State {
         Some((place, branch))
     }
 
-    /// How long the beginnings of two branches, given by their places, are known to agree.
+    /// Returns the length of the prefixes of two branches, given by their indexes, that are known to agree.
     pub(crate) fn agreed(&self, from: usize, to: usize) -> usize
         ensures { (theirs ours : List Catch) → slice_get (catches_in self.now.branches) from ≡ Some theirs
             → slice_get (catches_in self.now.branches) to ≡ Some ours → Agree theirs ours result }
@@ -165,8 +167,8 @@ impl State {
         self.known.between(from, to)
     }
 
-    /// The state after one more accepted call, where the branch at a place has grown to this one. What is
-    /// known of beginnings stays true.
+    /// Returns the state after one more accepted call, in which the branch at an index has grown to this one.
+    /// What is known of common prefixes stays true.
     pub(crate) fn with_grown(&self, place: usize, branch: Branch) -> Result<State, AllocError>
         requires counts { self.now.count < 2 ^ 64 - 1 }
         requires grown { (old : List Catch) × (more : List Catch)
@@ -179,8 +181,7 @@ impl State {
         self.with_branch_at(place, branch, known)
     }
 
-    /// The same after a pull from the branch at another place. The beginnings of the two agreed for this
-    /// length.
+    /// The same after a pull from the branch at another index. The prefixes of the two of this length agreed.
     pub(crate) fn with_pulled(
         &self,
         from: usize,
@@ -201,8 +202,8 @@ impl State {
         self.with_branch_at(place, branch, known)
     }
 
-    /// The state after one more accepted call, where the branch at a place becomes this one. All that was
-    /// known of beginnings is forgotten.
+    /// Returns the state after one more accepted call, in which the branch at an index becomes this one. All
+    /// that was known of its common prefixes is dropped.
     pub(crate) fn with_replaced(&self, place: usize, branch: Branch) -> Result<State, AllocError>
         requires counts { self.now.count < 2 ^ 64 - 1 }
         requires within { place < length self.now.branches }
@@ -237,8 +238,8 @@ impl State {
         })
     }
 
-    /// The state after one more accepted call, with a copy of the branch at a place. What is known of
-    /// that one is known of the copy too.
+    /// Returns the state after one more accepted call, with a copy of the branch at an index. What is known
+    /// of that branch is known of the copy too.
     pub(crate) fn with_copy(
         &self,
         name: &Name,
@@ -266,7 +267,7 @@ impl State {
     }
 }
 
-/// The names, and one more behind them where it is not among them.
+/// Returns the names, with one more appended if it is not among them.
 fn with_name(
     alloc: Global,
     names: &IndexSet<Name>,
@@ -280,7 +281,7 @@ fn with_name(
     Shared::new(alloc, all)
 }
 
-/// The branches, and a copy of one behind them.
+/// Returns the branches, with a copy of one appended.
 fn with_copy_behind(
     branches: &SharedList<Shared<Branch>>,
     branch: &Branch,
@@ -291,7 +292,7 @@ fn with_copy_behind(
     branches.pushed(copy)
 }
 
-/// Whether some branch has a patch of this name.
+/// True if some branch has a patch of this name.
 fn is_in_some(branches: &SharedList<Shared<Branch>>, name: &Name) -> bool
     ensures { result ≡ list_any (λ branch. has_patch branch name.now) branches.now }
 {

@@ -1,3 +1,4 @@
+//! The decision on each kind of call.
 ghost use Rattle.std.specs.Prelude.{◌≡◌, ◌-◌, ◌^◌, ◌<◌, List, Ok, length, IfErr, IfOk};
 ghost use Rattle.camp_repo.specs.Steps.{is_too_large, refused, refusal_of, step, step_branch, step_obliterate, step_pull, step_record};
 ghost use Rattle.camp_repo.specs.Wanting.{HasBranch, MayWant, MayWantCopy, MayWantObliterate, MayWantPull, MayWantRecord};
@@ -11,8 +12,7 @@ use camp_catch::Unmade;
 use std::alloc::AllocError;
 
 impl State {
-    /// What a call leads to. Each kind of call has its tests, in an order, and the first that fails
-    /// decides.
+    /// Decides on a call. Each kind of call has its tests, in an order, and the first that fails decides.
     pub fn decide(&self, call: &Call) -> Result<Decided<State, Reply>, AllocError>
         requires { self.now.count < 2 ^ 64 - 1 }
         ensures exact { IfOk result (λ decided. decided ≡ step self.now call.now) }
@@ -190,7 +190,7 @@ fn refused(refusal: Refusal) -> Decided<State, Reply>
     Decided::Answer(Reply::Refused(refusal))
 }
 
-/// The refusal that tells why a branch can't be changed.
+/// Returns the refusal that says why a branch can't be changed.
 fn refusal_of(blocked: Blocked) -> Refusal
     ensures { result ≡ refusal_of blocked }
 {

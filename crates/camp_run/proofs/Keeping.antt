@@ -1,4 +1,4 @@
--- The calls of a kept history, asked again of a new repository.
+-- The calls of a stored history, executed again on a new repository.
 use Rattle.std.proofs.Common.{◌≡◌, ℕ, ◌+◌, ◌≤◌, List, [], ◌∷◌, length, map, subst, Option, None, Some, Ok}
 use Rattle.camp_run.proofs.Words.{refl, sym, ◌∙◌, ap, arith, AllByRecursion, Next, Answer, is_writing, Call, repository_is_lawful, next_of, replies_to, reply_of, repository, state_behind, IsSerial, accepted_from, booked, Entries}
 use Rattle.std.specs.Option.{option_and_then}
@@ -17,7 +17,7 @@ use Rattle.camp_script.specs.Canonical.{IsScriptCall, CanBeWritten}
 use Rattle.camp_script.specs.Keeping.{CanStand, ListsNames, calls_of}
 use Rattle.camp_script.proofs.CanonicalCalls.{reads_back}
 
--- an accepted call lists a name, where it lists names
+-- an accepted call that lists names lists at least one
 lists_names : (state : Contents) (asked : Call) (next : Contents) → step state asked ≡ Next next → ListsNames asked
 lists_names state (call.Branch new from) next is = tt
 lists_names state (call.Record branch name changes) next is = tt
@@ -30,7 +30,7 @@ lists_names state (call.Tree branch) next is = tt
 lists_names state (call.Conflicts branch) next is = tt
 lists_names state (call.Names branch) next is = tt
 
--- the calls of a history that leads on from a state are each accepted when they are asked again from there
+-- the calls of a history that continues from a state are each accepted when they are executed again from there
 record Retraces (state : Contents) (history : Entries) : Type 0 where
   books : accepted_from 0 state (calls_of history) ≡ at_seat_0 history
   replies : map Ok (replies_to state (calls_of history)) ≡ dones (state.count + 1) (calls_of history)

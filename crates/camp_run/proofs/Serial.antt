@@ -1,4 +1,4 @@
--- Sections that are asked one after the other of a new book come to what the definitions of a serial run say.
+-- Sections that are asked one after the other of a new book have the result of the definitions of a serial run.
 use Rattle.camp_run.proofs.Words.{◌≡◌, ℕ, ◌+◌, List, [], ◌∷◌, ◌++◌, length, map, Option, None, Some, Result, Ok, Err, option_and_then, append-nil, Fault, Next, Answer, SaysAlone, OneByOne, Section, Call, Reply, repository_is_lawful, Contents, initial, Decision, step, Entries}
 use Rattle.std.proofs.Common.{MatchOption, refl, sym, ◌∙◌, ap, subst, append_assoc}
 use Rattle.std.proofs.lemmas.Option.{same_Some}
@@ -11,7 +11,7 @@ use Rattle.camp_repo.specs.Objects.{next_of, number_told, replies_to, reply_of, 
 use Rattle.camp_run.specs.Laws.{LockedSectionIsSerial, SharedSectionIsSerial}
 use Rattle.camp_run.specs.Serial.{IsSerial, accepted_from, booked, history_from, replies_from}
 
--- a call that is asked alone comes to the reply of its step, and to the state behind it
+-- a call that is asked alone has the reply of its step, and leads to the state after it
 record IsStep (seat : ℕ) (before : Entries) (state : Contents) (call : Call) (answer : Result Reply Fault)
     (front : Entries) (decision : Decision) : Type 0 where
   replies : answer ≡ Ok (reply_of decision)
@@ -63,7 +63,7 @@ module _ (seat : ℕ) (before : Entries) (state : Contents) (call : Call) (front
   is_step (Ok answer) replays legal says = by_told (number_told answer) answer refl replays legal says
   is_step (Err fault) replays legal says = absurd says
 
--- the front of an answer begins with the one before
+-- the history before an answer is a prefix of the history after it
 module _ (seat : ℕ) where
   front_grows : (told : Option ℕ) (before : Entries) (call : Call) (front : Entries) (P : Type 0)
       → MatchOption told ((front ≡ before) × P) (λ at. (front ≡ before ++ (seat, call) ∷ []) × (at ≡ length front))
@@ -97,7 +97,7 @@ booked_before : (decision : Decision) (entry : ℕ × Call) (rest : Entries)
 booked_before (Next next) entry rest = refl
 booked_before (Answer answer) entry rest = refl
 
--- a section that is asked alone comes to the replies of its steps, and to the state behind them
+-- a section that is asked alone has the replies of its steps, and leads to the state after them
 record IsSection (seat : ℕ) (first : Entries) (state : Contents) (calls : List Call)
     (answers : List (Result Reply Fault)) (last : Entries) : Type 0 where
   replies : answers ≡ map Ok (replies_to state calls)
@@ -128,7 +128,7 @@ is_section seat first state (c ∷ calls) (a ∷ answers) last replays legal s =
       leads = others.leads;
     }
 
--- so do sections one after the other
+-- and sections one after the other do too
 record AreSections (seat : ℕ) (first : Entries) (state : Contents) (sections : List (List Call))
     (answers : List (List (Result Reply Fault))) (last : Entries) : Type 0 where
   replies : answers ≡ map (map Ok) (replies_from state sections)

@@ -1,4 +1,4 @@
--- The answers that runs come to have texts: none of them is want of memory.
+-- The answers of runs have texts: none of them is out of memory.
 use Rattle.std.proofs.Common.{ℕ, ◌+◌, ◌<◌, zero, suc, List, [], ◌∷◌, length, get_or, Result, Ok, Err, subst, arith}
 use Rattle.std.specs.List.{All, AllZip}
 use Rattle.std.proofs.lemmas.List.{get_or_default}
@@ -56,7 +56,7 @@ serial_texts seat first (c ∷ sections) (a ∷ answers) last s =
     All-cons (All HasText) a answers (section_has (SaysAlone repository seat) (alone_has seat) first c a s.0 s.1)
     (serial_texts (seat + 1) s.0 sections answers last s.2)
 
--- where the answers of each seat have texts
+-- the case in which the answers of each seat have texts
 by_seat : (answers : List (List (Result Reply Fault)))
     → ((seat : ℕ) → seat < length answers → All HasText (get_or answers seat [])) → HaveTexts answers
 by_seat answers each seat d within =

@@ -1,4 +1,4 @@
--- Words that the proofs of this crate have in common: of the standard library, of definitions, and of crates below.
+-- The words that most proofs of this crate use.
 pub use Rattle.std.proofs.Common.{◌++◌, ◌+◌, ◌∙◌, ◌∷◌, ◌≡◌, ◌≤◌, Err, List, None, Ok, Option, Result, Some, [], ap, arith, count_by, length, map, refl, subst, sym, ℕ}
 pub use Rattle.std.proofs.lemmas.List.{append-nil}
 pub use Rattle.std.proofs.lemmas.List.Elements.{All-cons, All-nil}

@@ -1,4 +1,4 @@
--- What is prepared and then written is what a run answers.
+-- The text that is prepared and then written is the result of a run.
 use Rattle.std.proofs.Common.{◌≡◌, ℕ, ◌≤◌, Bool, List, [], ◌∷◌, Option, Result, Ok, Err, MatchResult, Vec}
 use Rattle.camp_run.proofs.Words.{ap, count_by, subst, sym, ◌∙◌, All, AllByRecursion, All-cons, All-nil, Fault, is_writing, Call, Reply, lists_of}
 use Rattle.std.specs.Io.KnownBytes.{Appends}
@@ -19,7 +19,7 @@ module _ (Comes : Outcome) (wants_history : Bool) (remaining rest old new : Opti
       subst (λ fault. Runs Comes wants_history remaining rest old (Err fault) new) (sym says.0)
       (text, record { script = script; reads = reads; is_output = is }, subst (AppendsBeginning old new) same says.1)
 
--- what a script comes to, and its text
+-- the result of a script, and its text
 module _ (Comes : Outcome) (wants_history : Bool) (script sections : List (List Call))
     (answers lent_answers : List (List (Result Reply Fault))) (history lent_history : List (ℕ × Call)) (text : List ℕ) where
   pub prepared : sections ≡ script → Comes sections answers history

@@ -1,10 +1,10 @@
--- How faults of a run are told.
+-- How faults of a run are reported.
 use Rattle.std.specs.Prelude.{ℕ, List, codes}
 use Rattle.camp_script.specs.Faults.{line_words}
 use Rattle.camp_run.specs.declared.faults.RunFault.{RunFault}
 use Rattle.camp_run.specs.declared.faults.RunFault.TheVariants.{Script, Foreign, Memory, Read, Write}
 
--- the words that tell a fault
+-- the words that report a fault
 abbrev pub fault_words : RunFault → List ℕ
 fault_words (Script fault) = line_words fault
 fault_words Foreign = codes "foreign call"
@@ -12,7 +12,7 @@ fault_words Memory = codes "out of memory"
 fault_words Read = codes "cannot read input"
 fault_words Write = codes "cannot write output"
 
--- the exit status: 1 where the script has a fault, and 3 where memory, the lock, the input or the output failed
+-- the exit status: 1 if the script has a fault, and 3 if memory, the lock, the input or the output failed
 abbrev pub status_of : RunFault → ℕ
 status_of (Script fault) = 1
 status_of Foreign = 3

@@ -5,7 +5,7 @@ use Rattle.camp_call.specs.declared.calls.Call.{Call}
 use Rattle.camp_script.specs.Reading.{script_of}
 use Rattle.camp_script.specs.declared.faults.LineFault.{LineFault}
 
--- the bytes that were read: where it is known what the reader has, they are all of it, and nothing is left
+-- the bytes that were read: if the content of the reader is known, they are all of it, and nothing is left
 pub record ReadsAll (remaining rest : Option (List ℕ)) (bytes : List ℕ) : Type 0 where
   pub all : IfSome remaining (λ all. bytes ≡ all)
   pub end : IsAtEnd rest

@@ -1,4 +1,4 @@
--- What the text that keeps a history leads back to.
+-- The history that a stored text leads back to.
 use Rattle.std.specs.Prelude.{◌≡◌, ℕ, ◌+◌, ◌≤◌, List, [], ◌∷◌, length, map, Some, Result, Ok}
 use Rattle.std.specs.List.{AllByRecursion}
 use Rattle.camp_object.specs.Histories.{replay}
@@ -22,24 +22,24 @@ abbrev pub dones : ℕ → List Call → List (Result Reply Fault)
 dones at [] = []
 dones at (call ∷ calls) = Ok (Done at) ∷ dones (at + 1) calls
 
--- the text of a history is a script of one section; a new repository accepts each of its calls, and they come to the
--- same history but for the seats, and to the state
+-- the text of a history is a script of one section; a new repository accepts each of its calls, and they lead to the
+-- same state, and to the same history but for the seats
 pub record LeadsBack (history : List (ℕ × Call)) (state : Contents) : Type 0 where
   pub reads : script_of (kept_text history) ≡ Ok (calls_of history ∷ [])
   pub comes : IsSerial (calls_of history ∷ []) (dones 1 (calls_of history) ∷ []) (at_seat_0 history)
   pub leads : replay repository (at_seat_0 history) ≡ Some state
 
--- so it is for each history that leads to a state, if it has 65,536 calls at most, and `kept_text` made its text
+-- this holds of each history that leads to a state and has at most 65,536 calls, if `kept_text` made its text
 abbrev pub KeptLeadsBack : Type 0
 KeptLeadsBack = (history : List (ℕ × Call)) (state : Contents) → replay repository history ≡ Some state
     → AllByRecursion CanStand (calls_of history) → length history ≤ most_writing_calls → LeadsBack history state
 
--- the text of a history is a script, and a new repository that is asked its calls comes to just this history
+-- the text of a history is a script, and a new repository that is asked its calls has exactly this history
 pub record ComesBack (history : List (ℕ × Call)) : Type 0 where
   pub reads : script_of (kept_text history) ≡ Ok (calls_of history ∷ [])
   pub comes : IsSerial (calls_of history ∷ []) (dones 1 (calls_of history) ∷ []) history
 
--- so it is where the calls of such a history are all at seat 0
+-- this holds if the calls of such a history are all at seat 0
 abbrev pub SeatZeroStays : Type 0
 SeatZeroStays = (history : List (ℕ × Call)) (state : Contents) → replay repository history ≡ Some state
     → AllByRecursion CanStand (calls_of history) → length history ≤ most_writing_calls

@@ -1,4 +1,4 @@
--- What a run answers, by what its reader had and has left, and what its writer held and holds, where that is known.
+-- The result of a run, by the content of its reader and its writer, before and after, if that is known.
 use Rattle.std.specs.Prelude.{ℕ, Bool, List, Option, Result, Ok, Err}
 use Rattle.std.specs.Io.KnownBytes.{Appends, Keeps}
 use Rattle.camp_call.specs.declared.calls.Call.{Call}
@@ -8,17 +8,16 @@ use Rattle.camp_run.specs.Outputs.{Outcome, IsOutput}
 use Rattle.camp_run.specs.declared.faults.RunFault.{RunFault}
 use Rattle.camp_run.specs.declared.faults.RunFault.TheVariants.{Script, Foreign, Memory, Read, Write}
 
--- a script was read, and this is the text of what it comes to
+-- a script was read, and this is the text of its result
 pub record HasOutput (Comes : Outcome) (wants_history : Bool) (remaining rest : Option (List ℕ)) (text : List ℕ)
     : Type 0 where
   pub script : List (List Call)
   pub reads : ReadsAs remaining rest (Ok script)
   pub is_output : IsOutput Comes wants_history script text
 
--- Ok: a script was read, and its output was written, no more and no less.
--- A fault of the script: it is the first one, and nothing was written.
--- A foreign call, out of memory, or the reader failed: nothing was written.
--- The writer failed: a script was read, and a beginning of its output was written, and not all of it.
+-- Ok: a script was read, and exactly its output was written. A fault of the script: it is the first one, and nothing
+-- was written. A foreign call, out of memory, or a failed reader: nothing was written. A failed writer: a script was
+-- read, and a proper prefix of its output was written.
 abbrev pub Runs : Outcome → Bool
     → Option (List ℕ) → Option (List ℕ) → Option (List ℕ) → Result (Unit {0}) RunFault → Option (List ℕ) → Type 0
 Runs Comes wants_history remaining rest old (Ok done) new =
@@ -31,7 +30,7 @@ Runs Comes wants_history remaining rest old (Err Read) new = Keeps old new
 Runs Comes wants_history remaining rest old (Err Write) new =
     (text : List ℕ) × HasOutput Comes wants_history remaining rest text × AppendsBeginning old new text
 
--- why there is no text to be written: a fault of the script is its first one; writing comes later
+-- why there is no text to write: a fault of the script is its first one; the writer cannot have failed yet
 abbrev pub HasNoOutput : Option (List ℕ) → Option (List ℕ) → RunFault → Type 0
 HasNoOutput remaining rest (Script fault) = ReadsAs remaining rest (Err fault)
 HasNoOutput remaining rest Foreign = Unit {0}
@@ -39,7 +38,7 @@ HasNoOutput remaining rest Memory = Unit {0}
 HasNoOutput remaining rest Read = Unit {0}
 HasNoOutput remaining rest Write = ⊥
 
--- and no call is foreign, where nobody else can have asked one
+-- and no call is foreign, if nobody else can have asked one
 abbrev pub IsNotForeign : RunFault → Type 0
 IsNotForeign (Script fault) = Unit {0}
 IsNotForeign Foreign = ⊥

@@ -1,4 +1,4 @@
--- What a script answers where one thread asks its sections one after the other.
+-- The result of a script if one thread asks its sections one after the other.
 use Rattle.std.specs.Prelude.{◌≡◌, ℕ, ◌+◌, List, [], ◌∷◌, ◌++◌, map, Result, Ok}
 use Rattle.camp_object.specs.declared.faults.Fault.{Fault}
 use Rattle.camp_object.specs.declared.objects.Decided.TheVariants.{Next, Answer}
@@ -13,7 +13,7 @@ abbrev pub replies_from : Contents → List (List Call) → List (List Reply)
 replies_from state [] = []
 replies_from state (calls ∷ sections) = replies_to state calls ∷ replies_from (state_after state calls) sections
 
--- a call in front of those that are accepted after it, where it is accepted itself
+-- a call before those that are accepted after it, if it is accepted itself
 abbrev pub booked : Decision → ℕ × Call → List (ℕ × Call) → List (ℕ × Call)
 booked (Next state) entry rest = entry ∷ rest
 booked (Answer answer) entry rest = rest
@@ -24,13 +24,13 @@ accepted_from seat state [] = []
 accepted_from seat state (call ∷ calls) =
     booked (step state call) (seat, call) (accepted_from seat (state_behind state (step state call)) calls)
 
--- those calls of sections that are accepted, from a state on, where the first section has this number
+-- those calls of sections that are accepted, from a state on, given the number of the first section
 abbrev pub history_from : ℕ → Contents → List (List Call) → List (ℕ × Call)
 history_from seat state [] = []
 history_from seat state (calls ∷ sections) =
     accepted_from seat state calls ++ history_from (seat + 1) (state_after state calls) sections
 
--- sections of calls to a new repository, one after the other, come to these answers and this history
+-- the answers and the history of sections of calls to a new repository, one after the other
 pub record IsSerial (sections : List (List Call)) (answers : List (List (Result Reply Fault)))
     (history : List (ℕ × Call)) : Type 0 where
   pub replies : answers ≡ map (map Ok) (replies_from initial sections)

@@ -1,3 +1,4 @@
+//! Why a script was not run, or its answers not written.
 ghost use Rattle.std.specs.Prelude.{◌≡◌, Some};
 ghost use Rattle.camp_run.specs.Faults.{fault_words, status_of};
 ghost use Rattle.camp_run.specs.declared.faults.RunFault.TheVariants as fault;
@@ -10,20 +11,20 @@ use std::fmt;
 /// Why a script was not run, or its answers not written.
 #[derive(Clone, Copy, PartialEq, Eq, Debug)]
 pub enum RunFault {
-    /// The input is no script. Nothing was run.
+    /// The input is not a script. Nothing was run.
     Script(LineFault),
-    /// The history has a call that no answer tells, or lacks one. Nothing was written.
+    /// The history has a call that no answer reports, or lacks one. Nothing was written.
     Foreign,
     /// Nothing was written.
     Memory,
     /// The reader failed. Nothing was run.
     Read,
-    /// The writer failed. A beginning of the output was written, and not all of it.
+    /// The writer failed. A proper prefix of the output was written.
     Write,
 }
 
 impl RunFault {
-    /// The exit status of a program that ends with it.
+    /// Returns the exit status of a program that ends with it.
     pub fn status(&self) -> u8
         ensures exact { result ≡ status_of self.now }
     {

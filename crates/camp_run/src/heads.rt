@@ -18,13 +18,13 @@ use std::io::{Read, Write};
 use std::sync::Wait;
 use std::thread::Threads;
 
-/// The head keeps a version for each so many calls.
+/// The head keeps a snapshot at each multiple of this many calls.
 const EVERY: u32 = 64;
 
-/// Reads a whole script and asks its sections over a head, section k at seat k: the opening first, and
-/// then each client in a thread of its own, whose calls give up after `tries` lost exchanges, 1 to
-/// 1,000. The gate is told of each call, by its index in its section, and of each exchange. Writes the
-/// answers, and the history where it is wanted, after the last thread was joined.
+/// Reads a whole script and executes its sections over a head, section k at seat k: the opening first, and
+/// then each client in a thread of its own, whose calls give up after `tries` lost exchanges, 1 to 1,000. The
+/// gate is notified of each call, by its index in its section, and of each exchange. Writes the answers, and
+/// the history if it is wanted, after the last thread was joined.
 pub fn run_head<T: Threads + Wait + Sync, R: Read, W: Write, G: Gate + Sync>(
     rt: &T,
     alloc: Global,
@@ -42,7 +42,7 @@ pub fn run_head<T: Threads + Wait + Sync, R: Read, W: Write, G: Gate + Sync>(
     run_head_at(rt, alloc, reader, writer, history, tries, gate, &NoGate)
 }
 
-/// The same. The section gate is told of each section: `Turns` is both gates.
+/// The same. The section gate is notified of each section: `Turns` is both gates.
 pub fn run_head_at<
     T: Threads + Wait + Sync,
     R: Read,

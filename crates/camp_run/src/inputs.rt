@@ -9,7 +9,7 @@ use camp_script::{Script, ScriptFault, read_script};
 use std::alloc::Global;
 use std::io::{ErrorKind, Read};
 
-/// The script that a reader gives, read to its end.
+/// Reads a script from a reader, to its end.
 pub(crate) fn read_input<R: Read>(alloc: Global, reader: &mut R) -> Result<Script, RunFault>
     ensures script { IfOk result (λ script. ReadsAs (R.remaining reader.old) (R.remaining reader.new) (Ok script)) }
     ensures fault { IfErr result (HasNoOutput (R.remaining reader.old) (R.remaining reader.new)) }

@@ -14,7 +14,7 @@ use camp_script::{output_text, write_text};
 use std::alloc::{AllocError, Global};
 use std::io::Write;
 
-/// The text of the answers to sections, and behind it that of a history where it is wanted.
+/// Renders the answers to sections, followed by a history if it is wanted.
 pub(crate) fn text_of(
     alloc: Global,
     answers: &[Answers<State>],

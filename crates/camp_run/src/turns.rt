@@ -8,34 +8,35 @@ use std::sync::Wait;
 use std::sync::atomic::{AtomicU64, Ordering};
 use std::time::Duration;
 
-/// So many microseconds the client that comes next sleeps between two looks, where nobody wakes it. The second one
-/// sleeps four times as long, the third one nine times, and so on.
+/// Microseconds that the client that comes next sleeps between two polls, unless it is woken. The second in
+/// the queue sleeps four times as long, the third nine times, and so on.
 const PAUSE: u64 = 100;
-/// From this place on all sleep so long.
+/// From this position of the queue on, all clients sleep equally long.
 const MOST_TIMES: u64 = 8;
-/// Who has found the turn with one client more often than so sleeps four times as long until another has it.
+/// Polls that find the turn with the same client after which a client sleeps four times as long, until
+/// another has it.
 const FEW_LOOKS: u32 = 4;
-/// So often a client looks at most.
+/// Polls after which a client stops waiting.
 const MOST_LOOKS: u32 = 1_000;
-/// So often it finds the same step of a call before it takes the one that asks it for stopped.
+/// Polls without progress within a call after which the owner of the turn counts as stalled.
 const MOST_UNCHANGED: u32 = 8;
-/// So often it finds the same before it takes the one that is between two calls for gone.
+/// Polls without progress between two calls after which the owner counts as gone.
 const UNCHANGED_BETWEEN: u32 = 2;
 
-/// As many as a head has seats at most.
+/// Seats of the largest head.
 const SEATS: u64 = 64;
-/// It has asked a question, or nothing, or all of its calls.
+/// The owner is in a query, or has executed all of its calls.
 const RESTS: u64 = 0;
-/// It asks a call.
+/// The owner decides a call.
 const ASKS: u64 = 1;
-/// It exchanges a call.
+/// The owner publishes a call by a compare-exchange.
 const EXCHANGES: u64 = 2;
-/// It has exchanged a call.
+/// The owner has tried to publish a call.
 const HAS_EXCHANGED: u64 = 3;
-/// So many things it can do.
+/// The number of phases.
 const KINDS: u64 = 4;
 
-/// The step behind another one: a count, and behind it what a client does, and the number of its seat.
+/// Computes the next step after another: a count, then a phase, then the number of a seat.
 fn step_behind(step: u64, kind: u64, seat: u32) -> u64 {
     let count = (step / (KINDS * SEATS)).wrapping_add(1);
     let what = count.wrapping_mul(KINDS).wrapping_add(kind);
@@ -50,21 +51,21 @@ fn is_of(step: u64, seat: u32) -> bool {
     step % SEATS == seat as u64 % SEATS
 }
 
-/// How many seats stand between that of a step and another one, in the order of their numbers.
+/// Returns the number of seats between that of a step and another one, in the order of their numbers.
 fn between(step: u64, seat: u32) -> u64
     ensures { result < 64 }
 {
     (seat as u64 % SEATS + 2 * SEATS - 1 - step % SEATS) % SEATS
 }
 
-/// How many of these have their bits set.
+/// Counts those of these seats that have their bits set.
 fn set_between(bits: u64, step: u64, seat: u32) -> u64 {
     let first = (step % SEATS) as u32 + 1;
     let nearer = 1u64.rotate_left(between(step, seat) as u32).wrapping_sub(1);
     (bits.rotate_right(first) & nearer).count_ones() as u64
 }
 
-/// How often a client that comes next finds the same before it takes the turn.
+/// Returns after how many polls without progress the next client takes the turn.
 fn looks_before_taking(step: u64) -> u32 {
     match kind_of(step) {
         RESTS => 0,
@@ -73,14 +74,14 @@ fn looks_before_taking(step: u64) -> u32 {
     }
 }
 
-/// What a client that waits has found.
+/// What a waiting client has polled.
 #[derive(Drop)]
 struct Watch {
     /// The last step, and a bit for each seat that waited.
     found: (u64, u64),
-    /// So often it found both once more.
+    /// Polls in sequence that found both unchanged.
     unchanged: u32,
-    /// So often it found the turn with one seat.
+    /// Polls in sequence that found the turn with the same seat.
     looks: u32,
 }
 
@@ -110,14 +111,14 @@ impl Watch {
         self.found = (step, waiting);
     }
 
-    /// Whether the turn is over for one before whom so many wait, as far as it can see.
+    /// True if the turn is over, as far as a client can see that has `before` clients before it in the queue.
     fn is_over(&self, before: u64) -> bool {
         let step = self.found.0;
         before == 0 && self.unchanged >= looks_before_taking(step)
             || self.unchanged >= MOST_UNCHANGED
     }
 
-    /// How long one before whom so many wait sleeps.
+    /// Returns how long a client sleeps that has `before` clients before it in the queue.
     fn pause(&self, before: u64) -> Duration {
         let times = before.min(MOST_TIMES - 1) + 1;
         let pause = PAUSE * times * times;
@@ -136,10 +137,10 @@ fn place_of(seat: u64) -> usize
     (seat % SEATS) as usize
 }
 
-/// Where the clients sleep.
+/// The wake counts on which the clients sleep.
 #[derive(Drop)]
 struct Bells {
-    /// How often the client of each seat was woken.
+    /// For each seat, how often its client was woken.
     rung: [AtomicU64; 64],
 }
 
@@ -161,21 +162,22 @@ impl Bells {
         self.rung[place].wake_one();
     }
 
-    /// The client of a seat sleeps, unless it was woken since it looked.
+    /// Sleeps until the client of a seat is woken, or the time is over. Returns at once if the wake count is
+    /// no longer `rung`.
     fn sleep<R: Wait>(&self, rt: &R, seat: u64, rung: u64, time: Duration) {
         let low = (rung % 4_294_967_296) as u32;
         self.rung[place_of(seat)].park_timeout(rt, low, time);
     }
 }
 
-/// A gate at which clients take turns: one goes ahead with its calls, and those that want to exchange beside it
-/// wait for a while, in the order of their seats. Where all exchange at once one of them wins, and the others decide
-/// what they lose, and decide it anew. It changes no answer. Who waits has published nothing, so nobody waits for
-/// it; and who has the turn and does nothing loses it.
+/// A gate at which clients take turns: one executes its calls, and those that want to publish meanwhile wait
+/// for a while, in the order of their seats. If all published at once, one would win, and the others would
+/// have to decide their calls again. Changes no answer. A waiting client has published nothing, so nobody
+/// waits for it; an owner that does nothing loses the turn.
 #[derive(Drop)]
 pub struct Turns<'a, R: Wait> {
     rt: &'a R,
-    /// The last step of the client whose turn it is.
+    /// The last step of the client that owns the turn.
     step: AtomicU64,
     /// A bit for each seat that waits.
     waiting: AtomicU64,
@@ -192,12 +194,12 @@ impl<'a, R: Wait> Turns<'a, R> {
         }
     }
 
-    /// How many clients wait at this moment: none once a run has ended.
+    /// Returns the number of clients that wait at this moment: 0 once a run has ended.
     pub fn waiting(&self) -> u32 {
         self.all_waiting().count_ones()
     }
 
-    /// How often clients were woken so far: at most two for each section that has ended.
+    /// Returns how often clients were woken so far: at most two for each section that has ended.
     pub fn wakes(&self) -> u64 {
         let mut wakes = 0u64;
         for seat in 0..SEATS {
@@ -214,7 +216,7 @@ impl<'a, R: Wait> Turns<'a, R> {
         self.waiting.load(Ordering::SeqCst)
     }
 
-    /// Makes a step behind one, if that is still the last one.
+    /// Makes the next step after one, if that is still the last one.
     fn go(&self, step: u64, kind: u64, seat: u32) -> bool {
         let next = step_behind(step, kind, seat);
         self.step
@@ -222,7 +224,7 @@ impl<'a, R: Wait> Turns<'a, R> {
             .is_ok()
     }
 
-    /// Wakes the first of the seats from one on whose bits are set.
+    /// Wakes the first of the seats, counted from `from`, whose bits are set.
     fn wake_first(&self, from: u64, bits: u64) {
         if bits != 0 {
             self.bells
@@ -230,7 +232,7 @@ impl<'a, R: Wait> Turns<'a, R> {
         }
     }
 
-    /// Wakes the client that comes next, and the one that comes behind it.
+    /// Wakes the next two clients of the queue.
     fn wake_next(&self, seat: u32) {
         let from = seat as u64 % SEATS + 1;
         let bits = self.all_waiting().rotate_right(from as u32);
@@ -238,7 +240,7 @@ impl<'a, R: Wait> Turns<'a, R> {
         self.wake_first(from, bits & bits.wrapping_sub(1));
     }
 
-    /// Waits where the others see it.
+    /// Waits in the queue, visible to the other clients.
     fn stand_in_line(&self, seat: u32, lost: u32) {
         let bit = 1u64.rotate_left(seat % 64);
         self.waiting.fetch_or(bit, Ordering::SeqCst);
@@ -246,8 +248,9 @@ impl<'a, R: Wait> Turns<'a, R> {
         self.waiting.fetch_and(!bit, Ordering::SeqCst);
     }
 
-    /// Waits for the turn, for a while at most, and takes it. Who is woken and does not come next exchanges once
-    /// without it: that shows it the newest calls, so that it has few to see when its turn comes.
+    /// Waits for the turn, for a while at most, and takes it. A client that is woken but is not next
+    /// publishes once without the turn: this shows it the newest calls, so it has few to see when its turn
+    /// comes.
     fn wait(&self, seat: u32, lost: u32) {
         let rung = self.bells.rung(seat as u64);
         let mut watch = Watch::new();
@@ -276,7 +279,7 @@ impl<'a, R: Wait> Gate for Turns<'a, R> {
         }
     }
 
-    /// Behind a wait the exchange is mostly lost, and so shows the newest call; the next one comes at once.
+    /// After a wait the exchange is usually lost, and so shows the newest call; the next one follows at once.
     fn exchange(&self, seat: u32, lost: u32) {
         let step = self.last_step();
         if is_of(step, seat) && self.go(step, EXCHANGES, seat) {
@@ -300,8 +303,9 @@ impl<'a, R: Wait> Gate for Turns<'a, R> {
 }
 
 impl<'a, R: Wait> SectionGate for Turns<'a, R> {
-    /// Who has not the turn waits before a section that begins with a call that writes. While another client goes
-    /// ahead it would decide that call in vain, and beside that one, as long as threads are still begun.
+    /// A client without the turn waits before a section that begins with a call that writes. While another
+    /// one owns the turn it would usually decide that call in vain, and slow the owner down while threads are
+    /// still being started.
     fn begin(&self, seat: u32, writes: bool) {
         if writes && !is_of(self.last_step(), seat) {
             self.stand_in_line(seat, 0);

@@ -1,4 +1,4 @@
--- What an answer says of a book that one caller has alone.
+-- What an answer says of a book that one caller owns.
 use Rattle.camp_uses.proofs.Words.{◌≡◌, ℕ, List, [], ◌∷◌, ◌++◌, Result, Ok, Err, refl, subst, Call, Reply, Done, Says, alone_at, Fault, Memory, Busy, Full, repository}
 use Rattle.camp_uses.specs.Asked.{Leaves}
 

@@ -1,4 +1,4 @@
--- A map into which a key is put, and from which it is taken out again.
+-- A map into which a key is inserted, and from which it is removed again.
 use Rattle.std.proofs.Common.{rules, ◌≡◌, ℕ, List, ◌∙◌, ap}
 use Rattle.std.specs.Ordering.{nat_cmp}
 use Rattle.std.proofs.lemmas.Cmp.{nat_list_cmp_total}

@@ -1,4 +1,4 @@
--- What is done to a tree leads to one tree.
+-- Changes of a tree lead to one tree.
 use Rattle.camp_uses.proofs.Words.{◌≡◌, ℕ, List, [], ◌∷◌, refl, sym, ◌∙◌, subst, Option, None, Some, IsSome, Result, Ok, Err, OnOk, same_Some, Answers, AnswersByTrial, Files, Lines, Adds, Removes, Applies, Leads, Primitive, CleanMerge}
 use Rattle.std.specs.FinMap.{get, insert}
 use Rattle.camp_base.specs.declared.faults.Apply.{Apply}
@@ -20,7 +20,7 @@ runs_once is [] old a b x y = x ∙ sym y
 runs_once is (p ∷ s) old a b (m, first, rest) (n, other, others) =
     runs_once is s n a b (subst (λ tree. AppliesAll s tree a) (applies_once is p.prim old m n first other) rest) others
 
--- what was added can be taken away again, if memory does not run out
+-- a file that was added can be removed again, if memory does not run out
 pub taken_away : AppliedIsApplies → InverseLeadsBack → (path : List ℕ) (old between new : Files) (result : Result (Unit {0}) Apply) → Adds path old between → Answers (Removes path) between result new → OnOk result (new ≡ old) × ¬ (result ≡ Err DoesNotApply)
 taken_away is back path old between new (Ok done) adds removes =
     (applies_once is (Remove path) between new old removes ((back (Add path) old between).0 adds), λ e. cc)
@@ -28,7 +28,7 @@ taken_away is back path old between new (Err DoesNotApply) adds (none, kept) =
     absurd (none old ((back (Add path) old between).0 adds))
 taken_away is back path old between new (Err Memory) adds kept = (tt, λ e. cc)
 
--- without the first of two that change places, the other one stands alone
+-- without the first of two that commute, the other one applies alone
 pub taken_out : AppliedIsApplies → InverseLeadsBack → (p q alone last : Named) → SameEffect p q alone last → (old now new : Files) → Applies (inverted last.prim) now new → Leads p.prim q.prim old now → Applies alone.prim old new
 taken_out is back p q alone last same old now new undone leads =
     let other = (same old now).0 leads in
@@ -44,7 +44,7 @@ pub present : (path : List ℕ) (old new : Files) (fault : Apply) → Answers (A
 present path old new DoesNotApply (none, kept) e = there path old (get old path) none refl
 present path old new Memory kept e = cc
 
--- what a list did is undone by its inverse
+-- the inverse of a list undoes what the list did
 pub undone : AppliedIsApplies → lists.InverseOfListLeadsBack → (s t : List Named) (old between new : Files) (result : Result (Unit {0}) Apply) → t ≡ inverse_all s → AppliesAll s old between → AnswersByTrial (AppliesAll t) between result new → OnOk result (new ≡ old)
 undone is back s t old between new (Ok done) same runs again = runs_once is (inverse_all s) between new old (subst (λ u. AppliesAll u between new) same again) ((back s old between).0 runs)
 undone is back s t old between new (Err DoesNotApply) same runs again = tt

@@ -1,4 +1,4 @@
--- What was answered to a question, and what comes of a call that goes by it.
+-- The answer to a question, and the result of a call that uses it.
 use Rattle.camp_uses.proofs.Words.{◌≡◌, ◌≢◌, ◌<◌, ◌||◌, ◌⊎◌, inl, inr, ℕ, Bool, true, false, not, ◌&&◌, List, [], ◌∷◌, ◌++◌, map, length, Option, None, Some, Result, Ok, Err, IsErrAnd, bytes_eq, refl, sym, ap, ◌∙◌, subst, arith, same_Some, Catch, has_patch, is_among, name_of, names_of, other_names}
 use Rattle.camp_uses.proofs.Words.{Outcome, Reply, Next, Answer, AcceptedCallsHaveEffect, Has, Contents, catches_of, Decision, becomes, first_lacked, is_empty, is_full_with, pull_wanted, refused, refused_if, step, wanted, with_patches, IsShown, Patch, patch_in, GoesWithHeld, HasThem, IsRefusal, MayRefuse, MayRefuseFor, PullsAlong}
 use Rattle.std.specs.Option.{option_map_or}
@@ -65,7 +65,7 @@ module _ {A : Type 0} (state : Contents) (branch : List ℕ) (names : List (List
     | inr w ↦ subst (IsRefused state branch names) (same_refusal result w.0 refusal w.1 is) w.2
   ]
 
--- what is told of an error is told of the result that has it
+-- a fact about an error is one about the result that has it
 pub told_as : {A : Type 0} (ComesTo : AnswerOf A → Type 0) (result : Result A Unanswered) (why : Unanswered) → IsErrAnd result (λ other. other ≡ why) → Tells ComesTo (Err why) → Tells ComesTo result
 told_as ComesTo (Ok answer) why is told = absurd is
 told_as ComesTo (Err other) why is told = subst (λ e. Tells ComesTo (Err e)) (sym is) told
@@ -92,11 +92,11 @@ record IsAlong (state : Contents) (from to : List ℕ) (names told : List (List 
   comes : ComesAlong theirs ours names told
 
 module _ (state : Contents) (from to : List ℕ) (names : List (List ℕ)) where
-  -- what is asked of the catches of two branches
+  -- a question about the catches of two branches
   abbrev Between : List Catch → List Catch → AnswerOf (List (List ℕ)) → Type 0
   Between theirs ours = OfTwo from to (OfPatches theirs names (AlongOr theirs ours names))
 
-  -- what comes along is told, or for what the pull may be refused
+  -- the names to pull are in the answer, or this is why the pull may be refused
   abbrev Tell : AnswerOf (List (List ℕ)) → Type 0
   Tell (Ok told) = IsAlong state from to names told
   Tell (Err refusal) = MayRefuseFor state from to names refusal
@@ -132,13 +132,13 @@ none_among : {A : Type 0} (names : List (List ℕ)) (n : List ℕ) → is_empty 
 none_among [] n none among = cc
 none_among (name ∷ names) n none among = cc
 
--- the same of a decision that is not refused for a patch that another stands on
+-- the same for a decision that is not a refusal because one patch depends on another
 abbrev UnlessHeld : Contents → List ℕ → List ℕ → List (List ℕ) → Decision → Type 0
 UnlessHeld state from to names decision =
     ((patch on : List ℕ) → ¬ (decision ≡ refused (Depends patch on))) → AnswersSo state from to names decision
 
 module _ (state : Contents) (from to : List ℕ) (names told : List (List ℕ)) (along : IsAlong state from to names told) where
-  -- a name that the branch lacks is told
+  -- the name that the branch lacks is reported
   is_told : (n : List ℕ) → is_among names n ≡ true → has_patch along.ours n ≡ false → is_among told n ≡ true
   is_told n among lacks =
       let all = wanted along.ours names ++ along.comes.3.0 in
@@ -147,7 +147,7 @@ module _ (state : Contents) (from to : List ℕ) (names told : List (List ℕ)) 
       let is_theirs : is_among (names_of along.theirs) n ≡ true = among_once (map name_of along.theirs) n ∙ none_lacked_among along.theirs names along.all n among in
       ap (λ l. is_among l n) along.comes.3.2 ∙ among_kept (is_among all) (names_of along.theirs) n ∙ (λ i. is_theirs i && is_one i)
 
-  -- where nothing that is told is wanted, the branch has the patches
+  -- if none of the names in the answer is wanted, the branch has the patches
   none_wanted : is_empty (wanted along.ours told) ≡ true → HasThem along.ours names
   none_wanted none n among = by_patch (has_patch along.ours n) refl
     where
@@ -199,7 +199,7 @@ module _ (state : Contents) (from to : List ℕ) (names told : List (List ℕ)) 
   either_way true = refl
   either_way false = refl
 
-  -- what an accepted pull brings
+  -- the catches that an accepted pull appends
   pub pull_brings : AcceptedCallsHaveEffect → (next : Contents) → IsLawfulState state → Next next ≡ step state (call.Pull from to (Some told)) → PullsAlong state from to names next
   pull_brings effect next lawful e =
       let pulls = effect state (call.Pull from to (Some told)) next lawful (sym e) in
@@ -258,7 +258,7 @@ module _ (state : Contents) (branch : List ℕ) (names : List (List ℕ)) (some 
     never_answered answer e =
         accepted_and_answered (step state (call.Obliterate branch held)) goes.0 answer goes.1 e
 
-    -- memory ran out where it would go
+    -- memory ran out, and could run out there
     pub would_go : (next : Contents) × GoesWithHeld state branch names (Ok next)
     would_go = let w = goes in (w.0, goes_with_held w.0 (sym w.1))
 

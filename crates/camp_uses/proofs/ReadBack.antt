@@ -2,7 +2,7 @@
 use Rattle.camp_uses.proofs.Words.{◌≡◌, ℕ, List, [], ◌∷◌, ◌++◌, append-nil, Result, Ok, sym, ap, ◌∙◌, subst, arith, Call, Primitive, ReadsBack, call_text, CanStand, script_of, LineFault}
 use Rattle.camp_call.specs.declared.calls.Call.TheVariants as call
 
--- what is read of a text is one script
+-- a text is read as one script
 pub same_script : (one two : List (List Call)) (read : Result (List (List Call)) LineFault) → read ≡ Ok one → read ≡ Ok two → one ≡ two
 same_script one two read first second = cc
 

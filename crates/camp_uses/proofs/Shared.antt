@@ -1,21 +1,24 @@
 -- What the answers of a head say to callers.
-use Rattle.camp_uses.proofs.Words.{◌≡◌, ℕ, false, true, List, Option, None, Some, MatchOption, Result, Ok, Err, refl, subst, Files, LeadsTo, Catch, Call, Reply, Done, Tree, Caller, Says, IsAnswered, IsLegal, own, Fault, Memory, Busy, Full, Answer, Has, HistoriesTellTrees, repository, Contents, catches_of, Decision, step}
+use Rattle.camp_uses.proofs.Words.{◌≡◌, ℕ, false, true, List, Option, None, Some, MatchOption, Result, Ok, Err, refl, subst, sym, Files, LeadsTo, Catch, Call, Reply, Done, Tree, Caller, Says, IsAnswered, IsLegal, own, Fault, Memory, Busy, Full, Answer, Has, HistoriesTellTrees, repository, Contents, catches_of, Decision, step}
 use Rattle.camp_call.specs.declared.calls.Call.TheVariants as call
 use Rattle.camp_object.specs.Asking.{Accepts}
 use Rattle.camp_object.proofs.Asks.{accepted_before, accepted_writes}
-use Rattle.camp_repo.specs.Limits.{default_bounds}
+use Rattle.camp_object.proofs.Replays.{begun_lawful}
+use Rattle.camp_object.specs.Objects.{IsFirst, begun}
+use Rattle.camp_repo.specs.Limits.{Bounds}
+use Rattle.camp_repo.specs.Objects.{repository_within}
 use Rattle.camp_repo.specs.ObjectLaws.{repository_is_lawful}
 use Rattle.camp_uses.specs.Shared.{Grows, HoldsTree, LacksBranch, tree_in}
 
 -- the calls of a caller, by what it was answered
-pub grows : (caller : Caller) (seen now : List (ℕ × Call)) (asked : Call) (answer : Result Reply Fault) → Says repository caller seen asked answer now → Grows (own caller.seat seen) asked answer (own caller.seat now)
-grows caller seen now asked (Ok (Done at)) says = says.own_grows
-grows caller seen now asked (Ok other) says = says.0.own_stays
-grows caller seen now asked (Err Memory) says = says.own_stays
-grows caller seen now asked (Err (Busy lost)) says = says.adds_nothing.own_stays
-grows caller seen now asked (Err Full) says = says.adds_nothing.own_stays
+pub grows : (first : Contents) (caller : Caller) (seen now : List (ℕ × Call)) (asked : Call) (answer : Result Reply Fault) → Says (begun repository first) caller seen asked answer now → Grows (own caller.seat seen) asked answer (own caller.seat now)
+grows first caller seen now asked (Ok (Done at)) says = says.own_grows
+grows first caller seen now asked (Ok other) says = says.0.own_stays
+grows first caller seen now asked (Err Memory) says = says.own_stays
+grows first caller seen now asked (Err (Busy lost)) says = says.adds_nothing.own_stays
+grows first caller seen now asked (Err Full) says = says.adds_nothing.own_stays
 
--- one answer tells one tree
+-- one answer has one tree
 same_tree : (one other : Files) (comes : Decision) → comes ≡ Answer (Tree one) → comes ≡ Answer (Tree other) → one ≡ other
 same_tree one other comes first second = cc
 
@@ -25,10 +28,10 @@ is_there state branch tree (Some catches) is comes = (catches, is)
 is_there state branch tree None is comes = let none = rw is at comes in cc
 
 -- a tree that is answered is that of the branch after the history
-pub holds : HistoriesTellTrees → (history : List (ℕ × Call)) (branch : List ℕ) (tree : Files) → IsAnswered repository history (call.Tree branch) (Tree tree) → HoldsTree history branch tree
-holds law history branch tree answered =
+pub holds : HistoriesTellTrees → (limits : Bounds) (history : List (ℕ × Call)) (branch : List ℕ) (tree : Files) → IsAnswered (repository_within limits) history (call.Tree branch) (Tree tree) → HoldsTree limits history branch tree
+holds law limits history branch tree answered =
     let there = is_there answered.state branch tree (catches_of answered.state.branches branch) refl answered.gives in
-    let told = law default_bounds history answered.state branch there.0 answered.replays there.1 in
+    let told = law limits history answered.state branch there.0 answered.replays there.1 in
     record {
       state = answered.state;
       replays = answered.replays;
@@ -38,39 +41,43 @@ holds law history branch tree answered =
     }
 
 -- the question for a tree is never accepted
-never_done : (caller : Caller) (seen now : List (ℕ × Call)) (branch : List ℕ) (at : ℕ) → IsLegal repository now → ¬ (Accepts caller seen (call.Tree branch) at now)
-never_done caller seen now branch at legal accepts =
-    let writes : false ≡ true = accepted_writes repository repository_is_lawful accepts.before (call.Tree branch) (accepted_before repository caller seen (call.Tree branch) at now accepts legal) in
+never_done : (first : Contents) → IsFirst repository first → (caller : Caller) (seen now : List (ℕ × Call)) (branch : List ℕ) (at : ℕ) → IsLegal (begun repository first) now → ¬ (Accepts caller seen (call.Tree branch) at now)
+never_done first is caller seen now branch at legal accepts =
+    let writes : false ≡ true = accepted_writes (begun repository first) (begun_lawful repository repository_is_lawful first is) accepts.before (call.Tree branch) (accepted_before (begun repository first) caller seen (call.Tree branch) at now accepts legal) in
     cc
 
 -- no call of its caller is new, whatever is answered
-pub asks_alone : (caller : Caller) (seen now : List (ℕ × Call)) (branch : List ℕ) (answer : Result Reply Fault) → IsLegal repository now → Says repository caller seen (call.Tree branch) answer now → own caller.seat now ≡ own caller.seat seen
-asks_alone caller seen now branch (Ok (Done at)) legal says =
-    absurd (never_done caller seen now branch at legal says)
-asks_alone caller seen now branch (Ok other) legal says = says.0.own_stays
-asks_alone caller seen now branch (Err Memory) legal says = says.own_stays
-asks_alone caller seen now branch (Err (Busy lost)) legal says = says.adds_nothing.own_stays
-asks_alone caller seen now branch (Err Full) legal says = says.adds_nothing.own_stays
+pub asks_alone : (first : Contents) → IsFirst repository first → (caller : Caller) (seen now : List (ℕ × Call)) (branch : List ℕ) (answer : Result Reply Fault) → IsLegal (begun repository first) now → Says (begun repository first) caller seen (call.Tree branch) answer now → own caller.seat now ≡ own caller.seat seen
+asks_alone first is caller seen now branch (Ok (Done at)) legal says =
+    absurd (never_done first is caller seen now branch at legal says)
+asks_alone first is caller seen now branch (Ok other) legal says = says.0.own_stays
+asks_alone first is caller seen now branch (Err Memory) legal says = says.own_stays
+asks_alone first is caller seen now branch (Err (Busy lost)) legal says = says.adds_nothing.own_stays
+asks_alone first is caller seen now branch (Err Full) legal says = says.adds_nothing.own_stays
 
 -- one state gives one answer
 same_answer : (one other : Reply) (comes : Decision) → comes ≡ Answer one → comes ≡ Answer other → one ≡ other
 same_answer one other comes first second = cc
 
 -- where the answer tells no tree, there is no branch
-module _ (law : HistoriesTellTrees) (history : List (ℕ × Call)) (branch : List ℕ) (answer : Reply) (none : tree_in answer ≡ None) (answered : IsAnswered repository history (call.Tree branch) answer) where
-  lacks_by : (found : Option (List Catch)) → catches_of answered.state.branches branch ≡ found → LacksBranch history branch
+module _ (law : HistoriesTellTrees) (limits : Bounds) (history : List (ℕ × Call)) (branch : List ℕ) (answer : Reply) (none : tree_in answer ≡ None) (answered : IsAnswered (repository_within limits) history (call.Tree branch) answer) where
+  lacks_by : (found : Option (List Catch)) → catches_of answered.state.branches branch ≡ found → LacksBranch limits history branch
   lacks_by None is = record { state = answered.state; replays = answered.replays; lacks = is }
   lacks_by (Some catches) is =
-      let told = law default_bounds history answered.state branch catches answered.replays is in
+      let told = law limits history answered.state branch catches answered.replays is in
       let same = same_answer answer (Tree told.0) _ answered.gives told.3 in
       let some : Some told.0 ≡ None = subst (λ reply. tree_in reply ≡ None) same none in
       cc
 
-  lacks_branch : LacksBranch history branch
+  lacks_branch : LacksBranch limits history branch
   lacks_branch = lacks_by (catches_of answered.state.branches branch) refl
 
+-- a repository that begins with a first state is one with its limits
+by_limits : (first : Contents) → IsFirst repository first → (history : List (ℕ × Call)) (asked : Call) (answer : Reply) → IsAnswered (begun repository first) history asked answer → IsAnswered (repository_within first.limits) history asked answer
+by_limits first is history asked answer answered = subst (λ (state : Contents). IsAnswered (begun repository state) history asked answer) (sym is.itself) answered
+
 -- the tree that is told is that of the branch, and where none is told there is no branch
-pub found : HistoriesTellTrees → (caller : Caller) (seen now : List (ℕ × Call)) (branch : List ℕ) (answer : Reply) → IsLegal repository now → Says repository caller seen (call.Tree branch) (Ok answer) now → MatchOption (tree_in answer) (LacksBranch now branch) (HoldsTree now branch)
-found law caller seen now branch (Done at) legal says = absurd (never_done caller seen now branch at legal says)
-found law caller seen now branch (Tree tree) legal says = holds law now branch tree says.1
-found law caller seen now branch other legal says = lacks_branch law now branch other refl says.1
+pub found : HistoriesTellTrees → (first : Contents) → IsFirst repository first → (caller : Caller) (seen now : List (ℕ × Call)) (branch : List ℕ) (answer : Reply) → IsLegal (begun repository first) now → Says (begun repository first) caller seen (call.Tree branch) (Ok answer) now → MatchOption (tree_in answer) (LacksBranch first.limits now branch) (HoldsTree first.limits now branch)
+found law first is caller seen now branch (Done at) legal says = absurd (never_done first is caller seen now branch at legal says)
+found law first is caller seen now branch (Tree tree) legal says = holds law first.limits now branch tree (by_limits first is now (call.Tree branch) (Tree tree) says.1)
+found law first is caller seen now branch other legal says = lacks_branch law first.limits now branch other refl (by_limits first is now (call.Tree branch) other says.1)

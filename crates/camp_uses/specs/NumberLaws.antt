@@ -9,7 +9,7 @@ use Rattle.camp_uses.specs.declared.numbers.NumberCall.TheVariants.{Insert, Show
 use Rattle.camp_uses.specs.declared.numbers.NumberReply.{NumberReply}
 use Rattle.camp_uses.specs.declared.numbers.NumberReply.TheVariants.{Done, Present, Shown}
 
--- what an insertion leaves is one longer
+-- after an insertion the list is one longer
 longer : (numbers next : List ℕ) (number : ℕ) (present : Bool)
     → (if present then None else Some (numbers ++ number ∷ [])) ≡ Some next
     → length next ≡ length numbers + 1
@@ -44,6 +44,8 @@ pub numbers_are_lawful : IsLawfulObject numbers_object
 numbers_are_lawful = record {
   starts = refl;
   counts = counts;
+  begins = refl;
+  stays = λ _ _ _ _. refl;
   writes = writes;
   tells = λ _. refl;
   tells_exactly = tells_exactly;

@@ -12,12 +12,12 @@ use Rattle.camp_uses.specs.declared.numbers.NumberReply.TheVariants.{Done, Prese
 abbrev pub has_number : List ℕ → ℕ → Bool
 has_number numbers number = list_any (λ n. n == number) numbers
 
--- a number that is not there is put at the end, and nothing else is accepted
+-- a number that is not in the list is appended, and nothing else is accepted
 abbrev pub inserted : List ℕ → NumberCall → Option (List ℕ)
 inserted numbers (Insert number) = if has_number numbers number then None else Some (numbers ++ number ∷ [])
 inserted numbers Show = None
 
--- the numbers that a reply shows
+-- the numbers in a reply
 abbrev pub numbers_in : NumberReply → Option (List ℕ)
 numbers_in (Shown numbers) = Some numbers.items
 numbers_in other = None
@@ -41,6 +41,7 @@ numbers_object = record {
   initial = [];
   after = inserted;
   answers = Replies;
+  first = λ _. [];
   count = length;
   is_writing = is_insert;
   done = Done;

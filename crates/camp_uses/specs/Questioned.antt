@@ -21,7 +21,7 @@ use Rattle.camp_questions.specs.Showing.{patch_in}
 use Rattle.camp_questions.specs.declared.faults.Unanswered.{Unanswered}
 use Rattle.camp_questions.specs.declared.faults.Unanswered.TheVariants.{Refused, Memory}
 
--- a reply tells a refusal
+-- a reply is a refusal
 abbrev pub IsRefusal : Reply → Type 0
 IsRefusal told = (refusal : Refusal) × (told ≡ reply.Refused refusal)
 
@@ -29,8 +29,8 @@ IsRefusal told = (refusal : Refusal) × (told ≡ reply.Refused refusal)
 abbrev pub HasThem : List Catch → List (List ℕ) → Type 0
 HasThem catches names = (name : List ℕ) → is_among names name ≡ true → has_patch catches name ≡ true
 
--- just what comes along with the patches of some names was pulled: the branch has its own patches, and then those that
--- came along, and so all that were named
+-- exactly the dependencies of some names were pulled: the branch has its own patches followed by those that were
+-- pulled, and so all that were named
 pub record PullsAlong (state : Contents) (from to : List ℕ) (names : List (List ℕ)) (next : Contents) : Type 0 where
   pub theirs : List Catch
   pub from_has : Has state from theirs
@@ -44,9 +44,9 @@ pub record PullsAlong (state : Contents) (from to : List ℕ) (names : List (Lis
   pub has_names : HasThem new names
   pub has_told : HasThem new told
 
--- for what a pull of patches with all that come along may be refused: for want of a patch only where the other branch
--- lacks one that is named, as having nothing to do only where all that are named are there, and never for a patch that
--- another one stands on
+-- why a pull of patches with their dependencies may be refused: for a missing patch only if the other branch lacks
+-- one that is named, as having nothing to do only if all that are named are there, and never because one depends on
+-- another
 abbrev pub MayRefuseFor : Contents → List ℕ → List ℕ → List (List ℕ) → Refusal → Type 0
 MayRefuseFor state from to names (NoBranch name) = catches_of state.branches name ≡ None
 MayRefuseFor state from to names (NoPatch name) =
@@ -66,20 +66,20 @@ abbrev pub MayRefuse : Contents → List ℕ → List ℕ → List (List ℕ) �
 MayRefuse state from to names (Refused refusal) = MayRefuseFor state from to names refusal
 MayRefuse state from to names Memory = Unit {0}
 
--- in the next state a branch has just the patches that some names do not hold
+-- in the next state a branch has exactly the patches that are not dependents of some names
 abbrev pub LeavesOthers : List ℕ → List Catch → List (List ℕ) → Contents → Type 0
 LeavesOthers branch catches names next =
     (held : List (List ℕ)) × HeldBy catches names held
     × ((left : List Catch) × Has next branch left × (names_of left ≡ other_names catches held))
 
--- patches are taken out of a branch with all that they hold
+-- patches are taken out of a branch with all their dependents
 abbrev pub GoesWithHeld : Contents → List ℕ → List (List ℕ) → AnswerOf Contents → Type 0
 GoesWithHeld state branch names =
     OfBranch state branch (λ catches.
     OfPatches catches names (λ answer. (next : Contents) × (answer ≡ Ok next) × LeavesOthers branch catches names next))
 
--- a script of one call, which records the changes of a patch as it is shown; none where they are not as many as a patch
--- may have
+-- a script of one call, which records the changes of a patch as it is shown; none if their number is not one that a
+-- patch may have
 abbrev pub IsReadBack : Contents → List ℕ → List ℕ → List ℕ → Option (List (List Call)) → Type 0
 IsReadBack state branch name to found =
     (catches : List Catch) × Has state branch catches

@@ -1,4 +1,4 @@
--- What a run in memory answers.
+-- The result of a run in memory.
 use Rattle.std.specs.Prelude.{◌≡◌, ℕ, Bool, List, Ok, Err}
 use Rattle.camp_call.specs.declared.calls.Call.{Call}
 use Rattle.camp_run.specs.Outputs.{IsOutput}

@@ -9,29 +9,30 @@ use Rattle.camp_call.specs.declared.replies.Reply.TheVariants.{Done, Tree}
 use Rattle.camp_object.specs.Histories.{replay}
 use Rattle.camp_object.specs.declared.faults.Fault.{Fault}
 use Rattle.camp_repo.specs.Laws.{Has}
-use Rattle.camp_repo.specs.Objects.{repository}
+use Rattle.camp_repo.specs.Limits.{Bounds}
+use Rattle.camp_repo.specs.Objects.{repository_within}
 use Rattle.camp_repo.specs.States.{Contents, catches_of}
 
--- after a history a branch has this tree: the effects of its catches, in their order, applied to no files
-pub record HoldsTree (history : List (ℕ × Call)) (branch : List ℕ) (tree : Files) : Type 0 where
+-- after a history of a repository with these limits a branch has this tree: the effects of its catches, in their order, applied to no files
+pub record HoldsTree (limits : Bounds) (history : List (ℕ × Call)) (branch : List ℕ) (tree : Files) : Type 0 where
   pub state : Contents
-  pub replays : replay repository history ≡ Some state
+  pub replays : replay (repository_within limits) history ≡ Some state
   pub catches : List Catch
   pub has : Has state branch catches
   pub leads : LeadsTo catches tree
 
--- after a history there is no branch of this name
-pub record LacksBranch (history : List (ℕ × Call)) (branch : List ℕ) : Type 0 where
+-- after such a history there is no branch of this name
+pub record LacksBranch (limits : Bounds) (history : List (ℕ × Call)) (branch : List ℕ) : Type 0 where
   pub state : Contents
-  pub replays : replay repository history ≡ Some state
+  pub replays : replay (repository_within limits) history ≡ Some state
   pub lacks : catches_of state.branches branch ≡ None
 
--- the tree that a reply tells, if it tells one
+-- the tree in a reply, if it has one
 abbrev pub tree_in : Reply → Option Files
 tree_in (Tree tree) = Some tree
 tree_in other = None
 
--- a caller's calls: one more where it was told a number, and else as before
+-- the calls of a caller: one more if it got a number, else as before
 abbrev pub Grows : List Call → Call → Result Reply Fault → List Call → Type 0
 Grows old call (Ok (Done at)) new = new ≡ old ++ call ∷ []
 Grows old call other new = new ≡ old

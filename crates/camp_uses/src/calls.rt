@@ -8,7 +8,7 @@ use camp_call::{Call, Changes};
 use camp_prim::Primitive;
 use std::alloc::AllocError;
 
-/// The call that records these changes under a name, or none where they are no change or too many.
+/// Returns the call that records these changes under a name, or `None` for no change or too many.
 pub fn record(branch: Name, name: Name, prims: Vec<Primitive>) -> Option<Call>
     ensures exact { MatchOption result
         (¬ (IsPatchSized prims.items))
@@ -24,7 +24,7 @@ pub fn record(branch: Name, name: Name, prims: Vec<Primitive>) -> Option<Call>
     })
 }
 
-/// A copy of a call, which is the same call, and whether it asks the same: it does.
+/// Returns a copy of a call, and whether the two are equal: they are.
 pub fn copied(call: &Call) -> Result<(Call, bool), AllocError>
     ensures copy { IfOk result (λ both. both.0 ≡ call.now) }
     ensures same { IfOk result (λ both. both.1 ≡ true) }

@@ -11,8 +11,8 @@ use camp_catch::{
 use camp_share::Shared;
 use std::alloc::{AllocError, Global};
 
-/// Two catches in their other order, if they have one: where the two fit a tree these do too, and
-/// both orders end in one tree.
+/// Returns two catches in their other order, if they commute: if the two fit a tree these do too, and both
+/// orders end in one tree.
 pub fn in_other_order(
     alloc: Global,
     j: &Catch,
@@ -25,8 +25,7 @@ pub fn in_other_order(
     commute(alloc, j, k)
 }
 
-/// What two catches of one state become each behind the other, found by both ways of asking: they
-/// agree.
+/// Returns what two catches of the same state become after each other, found in both ways: they agree.
 pub fn merged_either_way(
     alloc: Global,
     j: &Catch,
@@ -41,7 +40,7 @@ pub fn merged_either_way(
     both(here, there)
 }
 
-/// What two answers tell, where each of them tells something.
+/// Returns the values of two results, if each has one.
 fn both<T: Drop>(
     here: Option<T>,
     there: Result<Option<T>, AllocError>,
@@ -52,8 +51,8 @@ fn both<T: Drop>(
     Ok(here.zip(there))
 }
 
-/// What the catches of another list become behind our own, where both lists begin in one state. They
-/// keep their labels, and fit the tree that our list leads to.
+/// Returns what the catches of another list become after our own, if both lists begin in one state. They keep
+/// their labels, and fit the tree that our list leads to.
 pub fn behind_ours(
     alloc: Global,
     ours: &[Shared<Catch>],

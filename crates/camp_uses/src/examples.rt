@@ -1,4 +1,5 @@
-//! Callers that stand in the READMEs of their crates, in their words. Those of other modules may stand there, too.
+//! Examples of callers, some of which are in the READMEs of their crates. Those of other modules may be there
+//! too.
 ghost use Rattle.std.specs.Prelude.{◌≡◌, IfOk, IfSome};
 ghost use Rattle.std.specs.Cmp.Lexicographic.{slice_cmp};
 ghost use Rattle.std.specs.FinMap.{remove};
@@ -15,7 +16,8 @@ use camp_seq::{Seq, apply_all, clean_merge, norm};
 use camp_share::{Share, Shared, SharedList, SharedMap};
 use std::alloc::{AllocError, Global};
 
-/// Puts a path into a map that others share, and takes it out again: the map without the path; `camp_share`.
+/// Inserts a path into a shared map, and removes it again: the result is the map without the path;
+/// `camp_share`.
 pub fn put_and_remove(
     map: &SharedMap<Path, Shared<SharedList<Line>>>,
     path: &Path,
@@ -37,8 +39,8 @@ pub fn one_line(alloc: Global, path: &Path, line: &Line) -> Result<Tree, Apply> 
     Ok(tree)
 }
 
-/// Takes `p` out of a tree that `p` and then `q` made, and leaves what `q` did, where it can stand
-/// without `p`; `camp_prim`.
+/// Undoes `p` in a tree that `p` and then `q` made, and keeps what `q` did, if it does not depend on `p`;
+/// `camp_prim`.
 pub fn take_out(tree: &mut Tree, p: &Named, q: &Named) -> Result<Option<Named>, Apply>
     ensures left { IfOk result (λ found. IfSome found (λ alone. (old : Files) →
         Leads p.now.prim q.now.prim old tree.old → Applies alone.prim old tree.new)) }
@@ -52,7 +54,7 @@ pub fn take_out(tree: &mut Tree, p: &Named, q: &Named) -> Result<Option<Named>, 
     Ok(Some(alone))
 }
 
-/// Brings what `theirs` did into a tree that `ours` made of the same state; `camp_seq`.
+/// Merges `theirs` into a tree that `ours` made of the same state; `camp_seq`.
 pub fn pull(tree: &mut Tree, ours: &Seq, theirs: &Seq) -> Result<bool, Apply> {
     let Some((after_ours, _)) = clean_merge(ours, theirs)? else {
         return Ok(false);
@@ -61,8 +63,7 @@ pub fn pull(tree: &mut Tree, ours: &Seq, theirs: &Seq) -> Result<bool, Apply> {
     Ok(true)
 }
 
-/// Whether a patch behind a list, or what it is before that list, is in conflict with another;
-/// `camp_ctx`.
+/// Returns whether `p` conflicts with `q` once it is moved in front of the list; `camp_ctx`.
 pub fn meets(
     alloc: Global,
     list: &Seq,
@@ -76,13 +77,13 @@ pub fn meets(
     Ok(is_one(alloc, x, &seen)? && conflict(&seen, other)?)
 }
 
-/// Whether two contexted patches are one member of a set.
+/// Returns whether two contexted patches are one member of a set.
 fn is_one(alloc: Global, x: &Contexted, seen: &Contexted) -> Result<bool, AllocError> {
     let set = CtxSet::empty(alloc).insert(x)?.insert(seen)?;
     Ok(set.len() == 1)
 }
 
-/// The text of a list in normal order, from the text of a list; `camp_notation`.
+/// Parses a list and renders its normal order; `camp_notation`.
 pub fn ordered_text(alloc: Global, text: &[u8]) -> Result<String, NotationError> {
     let list = read_list(alloc, &[], text)?;
     Ok(list_text(alloc, &[], &norm(&list)?)?)

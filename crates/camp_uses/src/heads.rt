@@ -20,9 +20,9 @@ pub struct Met {
     pub met: Result<(), Fault>,
 }
 
-/// Asks for the tree of a branch: none where there is no such branch, and else the effects of the branch's
-/// catches, applied to no files. Both are so at the end of the one history that the seat has seen by then,
-/// which has no new call of this seat, whatever is answered.
+/// Asks for the tree of a branch: `None` if there is no such branch, else the effects of the branch's
+/// catches, applied to no files. Both hold at the end of the one history that the seat has seen by then,
+/// which has no new call of this seat, whatever the answer.
 pub fn tree_at(
     rt: &impl Wait,
     head: &Head,
@@ -34,16 +34,18 @@ pub fn tree_at(
     ensures grows { IsBeginning (history_of seat.old) (history_of seat.new) }
     ensures own { own (number_of seat.old) (history_of seat.new) ≡ own (number_of seat.old) (history_of seat.old) }
     ensures tree { IfOk result (λ found. MatchOption found
-        (LacksBranch (history_of seat.new) branch.now)
-        (HoldsTree (history_of seat.new) branch.now)) }
+        (LacksBranch head.now.first.limits (history_of seat.new) branch.now)
+        (HoldsTree head.now.first.limits (history_of seat.new) branch.now)) }
 {
     histories_tell_trees();
+    // Its clauses show the prover what the history begins with.
+    let _number = seat.number();
     let kept = head.keep(rt, &Call::Tree(*branch))?;
     let reply = head.ask(seat, kept)?;
     Ok(tree_in(reply))
 }
 
-/// The tree that a reply tells.
+/// Returns the tree in a reply.
 fn tree_in(reply: Reply) -> Option<Tree>
     ensures exact { result ≡ tree_in reply }
 {
@@ -53,8 +55,8 @@ fn tree_in(reply: Reply) -> Option<Tree>
     }
 }
 
-/// Asks a call at each of two seats, and brings the first to what the second has seen. Each has its own
-/// calls as it was told; and where `met` is Ok, the first has seen what the second has.
+/// Asks a call at each of two seats, and synchronises the first with the second. Each has its own calls as
+/// its answers say; and if `met` is Ok, the first has seen what the second has.
 pub fn ask_and_meet(head: &Head, first: Seat, second: Seat, one: Kept, two: Kept) -> Met
     requires seats { IsSeatOf head.now first × IsSeatOf head.now second }
     requires kept { IsKeptBy head.now one × IsKeptBy head.now two }

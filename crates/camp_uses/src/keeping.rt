@@ -1,4 +1,4 @@
-//! A caller of `camp_script` and `camp_run` that keeps a book as a text.
+//! A caller of `camp_script` and `camp_run` that stores a book as a text.
 ghost use Rattle.std.specs.Prelude.{◌≡◌, ◌≤◌, length, IfOk};
 ghost use Rattle.camp_object.specs.Histories.{replay};
 ghost use Rattle.camp_repo.specs.Objects.{repository};
@@ -11,7 +11,7 @@ use camp_run::{kept_text_leads_back, one_by_one_is_serial};
 use camp_script::{kept_text, read_script};
 use std::alloc::{AllocError, Global};
 
-/// The book that comes back when a book is written as a script, and the script is read and asked.
+/// Writes a book as a script, reads the script, and executes it: returns the new book.
 pub fn keep_and_read(alloc: Global, book: &Book<State>) -> Result<Book<State>, AllocError>
     requires { length book.now ≤ most_writing_calls }
     ensures history { IfOk result (λ again. again ≡ at_seat_0 book.now) }

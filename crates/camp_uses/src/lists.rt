@@ -26,8 +26,8 @@ pub fn do_and_undo(list: &Seq, tree: &mut Tree) -> Result<(), Apply>
     apply_all(&inverse, tree)
 }
 
-/// The normal orders of two lists that are the same but for the order of neighbours that commute: with room they are
-/// one list, whichever way led from the one to the other.
+/// Returns the normal orders of two equivalent lists: with headroom they are one list, whichever way led from
+/// the one to the other.
 pub fn in_order_either_way(s: &Seq, t: &Seq) -> Result<(Seq, Seq), AllocError>
     requires room { HasRoom s.now }
     requires equivalent { s.now ~ t.now }
@@ -38,7 +38,7 @@ pub fn in_order_either_way(s: &Seq, t: &Seq) -> Result<(Seq, Seq), AllocError>
     Ok((norm(s)?, norm(t)?))
 }
 
-/// A list in normal order, put in order again: with room it stays as it is.
+/// Puts a list in normal order in order again: with headroom it stays unchanged.
 pub fn in_order_twice(list: &Seq) -> Result<(Seq, Seq), AllocError>
     requires { HasRoom list.now }
     ensures same { IfOk result (λ both. both.0 ≡ both.1) }
@@ -50,7 +50,7 @@ pub fn in_order_twice(list: &Seq) -> Result<(Seq, Seq), AllocError>
     Ok((once, twice))
 }
 
-/// The trees after two lists that merge cleanly, in both orders: it is one tree.
+/// Returns the trees after two lists that merge cleanly, in both orders: it is one tree.
 pub fn merged_in_both_orders(a: &Seq, b: &Seq, tree: &Tree) -> Result<Option<(Tree, Tree)>, Apply>
     ensures same { IfOk result (λ found. IfSome found (λ both. both.0 ≡ both.1)) }
 {
@@ -61,7 +61,7 @@ pub fn merged_in_both_orders(a: &Seq, b: &Seq, tree: &Tree) -> Result<Option<(Tr
     Ok(Some(both))
 }
 
-/// The trees after two lists that merge to the two others, in both orders.
+/// Returns the trees after two lists that merge to the two others, in both orders.
 fn trees_of_merged(
     a: &Seq,
     b: &Seq,
@@ -79,7 +79,7 @@ fn trees_of_merged(
     Ok((here, there))
 }
 
-/// The tree after two lists, one behind the other.
+/// Returns the tree after two lists, one after the other.
 fn after_both(first: &Seq, second: &Seq, tree: &Tree) -> Result<Tree, Apply>
     ensures { IfOk result (λ after. (between : Files) × AppliesAll first.now tree.now between × AppliesAll second.now between after) }
 {

@@ -1,4 +1,4 @@
-//! An object of one's own: what `camp_object` and the crates above it ask need not be a repository.
+//! An object of one's own: the object of `camp_object` and the crates above it need not be a repository.
 ghost use Rattle.std.specs.Prelude.{◌≡◌};
 ghost use Rattle.camp_uses.specs.NumberList.{has_number};
 
@@ -20,16 +20,16 @@ impl Model for Numbers {
     ghost view = { λ n. n.numbers.items };
 }
 
-/// What is asked of [`Numbers`].
+/// The calls of [`Numbers`].
 #[derive(Clone, Copy, PartialEq, Eq, Debug)]
 pub enum NumberCall {
-    /// Puts a number at the end. It is accepted where the number is not there yet.
+    /// Appends a number. It is accepted if the number is not there yet.
     Insert(u32),
     /// Asks for the numbers.
     Show,
 }
 
-/// What [`Numbers`] reply.
+/// The replies of [`Numbers`].
 #[derive(PartialEq, Eq, Debug, Drop)]
 pub enum NumberReply {
     Done(u64),
@@ -60,6 +60,10 @@ impl Object for Numbers {
         Ok(Numbers {
             numbers: Vec::new(alloc),
         })
+    }
+
+    fn begins_alike(&self, _other: &Numbers) -> bool {
+        true
     }
 
     fn decide(&self, call: &NumberCall) -> Result<Decided<Numbers, NumberReply>, AllocError> {

@@ -10,9 +10,9 @@ use camp_repo::{Call, Decided, Refusal, Reply, State, accepted_calls_have_effect
 use camp_script::{Script, accepted_text, canonical_text_reads_back, read_script};
 use std::alloc::Global;
 
-/// Pulls patches with all that come along. Where that is accepted, the branch that is pulled into has
-/// the patches, and all that came along; it is never refused for a patch that another one stands on, and
-/// for want of a patch only where the other branch lacks one of these.
+/// Pulls patches with all that they need. If it is accepted, the branch that is pulled into has the patches
+/// and all that they need; it is never refused because one patch depends on another, and for a missing patch
+/// only if the other branch lacks one of these.
 pub fn pull_along(
     state: &State,
     from: &Name,
@@ -38,7 +38,7 @@ pub fn pull_along(
     }
 }
 
-/// The refusal that a reply tells.
+/// Returns the refusal in a reply.
 fn refusal_of(reply: &Reply) -> Refusal
     requires { IsRefusal reply.now }
     ensures { reply.now ≡ Reply.Refused result }
@@ -49,8 +49,8 @@ fn refusal_of(reply: &Reply) -> Refusal
     *refusal
 }
 
-/// Takes patches out of a branch with all that they hold. It is accepted where the branch has the
-/// patches, and the others stay.
+/// Takes patches out of a branch with all their dependents. It is accepted if the branch has the patches, and
+/// the others stay.
 pub fn obliterate_held(state: &State, branch: &Name, names: &[Name]) -> Result<State, Unanswered>
     requires counts { state.now.count < 2 ^ 64 - 1 }
     requires some { 0 < length names.now }
@@ -70,9 +70,8 @@ pub fn obliterate_held(state: &State, branch: &Name, names: &[Name]) -> Result<S
     }
 }
 
-/// The script that comes back when a patch is shown, written as a record in the branch `to`, and read:
-/// it asks just for the changes that were shown. There is none where they are no change, or more than
-/// a patch may have.
+/// Shows a patch, writes it as a record in the branch `to`, and reads this as a script: it contains exactly
+/// the changes that were shown. `None` if they are no change, or more than a patch may have.
 pub fn show_and_read(
     alloc: Global,
     state: &State,

@@ -7,14 +7,14 @@ use camp_repo::Reply;
 use camp_script::{Script, ScriptFault, answer_text, read_script};
 use std::alloc::{AllocError, Global};
 
-/// The text of the reply to an accepted call.
+/// Returns the text of the reply to an accepted call.
 pub fn done(alloc: Global, at: u64) -> Result<Vec<u8>, AllocError>
     ensures exact { IfOk result (λ text. text.items ≡ codes "ok " ++ decimal at ++ codes "\n") }
 {
     answer_text(alloc, &Ok(Reply::Done(at)))
 }
 
-/// The script without a byte: one section, without a call.
+/// Returns the script without a byte: one section, without a call.
 pub fn empty(alloc: Global) -> Result<Script, ScriptFault>
     ensures script { IfOk result (λ script. script ≡ [] ∷ []) }
     ensures fault { IfErr result (λ why. why ≡ fault.Memory) }

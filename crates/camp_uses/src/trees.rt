@@ -7,7 +7,7 @@ use camp_base::{Apply, Path, Tree};
 use camp_prim::{applied_is_applies, inverse_leads_back};
 use std::alloc::{AllocError, Global};
 
-/// A file that is added and taken away again leaves the tree as it was.
+/// Adds a file and removes it again: the tree is as before.
 pub fn add_and_remove(tree: &mut Tree, path: &Path) -> Result<(), Apply>
     ensures same { OnOk result (tree.new ≡ tree.old) }
     ensures told { IsErrOf result apply.DoesNotApply → IsSome (get tree.old path.now) }
@@ -20,7 +20,7 @@ pub fn add_and_remove(tree: &mut Tree, path: &Path) -> Result<(), Apply>
     }
 }
 
-/// The paths of the files of a tree, in the order of their bytes.
+/// Returns the paths of the files of a tree, in the order of their bytes.
 pub fn paths(alloc: Global, tree: &Tree) -> Result<Vec<Path>, AllocError>
     ensures exact { IfOk result (λ paths. paths.items ≡ keys tree.now) }
 {

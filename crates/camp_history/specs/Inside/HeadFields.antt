@@ -1,27 +1,27 @@
--- How a head lies in its fields.
+-- The representation of a head in its fields.
 use Rattle.std.specs.Prelude.{◌≡◌, ◌==◌, ◌<◌, ℕ, ◌+◌, ◌*◌, ◌/◌, if◌then◌else◌, length, All}
 use Rattle.camp_history.specs.Seats.{HeadId}
 use Rattle.camp_history.specs.Versions.{ids, ids_of}
 use Rattle.camp_history.specs.declared.heads.Head.TheInside.{Inside}
 
-abbrev pub head_id : {State Call Reply : Type 0} → Inside State Call Reply → HeadId
+abbrev pub head_id : {State Call Reply : Type 0} → Inside State Call Reply → HeadId State
 head_id head =
-    record { row = head.row; store = head.calls; slots = ids_of head.versions.items; tries = head.tries }
+    record { row = head.row; store = head.calls; slots = ids_of head.versions.items; tries = head.tries; first = head.first }
 
--- how many slots there are for positions: one for each up to the last that is a multiple of `every`, and none for 0
+-- the number of slots for positions: one for each up to the last that is a multiple of `every`, and none for 0
 abbrev pub slots_kept : (seats per_seat every : ℕ) → ℕ
 slots_kept seats per_seat every = if every == 0 then 0 else (seats * per_seat) / every
 
--- how many there are for what seats hand on: one for each seat, and none where no versions are kept
+-- the number of slots for published snapshots: one for each seat, and none if no snapshots are kept
 abbrev pub slots_handed_on : (seats every : ℕ) → ℕ
 slots_handed_on seats every = if every == 0 then 0 else seats
 
--- the slot of this number is for this position, where a version is kept for each so many calls
+-- the slot with this number is for this position, if a snapshot is kept at each multiple of `every`
 abbrev pub IsSlotFor : (position every number : ℕ) → Type 0
 IsSlotFor position every number = (0 < every) × ((number + 1) * every ≡ position)
 
--- a call is tried at least once; versions lie in slots for the head's store, of which there is one for each position at
--- which one is kept and one for each seat; and origins lie in as many for its versions
+-- a call is tried at least once; snapshots are in slots for the head's store, one for each position at which a
+-- snapshot is kept and one for each seat; their parents are in as many slots
 pub record IsHead {State Call Reply : Type 0} (head : Inside State Call Reply) : Type 0 where
   pub tries : 0 < head.tries
   pub slots : All (λ slot. slot.tag ≡ ids head.calls) head.versions.items

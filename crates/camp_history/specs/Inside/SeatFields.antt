@@ -1,6 +1,6 @@
--- How a seat lies in its fields.
+-- The representation of a seat in its fields.
 use Rattle.std.specs.Prelude.{◌≡◌, ◌<◌, ◌≤◌, ◌++◌, List, length, map, All, Some}
-use Rattle.camp_object.specs.Objects.{Sequential}
+use Rattle.camp_object.specs.Objects.{Sequential, IsFirst, begun}
 use Rattle.camp_object.specs.Histories.{replay}
 use Rattle.camp_history.specs.Seats.{Seated, asked, entry_of, most_listed}
 use Rattle.camp_history.specs.Versions.{Begins, bases_in}
@@ -11,15 +11,22 @@ use Rattle.camp_history.specs.declared.seats.Seat.TheInside.{Inside}
 abbrev pub marks_in : {State Call Reply : Type 0} → Inside State Call Reply → List (Mark Call)
 marks_in seat = seat.earlier ++ seat.tail.items
 
-abbrev pub seated : {State Call Reply : Type 0} → Inside State Call Reply → Seated Call
-seated seat = record { known = seat.pass; marks = marks_in seat; bases = bases_in seat.bases.items }
+-- its history begins with what its state tells
+abbrev pub seated : {State Call Reply : Type 0} → Sequential State Call Reply → Inside State Call Reply → Seated State Call
+seated object seat = record {
+  first = object.first seat.state;
+  known = seat.pass;
+  marks = marks_in seat;
+  bases = bases_in seat.bases.items;
+}
 
--- the marks are of the entries that the pass has seen, each of a seat of the row, and the state is their calls' replay;
--- they begin with those of each version that it noted
+-- the marks are of the entries that the pass has seen, each of a seat of the row, and the state is the replay of
+-- their calls; they begin with those of each noted snapshot
 pub record IsSeat {State Call Reply : Type 0} (object : Sequential State Call Reply) (seat : Inside State Call Reply)
     : Type 0 where
   pub places : map entry_of (marks_in seat) ≡ seat.pass.seen
   pub below : All (λ mark. mark.seat < seat.pass.row.seats) (marks_in seat)
-  pub replays : replay object (map asked (marks_in seat)) ≡ Some seat.state
+  pub is_first : IsFirst object (object.first seat.state)
+  pub replays : replay (begun object (object.first seat.state)) (map asked (marks_in seat)) ≡ Some seat.state
   pub begins : All (λ base. Begins base.marks (marks_in seat)) (bases_in seat.bases.items)
   pub few : length seat.earlier ≤ most_listed

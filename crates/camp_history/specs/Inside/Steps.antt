@@ -1,4 +1,4 @@
--- What the steps of a seat do, on the way to an answer.
+-- The steps of a seat on the way to an answer.
 use Rattle.std.specs.Prelude.{◌≡◌, ℕ, ◌<◌, List, [], ◌∷◌, ◌++◌, map, length, Option, None, Some, Result, Ok, Err}
 use Rattle.camp_object.specs.Objects.{Sequential}
 use Rattle.camp_object.specs.Histories.{IsBeginning, replay, IsAccepted, own}
@@ -14,10 +14,10 @@ use Rattle.camp_history.specs.Seats.{HeadId, Seated, IsSeatOf, entry_of, history
 use Rattle.camp_history.specs.declared.marks.Mark.{Mark}
 
 -- the entries of a seat's marks
-abbrev pub entries_of : {Call : Type 0} → Seated Call → List Entry
+abbrev pub entries_of : {State Call : Type 0} → Seated State Call → List Entry
 entries_of seat = map entry_of seat.marks
 
--- what an object decides about a call, at the replay of a history
+-- the decision of an object on a call, at the replay of a history
 pub record DecidesAt {State Call Reply : Type 0} (object : Sequential State Call Reply) (history : List (ℕ × Call))
     (call : Call) (decided : Decided State Reply) : Type 0 where
   pub state : State
@@ -26,7 +26,7 @@ pub record DecidesAt {State Call Reply : Type 0} (object : Sequential State Call
 
 -- what a head decides about a call, at what a seat has seen: the state after it, if it is accepted and there is room
 -- for it, and else an answer
-abbrev pub Decision : {State Call Reply : Type 0} → Sequential State Call Reply → HeadId → Seated Call → Call
+abbrev pub Decision : {State Call Reply : Type 0} → Sequential State Call Reply → HeadId State → Seated State Call → Call
     → Result (Decided State Reply) Fault → Type 0
 Decision object head seat call (Ok (Next next)) =
     (length (own seat.known.number (history_of seat)) < head.row.per_seat)
@@ -37,35 +37,38 @@ Decision object head seat call (Err fault) =
     Ask object (caller_at head seat) (history_of seat) call (Err fault) (history_of seat)
 
 -- a seat that has seen one call more
-abbrev pub with_mark : {Call : Type 0} → Seated Call → Mark Call → Seated Call
+abbrev pub with_mark : {State Call : Type 0} → Seated State Call → Mark Call → Seated State Call
 with_mark seat mark = record {
+  first = seat.first;
   known = record seat.known { seen = seat.known.seen ++ entry_of mark ∷ [] };
   marks = seat.marks ++ mark ∷ [];
   bases = seat.bases;
 }
 
 -- a seat sees more: its pass is to the same seat of the row, and no call that it sees newly is its own
-pub record SeesMore {Call : Type 0} (old new : Seated Call) : Type 0 where
+pub record SeesMore {State Call : Type 0} (old new : Seated State Call) : Type 0 where
   pub number : new.known.number ≡ old.known.number
   pub row : new.known.row ≡ old.known.row
   pub more : IsBeginning (history_of old) (history_of new)
   pub own_stays : own old.known.number (history_of new) ≡ own old.known.number (history_of old)
 
 -- a seat of a head sees more of the chain that was found
-pub record GetsOn {Call : Type 0} (head : HeadId) (old new : Seated Call) : Type 0 where
+pub record GetsOn {State Call : Type 0} (head : HeadId State) (old new : Seated State Call) : Type 0 where
   pub of : IsSeatOf head new
   pub more : SeesMore old new
   pub ahead : new.known.ahead ≡ old.known.ahead
 
 -- the seat published its call, which is the last that it has seen now
-pub record Publishes {Call : Type 0} (old : Seated Call) (call : Where Call) (new : Seated Call) : Type 0 where
+pub record Publishes {State Call : Type 0} (old : Seated State Call) (call : Where Call) (new : Seated State Call) : Type 0 where
+  pub first : new.first ≡ old.first
   pub number : new.known.number ≡ old.known.number
   pub row : new.known.row ≡ old.known.row
   pub marks : new.marks ≡ old.marks ++ record { seat = old.known.number; call = call } ∷ []
   pub bases : new.bases ≡ old.bases
 
 -- the chain was longer than what the seat has seen, and was found
-pub record FindsMore {Call : Type 0} (old new : Seated Call) : Type 0 where
+pub record FindsMore {State Call : Type 0} (old new : Seated State Call) : Type 0 where
+  pub first : new.first ≡ old.first
   pub number : new.known.number ≡ old.known.number
   pub row : new.known.row ≡ old.known.row
   pub marks : new.marks ≡ old.marks
@@ -73,15 +76,15 @@ pub record FindsMore {Call : Type 0} (old new : Seated Call) : Type 0 where
   pub longer : IsShorter (entries_of new) new.known.ahead
 
 -- the exchange was lost, at a history at which the call is accepted
-pub record LosesOne {State Call Reply : Type 0} (object : Sequential State Call Reply) (head : HeadId)
-    (old : Seated Call) (call : Call) (new : Seated Call) : Type 0 where
+pub record LosesOne {State Call Reply : Type 0} (object : Sequential State Call Reply) (head : HeadId State)
+    (old : Seated State Call) (call : Call) (new : Seated State Call) : Type 0 where
   pub has_room : length (own old.known.number (history_of old)) < head.row.per_seat
   pub accepted : IsAccepted object (history_of old) call
   pub finds : FindsMore old new
 
 -- one attempt: an answer, or none where the exchange was lost
-abbrev pub Attempts : {State Call Reply : Type 0} → Sequential State Call Reply → HeadId → Seated Call → Call
-    → Result (Option Reply) Fault → Seated Call → Type 0
+abbrev pub Attempts : {State Call Reply : Type 0} → Sequential State Call Reply → HeadId State → Seated State Call → Call
+    → Result (Option Reply) Fault → Seated State Call → Type 0
 Attempts object head old call (Ok (Some reply)) new =
     Ask object (caller_at head old) (history_of old) call (Ok reply) (history_of new)
 Attempts object head old call (Ok None) new = LosesOne object head old call new

@@ -3,7 +3,7 @@ use Rattle.camp_history.proofs.heads.seats_of.Given as goal
 
 abbrev pub invariant-loop-pass : goal.invariant-loop-pass
 invariant-loop-pass g l = record {
-  made : l.seats.items ≡ map unseen l.yielded;
+  made : l.seats.items ≡ map (unseen l.first) l.yielded;
   whole : l.yielded ++ l.pass-iterator.rest.items ≡ l.fn.passes.items;
   fresh : All (λ known. known.seen ≡ []) l.pass-iterator.rest.items;
   room : length l.pass-iterator.rest.items + vec_len l.seats ≤ vec_capacity l.seats;

@@ -1,4 +1,4 @@
-use Rattle.camp_clients.proofs.Words.{◌≡◌, ℕ, ◌<◌, [], length, sym, ◌∙◌, ap, subst, arith, All, All-map, AllZip-long, all_unmap, map-map, IsBeginning, own, Asks, IsSeatOf, history_of, lists_of, vec_items, section_of, Section, HasMet, IsMet, Ran}
+use Rattle.camp_clients.proofs.Words.{◌≡◌, ℕ, ◌<◌, [], length, sym, ◌∙◌, ap, subst, arith, All, All-map, AllZip-long, all_unmap, map-map, IsBeginning, own, Asks, IsSeatOf, history_of, lists_of, vec_items, section_of, Section, HasMet, IsMet, Ran, begun, IsLegal}
 use Rattle.camp_clients.proofs.Meeting.{caller_of, can_begin, clients_hold, shared_run, zip_all}
 use Rattle.camp_clients.proofs.Vectors.{length-lists_of}
 use Rattle.camp_clients.proofs.heads.Run.all.Goals as goal
@@ -15,13 +15,13 @@ meet_all-requires-clause-seats g c =
     let ran = c.in_ok-seats-2.ensures in
     subst (All (IsSeatOf c.args.self.now.head.now)) (sym ran.seats)
     (All-map (IsSeatOf c.args.self.now.head.now) (λ one. one.0) ran.brought
-    (zip_all (λ seat one. Ran g.State.Object.object c.args.self.now.head.now (lists_of c.args.self.now.sections.now) seat one.0 one.1.items)
+    (zip_all (λ seat one. Ran (begun g.State.Object.object c.args.self.now.head.now.first) c.args.self.now.head.now (lists_of c.args.self.now.sections.now) seat one.0 one.1.items)
     (λ one. IsSeatOf c.args.self.now.head.now one.0) (λ before one ran. ran.is_seat) c.in_ok-seats.seats.items ran.brought ran.ran))
 
 pub returns-clause-shared : goal.returns-clause-shared
 returns-clause-shared g c =
-    let object = g.State.Object.object in
     let head = c.args.self.now.head.now in
+    let object = begun g.State.Object.object head.first in
     let sections = lists_of c.args.self.now.sections.now in
     let opened = history_of c.at_seat.new.seat in
     let history = history_of c.in_ok-opener.opener in
@@ -43,7 +43,7 @@ returns-clause-shared g c =
     let number = c.in_ok-seats.ensures.number ∙ c.in_ok-opening.ensures.number ∙ c.requires.opener.1 in
     let same = subst (λ n. own n history ≡ own n (history_of c.in_ok-seats.opener)) number c.in_ok-opener.ensures.own
     ∙ ap (own 0) c.in_ok-seats.ensures.seen in
-    let legal = c.number-number.ensures.legal in
+    let legal : IsLegal object history = subst (λ (first : g.row.State.Denot). IsLegal (begun g.State.Object.object first) history) c.in_ok-opener.ensures.seat.first c.number-number.ensures.legal in
     let seats = ap (λ row. row.seats) c.in_ok-opener.ensures.seat.row ∙ c.args.self.now.seats ∙ sym (length-lists_of c.args.self.now.sections.now) in
     let no_other = subst (λ n. All (λ entry. entry.0 < n) history) seats c.number-number.ensures.seats_below in
     let run = shared_run object head sections opened history opening.items l2 (c.args.opener, opening)

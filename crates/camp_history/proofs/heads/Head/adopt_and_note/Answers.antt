@@ -1,8 +1,6 @@
 use Rattle.camp_history.proofs.Words.{◌≡◌, sym, ◌∙◌, ap, subst, map, told, begins_self, GetsOn, Leads, Begins, Adopts}
 use Rattle.camp_history.proofs.Seeing.{sees_same, gets_on_self}
 use Rattle.camp_history.proofs.Versioned.{adopts_more, seat_adopted}
-use Rattle.camp_history.proofs.heads.Head.adopt_and_note.Given.{Over}
-use Rattle.camp_history.proofs.heads.Head.adopt_and_note.Goals.{After-adopt}
 use Rattle.camp_history.proofs.heads.Head.adopt_and_note.Goals as goal
 
 pub returns-in_err-share-clause-gets_on : goal.returns-in_err-share-clause-gets_on
@@ -11,12 +9,13 @@ returns-in_err-share-clause-gets_on g c = gets_on_self c.args.self.now c.args.se
 pub adopt-requires-clause-goes_on : goal.adopt-requires-clause-goes_on
 adopt-requires-clause-goes_on g c = rw c.in_ok-share.ensures c.requires.goes_on
 
-adopts : (g : Over) (c : After-adopt g) → Adopts c.args.seat.now c.args.version.now c.adopt.new.self
-adopts g c = rw c.in_ok-share.ensures at c.adopt.ensures.adopts
+pub returns-then-not-adopt-clause-gets_on : goal.returns-then-not-adopt-clause-gets_on
+returns-then-not-adopt-clause-gets_on g c =
+    subst (GetsOn c.args.self.now c.args.seat.now) (sym c.if-not-adopt.ensures.adopts) (gets_on_self c.args.self.now c.args.seat.now c.requires.of)
 
 pub note-requires-clause-seat : goal.note-requires-clause-seat
 note-requires-clause-seat g c =
-    seat_adopted c.args.self.now c.args.seat.now c.adopt.new.self c.args.version.now c.requires.of c.requires.stored (adopts g (goal.at.note-requires-clause-seat g c).After-adopt)
+    seat_adopted c.args.self.now c.args.seat.now c.adopt.new.self c.args.version.now c.requires.of c.requires.stored (rw c.in_ok-share.ensures at c.if-not-adopt.ensures.adopts)
 
 pub note-requires-clause-base : goal.note-requires-clause-base
 note-requires-clause-base g c = rw c.again.ensures c.requires.base
@@ -24,13 +23,14 @@ note-requires-clause-base g c = rw c.again.ensures c.requires.base
 pub note-requires-clause-begins : goal.note-requires-clause-begins
 note-requires-clause-begins g c =
     let value = c.args.base.now.version.value in
-    let same : c.adopt.new.self.marks ≡ value = (adopts g (goal.at.note-requires-clause-begins g c).After-adopt).marks ∙ c.requires.is in
+    let took : Adopts c.args.seat.now c.args.version.now c.adopt.new.self = rw c.in_ok-share.ensures at c.if-not-adopt.ensures.adopts in
+    let same : c.adopt.new.self.marks ≡ value = took.marks ∙ c.requires.is in
     rw c.again.ensures (subst (Begins value) (sym same) (begins_self (map told value)))
 
 pub returns-clause-gets_on : goal.returns-clause-gets_on
 returns-clause-gets_on g c =
     let old = c.args.seat.now in
-    let took = adopts g (goal.at.returns-clause-gets_on g c).After-adopt in
+    let took : Adopts c.args.seat.now c.args.version.now c.adopt.new.self = rw c.in_ok-share.ensures at c.if-not-adopt.ensures.adopts in
     let more = adopts_more old c.adopt.new.self c.args.version.now c.is_whole.ensures.places c.is_whole.ensures.sound c.requires.goes_on took in
     let on : GetsOn c.args.self.now old c.note.new.seat = record {
       of = c.note.ensures.seat;

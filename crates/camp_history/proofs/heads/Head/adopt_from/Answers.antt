@@ -1,6 +1,7 @@
-use Rattle.camp_history.proofs.Words.{◌≡◌, All, refl, sym, ◌∙◌, ap, subst, All-same, Shows, GetsOn, GoesOn, Share, Adopts}
+use Rattle.camp_history.proofs.Words.{◌≡◌, All, refl, sym, ◌∙◌, subst, All-same, Shows, GetsOn, GoesOn, Share, Adopts}
 use Rattle.camp_history.proofs.Seeing.{gets_on_self}
-use Rattle.camp_history.proofs.Versioned.{adopts_more, seat_adopted}
+use Rattle.std.specs.Bool.{MatchBool}
+use Rattle.camp_history.proofs.Versioned.{adopted_on}
 use Rattle.camp_history.proofs.heads.Head.adopt_from.Goals as goal
 
 pub goes_on-requires-clause-version : goal.goes_on-requires-clause-version
@@ -21,18 +22,14 @@ pub returns : goal.returns
 returns g c =
     let head = c.args.self.now in
     let old = c.args.seat.now in
-    let new = c.adopt.new.self in
+    let new = c.adopt-adopted.new.self in
+    let yes = c.adopt-adopted.result in
     let version = c.in_ok-version.version in
     let same : c.goes_on.new.seat ≡ old = c.goes_on.ensures.same ∙ c.walk.ensures.same in
     let goes : GoesOn old version = subst (λ seat. GoesOn seat version) c.walk.ensures.same (c.if-not-goes_on.ensures.goes_on refl) in
-    let took : Adopts old version new = subst (λ seat. Adopts seat version new) same c.adopt.ensures.adopts in
+    let took : MatchBool yes (Adopts old version new) (new ≡ old) = subst (λ seat. MatchBool yes (Adopts seat version new) (new ≡ seat)) same c.adopt-adopted.ensures.adopts in
     let stored : All (λ mark. Shows head.store mark.call) version = All-same (λ mark. Shows head.store mark.call) version c.args.other.now.marks c.in_ok-version.ensures c.requires.other.stored in
-    let on : GetsOn head old new = record {
-      of = seat_adopted head old new version c.requires.of stored took;
-      more = adopts_more old new version c.is_whole.ensures.places c.is_whole.ensures.sound goes took;
-      ahead = ap (λ known. known.ahead) took.known;
-    } in
-    record { gets_on = on }
+    record { gets_on = adopted_on head old new version yes c.requires.of c.is_whole.ensures.places c.is_whole.ensures.sound goes stored took }
 
 pub returns-then-not-goes_on : goal.returns-then-not-goes_on
 returns-then-not-goes_on g c =

@@ -1,7 +1,7 @@
 use Rattle.camp_history.proofs.Words.{Begins, IsMadeFrom}
 use Rattle.camp_history.proofs.heads.Head.common.Given as goal
 
--- the version that the way has come to begins the one that it started from
+-- the snapshot reached by following parents is a prefix of the one that the loop started from
 abbrev pub invariant-loop : goal.invariant-loop
 invariant-loop g l = record {
   made : IsMadeFrom l.self.slots l.way;

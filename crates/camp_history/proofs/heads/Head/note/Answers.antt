@@ -9,6 +9,7 @@ invariant_of-seat g c =
     record {
       places = c.seat.invariant.places;
       below = c.seat.invariant.below;
+      is_first = c.seat.invariant.is_first;
       replays = c.seat.invariant.replays;
       begins =
           noted_based (λ base. Begins base.marks (marks_in inside)) inside.bases.items c.make_room.new.bases.items c.push-noted.new.self.items c.args.base c.make_room.ensures.0 (is_ok c.push-noted.result) c.make_room.ensures.1
@@ -21,6 +22,7 @@ returns-clause-seat g c =
     let inside = c.seat.inside in
     let bases = All-same (IsBaseAt c.args.self.now.slots) (bases_in inside.bases.items) c.args.seat.now.bases (ap (λ seat. seat.bases) c.seat.view_is) c.requires.seat.bases in
     record {
+      first = rw (ap (λ seat. seat.first) c.seat.view_is) c.requires.seat.first;
       row = rw (ap (λ seat. seat.known.row) c.seat.view_is) c.requires.seat.row;
       stored = subst (All (λ mark. Shows c.args.self.now.store mark.call)) (sym (ap (λ seat. seat.marks) c.seat.view_is)) c.requires.seat.stored;
       bases =

@@ -1,4 +1,4 @@
-use Rattle.camp_history.proofs.Words.{◌≡◌, ◌<◌, ◌++◌, All, map, length, length-append, append-nil, ap, ◌∙◌, sym, subst, arith, Some, replay, asked, entry_of, Begins, bases_in, marks_in}
+use Rattle.camp_history.proofs.Words.{◌≡◌, ◌<◌, ◌++◌, All, map, length, length-append, append-nil, ap, ◌∙◌, sym, subst, arith, Some, replay, asked, entry_of, Begins, bases_in, marks_in, begun}
 use Rattle.camp_history.proofs.seats.Seat.settle.Given.{Over}
 use Rattle.camp_history.proofs.seats.Seat.settle.Goals as goal
 
@@ -9,7 +9,7 @@ same : (g : Over) (c : goal.After-clear g) → c.in_ok-self-inside.field-0 ++ c.
 same g c = ap (λ list. c.in_ok-self-inside.field-0 ++ list) c.clear.ensures.items ∙ append-nil c.in_ok-self-inside.field-0 ∙ listed g c
 
 pub returns : goal.returns
-returns g c = (λ k. record { known = c.self.inside.pass; marks = same g c k; bases = bases_in c.self.inside.bases.items }) ∙ c.self.view_is
+returns g c = (λ k. record { first = g.State.Object.object.first c.self.inside.state; known = c.self.inside.pass; marks = same g c k; bases = bases_in c.self.inside.bases.items }) ∙ c.self.view_is
 
 pub invariant_of-self : goal.invariant_of-self
 invariant_of-self g c =
@@ -17,7 +17,8 @@ invariant_of-self g c =
     record {
       places = subst (λ marks. map entry_of marks ≡ c.self.inside.pass.seen) is c.self.invariant.places;
       below = subst (λ marks. All (λ mark. mark.seat < c.self.inside.pass.row.seats) marks) is c.self.invariant.below;
-      replays = subst (λ marks. replay g.State.Object.object (map asked marks) ≡ Some c.self.inside.state) is c.self.invariant.replays;
+      is_first = c.self.invariant.is_first;
+      replays = subst (λ marks. replay (begun g.State.Object.object (g.State.Object.object.first c.self.inside.state)) (map asked marks) ≡ Some c.self.inside.state) is c.self.invariant.replays;
       begins = subst (λ marks. All (λ base. Begins base.marks marks) (bases_in c.self.inside.bases.items)) is c.self.invariant.begins;
       few = omega (arith, ap length (listed g c), ap length c.deref.ensures, c.self.inside.tail.ok.0, length-append c.self.inside.earlier c.self.inside.tail.items);
     }

@@ -1,5 +1,5 @@
-use Rattle.camp_history.proofs.Words.{◌≡◌, ◌++◌, ◌∷◌, [], map, ap, ◌∙◌, replay, asked, map_push, made_of, IfOk-weaker}
-use Rattle.camp_history.proofs.Seeing.{marks_with}
+use Rattle.camp_history.proofs.Words.{◌≡◌, ◌++◌, ◌∷◌, [], map, ap, ◌∙◌, replay, asked, map_push, made_of, IfOk-weaker, subst, begun, IsFirst}
+use Rattle.camp_history.proofs.Seeing.{marks_with, next_replays}
 use Rattle.camp_history.proofs.seats.Seat.version_with.Given.{Over}
 use Rattle.camp_history.proofs.seats.Seat.version_with.Goals.{In_ok-push}
 use Rattle.camp_history.proofs.seats.Seat.version_with.Goals as goal
@@ -14,7 +14,11 @@ whole g c =
 pub made_from-requires-clause-replays : goal.made_from-requires-clause-replays
 made_from-requires-clause-replays g c =
     let asks = map_push asked c.args.self.now.marks (record { seat = c.args.self.now.known.number; call = c.args.call.now }) in
-    ap (λ marks. replay g.State.Object.object (map asked marks)) (whole g (goal.at.made_from-requires-clause-replays g c).In_ok-push) ∙ ap (replay g.State.Object.object) asks ∙ c.requires
+    let object = g.State.Object.object in
+    let first = c.args.self.now.first in
+    let is : IsFirst object first = subst (IsFirst object) (ap (λ seat. seat.first) c.self.view_is) c.self.invariant.is_first in
+    next_replays object g.met.State.Object.lawful first is (map asked (c.self.inside.earlier ++ c.push.new.self.items)) c.args.next.now
+    (ap (λ marks. replay (begun object first) (map asked marks)) (whole g (goal.at.made_from-requires-clause-replays g c).In_ok-push) ∙ ap (replay (begun object first)) asks ∙ c.requires)
 
 pub returns : goal.returns
 returns g c = IfOk-weaker c.made_from.result _ _ (λ version same. same ∙ whole g (goal.at.returns g c).In_ok-push) c.made_from.ensures

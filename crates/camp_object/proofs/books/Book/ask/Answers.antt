@@ -10,7 +10,7 @@ use Rattle.camp_object.proofs.books.Book.ask.Goals as goal
 pub decide-requires : goal.decide-requires
 decide-requires g c = omega (arith, count-replay g.State.Object.object g.met.State.Object.lawful c.self.inside.history.items c.self.inside.state c.self.invariant)
 
--- what stands in the book then: the history as it was, and the call under its seat
+-- the book after the call: the old history, and the call under its seat
 stands : (g : Over) (c : goal.After-done g) → c.push_reserved.new.self.items ≡ c.self.inside.history.items ++ (c.args.seat, c.args.call.now) ∷ []
 stands g c =
     c.push_reserved.ensures.items

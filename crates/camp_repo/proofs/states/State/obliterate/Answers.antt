@@ -5,7 +5,7 @@ use Rattle.camp_repo.proofs.DecideSteps.{next_lawful, obliterate_settles}
 use Rattle.camp_repo.proofs.states.State.obliterate.Goals as goal
 use Rattle.camp_repo.proofs.states.State.obliterate.Goals.{After-without}
 
--- what the obliteration comes to, it settles
+-- the outcome of the obliteration decides the call
 settles : (c : After-without) (outcome : Outcome) → ObliterateGives c.in-Some.old.now (names_in c.in_ok-gone.gone) outcome → settled c.args.self.now c.in-Some.place outcome ≡ step_obliterate c.args.self.now c.args.branch.now c.args.names.now
 settles c =
     let lent = c.as_slice-names.ensures.exact in

@@ -47,7 +47,7 @@ with_pulled-requires-clause-grown c =
     let own = pulls_begin_with_own theirs ours c.in-Ok.pulled (names_in c.in_ok-wanted.wanted) c.in-Ok.ensures.exact in
     (theirs, ours, own.0, c.in-Some.ensures.at, c.in-Some-find.ensures.at, c.in_ok-agreed.ensures.agree, own.1)
 
--- what the pull comes to, it settles
+-- the outcome of the pull decides the call
 settles : (c : After-pulled_behind) (outcome : Outcome) → PullGives c.in-Some.theirs.now c.in-Some-find.ours.now (names_in c.in_ok-wanted.wanted) outcome → settled c.args.self.now c.in-Some-find.place outcome ≡ step_pull c.args.self.now c.args.from.now c.args.to.now c.args.names.now
 settles c =
     let two = sym c.eq.ensures ∙ c.if-eq.false in
