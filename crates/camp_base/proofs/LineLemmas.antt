@@ -1,4 +1,4 @@
--- Lines put in place of others.
+-- Replaces lines by others.
 use Rattle.camp_base.proofs.Words.{◌≡◌, ◌↔◌, ℕ, ◌+◌, ◌-◌, ◌<◌, ◌≤◌, Bool, ◌++◌, length, take, drop, eqb, IsTrue, sym, ap, ◌∙◌, refl, arith, append_assoc, length-append, take-append-drop, drop-drop, drop_at, take_at, length-take-le, Decides-eqb, slice_eq-Decides, pointwise, splice, Lines, SplicesLines, StandsAt}
 
 pub lines_told : (line : ℕ) (front lines : Lines) (told : Bool) → 0 < line → line - 1 ≤ length lines → told ≡ pointwise (pointwise eqb) (take (length front) (drop (line - 1) lines)) front → IsTrue told ↔ StandsAt line front lines
@@ -8,7 +8,7 @@ lines_told line front lines told positive within answers =
       λ at. answers ∙ decided.1 at.same,
     )
 
--- where the old lines stand, the new ones can be put in their place
+-- if the old lines are there, they can be replaced by the new ones
 pub spliced : (line : ℕ) (gone come lines : Lines) → StandsAt line gone lines → SplicesLines line gone come lines (splice lines (line - 1) (line - 1 + length gone) come)
 spliced line gone come lines at =
     let start = line - 1 in
@@ -21,7 +21,7 @@ spliced line gone come lines at =
       becomes = sym (append_assoc (take start lines) come (drop (start + length gone) lines));
     }
 
--- and nowhere else
+-- if they are not there, nothing can be replaced
 pub stands : (line : ℕ) (gone come lines any : Lines) → SplicesLines line gone come lines any → StandsAt line gone lines
 stands line gone come lines any splices =
     let size : length splices.before ≡ line - 1 = (let at = splices.at in omega arith) in

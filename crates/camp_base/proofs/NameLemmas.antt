@@ -26,7 +26,7 @@ are_digits : (bytes : List ℕ) → AreNameBytes bytes → AreDigits bytes
 are_digits [] are = tt
 are_digits (byte ∷ bytes) are = ((grind (arith, nat_tests), grind (arith, nat_tests)), are_digits bytes (grind (arith, nat_tests)))
 
--- a greater number with whatever behind it is greater than a smaller one with bytes
+-- of two numbers that are continued by bytes, the greater one stays greater
 rises : (n less more : ℕ) (bytes others : List ℕ) → AreDigits bytes → less < more → spelt n less bytes < spelt n more others
 rises zero less more bytes others are below = below
 rises (suc n) less more [] [] are below = rises n (less * 256) (more * 256) [] [] tt (omega arith)
@@ -38,7 +38,7 @@ rises (suc n) less more (byte ∷ bytes) (other ∷ others) are below =
     let within = are.0 in
     rises n (less * 256 + byte) (more * 256 + other) bytes others are.1 (omega arith)
 
--- where the numbers differ, they are in the order of the bytes
+-- if the numbers differ, they are in the order of the bytes
 spelt_in_order : (n sum : ℕ) (bytes others : List ℕ) → AreDigits bytes → AreDigits others → spelt n sum bytes ≢ spelt n sum others → nat_cmp (spelt n sum bytes) (spelt n sum others) ≡ slice_cmp nat_cmp bytes others
 spelt_in_order zero sum bytes others are too differ = absurd (differ refl)
 spelt_in_order (suc n) sum [] [] are too differ = absurd (differ refl)
@@ -69,7 +69,7 @@ spelt_in_order (suc n) sum (byte ∷ bytes) (other ∷ others) are too differ =
         subst (λ second. Holds (spelt n (sum * 256 + byte) bytes) (spelt n (sum * 256 + second) others)) (sym same)
         (rest (sum * 256 + byte) differ_behind ∙ sym (ap (λ r. ordering_then r (slice_cmp nat_cmp bytes others)) is))
 
--- zeros behind a list change none of its elements
+-- zeros appended to a list change none of its elements
 zero_at : (count i : ℕ) → get_or {A = ℕ} (replicate count 0) i 0 ≡ 0
 zero_at zero i = refl
 zero_at (suc count) zero = refl
@@ -187,7 +187,7 @@ same_by_tails path other tail other_tail form other_form is other_is same short 
     told_same path other _ refl
     (spelt_once 8 0 0 path other (path_digits path (are_path_bytes path form)) (path_digits other (are_path_bytes other other_form)) short other_short (sym whole ∙ same ∙ other_whole)).1
 
--- what is behind all but eight bytes is the last eight
+-- all but the last eight bytes are followed by exactly those
 pub behind_all_but_eight : (bytes : List ℕ) (start : ℕ) → start ≡ length bytes - 8 → take (length bytes - start) (drop start bytes) ≡ last_eight bytes
 behind_all_but_eight bytes start is =
     let rest = length-drop start bytes in

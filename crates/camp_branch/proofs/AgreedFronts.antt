@@ -1,4 +1,4 @@
--- Two branches whose beginnings agree: a pull goes by what stands behind those.
+-- If prefixes of two branches agree, a pull depends only on the catches after them.
 use Rattle.camp_branch.proofs.Words.{◌≡◌, ◌≤◌, ◌+◌, ℕ, Bool, true, ◌||◌, Ok, Err, List, [], ◌∷◌, ◌++◌, map, bytes_eq, take, drop, length, slice_range, ◌-◌, refl, sym, ap, ◌∙◌, subst, inl, inr, arith, append_assoc, length-append, length-take-le, take-append-drop, take-append-le, Key, Align, AlignSticks, Arrange, ArrangeSticks, ComesFirst, IsOf, Catch, keep_labels, Agree, has_patch, is_among, name_of, DiffersAt, MergedLast, MergesBehind, Outcome, PullBy, PullGives, SameThen, common_names, Blocked, Contains, catch_key, keys_of, AllByRecursion, or_assoc, or_comm, or_left, and_from}
 use Rattle.std.proofs.Math.Seq.{take-append-add, take-length}
 use Rattle.camp_catch.specs.Laws.{KeysAlign}
@@ -29,7 +29,7 @@ module _ (names : List (List ℕ)) where
   sticks_front (k ∷ front) list patch on a w =
       inr (inl (a.0, (k, [], (refl, refl), sticks_front front list patch on a.1 w)))
 
--- what comes first of a beginning comes first of the whole
+-- a catch that can be moved to the front of a prefix can be moved to the front of the whole list
 comes_within : (key : Key) (list more : List Catch) (k : Catch) (others : List Catch) → ComesFirst key list k others → ComesFirst key (list ++ more) k (others ++ more)
 comes_within key [] more k others w = absurd w
 comes_within key (j ∷ list) more k others (inl w) = inl (w.0, w.1, ap (λ l. l ++ more) w.2)
@@ -37,7 +37,7 @@ comes_within key (j ∷ list) more k others (inr w) =
     let come = w.1 in
     inr (w.0, (come.0, come.1, come.2 ++ more, comes_within key list more come.0 come.2 come.3, come.4, ap (λ l. l ++ more) come.5))
 
--- a beginning that comes into the order of another does so with more behind both
+-- if a prefix can be put in the order of another, so can it with more catches after both
 pub aligned_front : (others front to_common from_common aligned : List Catch) → Align (keys_of others) front others → Align (keys_of to_common) from_common aligned → Align (keys_of (others ++ to_common)) (front ++ from_common) (others ++ aligned)
 aligned_front [] front to_common from_common aligned v w = subst (λ f. Align (keys_of to_common) (f ++ from_common) aligned) v w
 aligned_front (g ∷ others) front to_common from_common aligned v w =
@@ -57,7 +57,7 @@ differs_front : (front aligned to_common : List Catch) (name : List ℕ) → Dif
 differs_front [] aligned to_common name w = w
 differs_front (k ∷ front) aligned to_common name w = inr (refl, differs_front front aligned to_common name w)
 
--- a beginning of `from`, and the one of `to` with which it agrees
+-- a prefix of `from`, and the prefix of `to` with which it agrees
 module _ (names : List (List ℕ)) (front others : List Catch) (a : AllOf names front) (b : AllOf names others) (agree : Align (keys_of others) front others) where
   last_front : (chosen beside to : List Catch) (outcome : Outcome) → MergedLast chosen beside (λ taken rest o. o ≡ Ok (to ++ taken)) outcome → MergedLast chosen beside (λ taken rest o. o ≡ Ok ((others ++ to) ++ taken)) (fronted others outcome)
   last_front chosen beside to outcome (inl w) =
@@ -78,7 +78,7 @@ module _ (names : List (List ℕ)) (front others : List Catch) (a : AllOf names 
   merges_front from_common chosen to outcome (inr w) =
       inr (w.0, w.1, sticks_front names others to w.0 w.1 b w.2, ap (fronted others) w.3)
 
-  -- a pull goes by what stands behind the two fronts
+  -- a pull depends only on the catches after the two agreeing prefixes
   pull_front : (from to : List Catch) (wanted : List (List ℕ)) (outcome : Outcome) → PullBy names from to wanted outcome → PullBy names (front ++ from) (others ++ to) wanted (fronted others outcome)
   pull_front from to wanted outcome (inl (x, y, w, inl v)) =
       inl (front ++ x, y, arranged_front names front from x y a w, inl (v.0, v.1, v.2, merges_front x v.0 to outcome v.3))
@@ -90,7 +90,7 @@ module _ (names : List (List ℕ)) (front others : List Catch) (a : AllOf names 
 or_swap : (a b c : Bool) → (a || (b || c)) ≡ (b || (a || c))
 or_swap a b c = sym (or_assoc a b c) ∙ ap (λ x. x || c) (or_comm a b) ∙ or_assoc b a c
 
--- a list has the patches of its front, and those of what stands behind it
+-- a list has the patches of its prefix and those of the rest
 pub front_has : (front rest : List Catch) (n : List ℕ) → has_patch front n ≡ true → has_patch (front ++ rest) n ≡ true
 front_has front rest n e = has_split front rest n ∙ or_left (has_patch front n) (has_patch rest n) e
 
@@ -120,7 +120,7 @@ module _ (front others from to : List Catch) (agree : Align (keys_of others) fro
       let other = front_has others to n e in
       (is_among_is (common_names (front ++ from) (others ++ to)) n).1 (among_common (front ++ from) (others ++ to) n ∙ and_from _ _ one other)
 
-  -- a pull of two branches by what stands behind beginnings that agree
+  -- a pull between the rests gives the pull between the whole branches, if their prefixes agree
   pub pull_behind : (wanted : List (List ℕ)) (outcome : Outcome) → PullBy (common_names (front ++ from) (others ++ to)) from to wanted outcome → PullGives (front ++ from) (others ++ to) wanted (fronted others outcome)
   pull_behind wanted outcome w =
       let common = common_names (front ++ from) (others ++ to) in
@@ -155,7 +155,7 @@ pub agree_itself : (list : List Catch) → Agree list list (length list)
 agree_itself list =
     record { within = omega arith; within_too = omega arith; same = subst (λ l. Align (keys_of l) l l) (sym (take-length list)) (as_it_is list) }
 
--- branches that agree still do with more behind them
+-- prefixes of branches that agree still agree when the branches grow
 pub agree_grown : (from to more other : List Catch) (n : ℕ) → Agree from to n → Agree (from ++ more) (to ++ other) n
 agree_grown from to more other n w =
     record {
@@ -164,7 +164,7 @@ agree_grown from to more other n w =
       same = subst (λ f. Align (keys_of (take n (to ++ other))) f (take n (to ++ other))) (sym (take-append-le n from more w.within)) (subst (λ t. Align (keys_of t) (take n from) t) (sym (take-append-le n to other w.within_too)) w.same);
     }
 
--- fronts that agree, and behind them more catches of both that do
+-- prefixes that agree, each followed by more catches that agree, agree as a whole
 pub agree_more : (from to : List Catch) (n m : ℕ) → Agree from to n → n + m ≤ length from → n + m ≤ length to → Align (keys_of (take m (drop n to))) (take m (drop n from)) (take m (drop n to)) → Agree from to (n + m)
 agree_more from to n m w long long_too same =
     let all = aligned_front (take n to) (take n from) (take m (drop n to)) (take m (drop n from)) (take m (drop n to)) w.same same in
@@ -190,7 +190,7 @@ pub split_has : (list : List Catch) (m : ℕ) (n : List ℕ) → has_patch list 
 split_has list m n =
     ap (λ l. has_patch l n) (sym (take-append-drop m list)) ∙ has_split (take m list) (drop m list) n
 
--- the patches of a beginning that agrees are in the other branch too
+-- the patches of a prefix that agrees are in the other branch too
 pub agreed_has : (from to : List Catch) (m : ℕ) → Agree from to m → (n : List ℕ) → has_patch (take m from) n ≡ true → has_patch to n ≡ true
 agreed_has from to m w n e =
     split_has to m n ∙ or_left (has_patch (take m to) n) (has_patch (drop m to) n) (sym (agree_names (take m from) (take m to) w.same n) ∙ e)

@@ -6,7 +6,7 @@ use Rattle.camp_branch.specs.Agreeing.{BeginAlike, ReachesAll}
 use Rattle.camp_branch.specs.Inside.Alike.{DifferBehind}
 use Rattle.camp_branch.proofs.AgreedFronts.{agree_more, as_it_is}
 
--- so long a beginning of two lists is the same, and this stands behind it
+-- two lists have the same first n catches, and these are the rests after them
 pub record AlikeSoFar (from to rest others : List Catch) (n : ℕ) : Type 0 where
   pub front : List Catch
   pub is : from ≡ front ++ rest
@@ -48,13 +48,13 @@ pub alike_to_the_end : {from to others : List Catch} {n : ℕ} → AlikeSoFar fr
 alike_to_the_end {others = others} so =
     rw (so.is, so.is_too, ← so.long) (record { alike = alike_front so.front [] others; most = λ m w. let h = w.within in omega (arith, length-append so.front []) })
 
--- fronts that agree still do with the same catches behind both
+-- prefixes that agree still agree with the same catches after both
 pub agree_with_alike : (from to : List Catch) (known n : ℕ) → Agree from to known → BeginAlike (drop known from) (drop known to) n → Agree from to (known + n)
 agree_with_alike from to known n w alike =
     let long : known + n ≤ length from = omega (arith, length-drop known from, w.within, alike.within) in
     let long_too : known + n ≤ length to = omega (arith, length-drop known to, w.within_too, alike.within_too) in
     agree_more from to known n w long long_too (subst (λ l. Align (keys_of (take n (drop known to))) l (take n (drop known to))) (sym alike.same) (as_it_is (take n (drop known to))))
 
--- and these are all that are the same
+-- and no more catches are the same
 pub reaches_all : (from to : List Catch) (known n long : ℕ) → DifferBehind (drop known from) (drop known to) n → known + n ≤ long → ReachesAll from to known long
 reaches_all from to known n long w there more alike = let fewer = w.most more alike in omega arith

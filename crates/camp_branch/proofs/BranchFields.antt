@@ -1,4 +1,4 @@
--- The fields of a branch: its list grown by what is recorded, and its index.
+-- The fields of a branch: its list with the recorded catches appended, and its index.
 use Rattle.camp_branch.proofs.Words.{◌≡◌, ◌≤◌, ◌<◌, ℕ, ◌+◌, Bool, false, cond, ◌||◌, Option, Some, List, [], ◌∷◌, ◌++◌, map, length, slice_index_or, is_some, bytes_eq, refl, sym, ap, ◌∙◌, subst, arith, append-nil, append_assoc, drop_all, take_all, is_eq-slice_cmp, splice, nat_cmp, eq_by_cmp, slice_cmp, nat_list_cmp_total, FinMap, contains_key, get, empty, get-empty, get-insert, insert, Primitive, FitsAll, Catch, Plain, Files, IsLawfulBranch, LeadsTo, has_patch, is_among, name_of, recorded, AppliesEach, drop_more, drop, or-false, or_self, cond_both, or_right}
 use Rattle.camp_branch.proofs.BranchLabels.{recorded_patches}
 use Rattle.camp_branch.proofs.BranchTrees.{joined_fits, one_end, recorded_tree}
@@ -25,7 +25,7 @@ pub contains_more : (names : Names) (added name : List ℕ) → contains_key (in
 contains_more names added name =
     ap is_some (get-insert nat_list_cmp_total names added tt name) ∙ is_some_of (eq_by_cmp (slice_cmp nat_cmp) name added) tt (get names name) ∙ ap (λ b. contains_key names name || b) (is_eq-slice_cmp name added)
 
--- what is recorded has one name
+-- all recorded catches have one name
 among_recorded : (name added : List ℕ) (place : ℕ) (changes : List Primitive) → 1 ≤ length changes → is_among (map name_of (recorded added place changes)) name ≡ bytes_eq name added
 among_recorded name added place [] some = absurd (omega arith)
 among_recorded name added place (change ∷ []) some = or-false (bytes_eq name added)
@@ -40,7 +40,7 @@ pub lawful_none : IsLawfulBranch []
 lawful_none =
     record { patches = []; has = record { distinct = tt; sized = tt; labels = refl }; tree = empty; leads = refl }
 
--- what a record leaves
+-- the branch after a record
 pub record Grown (branch : List Catch) (tree : Files) : Type 0 where
   pub lawful : IsLawfulBranch branch
   pub kept : LeadsTo branch tree
@@ -76,7 +76,7 @@ pub appended : (catches own taken next : List Catch) (n : ℕ) → n ≡ length 
 appended catches own taken next n is was becomes =
     becomes ∙ spliced_at_end catches taken n is ∙ ap (λ l. l ++ taken) was
 
--- what comes behind a branch fits the tree of the branch
+-- if catches fit the tree of a branch, the branch with them appended fits
 pub taken_fits : (catches own taken : List Catch) (tree : Files) → catches ≡ own → LeadsTo catches tree → IsLawfulBranch (own ++ taken) → (after : Files) × FitsAll taken tree after
 taken_fits catches own taken tree was leads lawful =
     let parts = second_fits own taken empty lawful.tree lawful.leads in

@@ -56,7 +56,7 @@ labels_of-append [] qs = refl
 labels_of-append (p ∷ ps) qs =
     ap (λ t. labels_from p.name 1 p.changes ++ t) (labels_of-append ps qs) ∙ sym (append_assoc (labels_from p.name 1 p.changes) (labels_of ps) (labels_of qs))
 
--- what is arranged by names is what passes their test, and the rest
+-- arranging by names gives the catches whose names pass the test, and the rest
 abbrev Chosen : List (List ℕ) → List Key → List Key → List Key → Type 0
 Chosen names keys first rest =
     (first ≡ filter (λ k. is_among names k.name) keys) × (rest ≡ filter (λ k. not (is_among names k.name)) keys)
@@ -82,7 +82,7 @@ not_a_patch branch patches name has e =
 names_chosen : (passes : List ℕ → Bool) (patches : List Patch) → patch_names (filter (λ p. passes p.name) patches) ≡ filter passes (patch_names patches)
 names_chosen passes patches = sym (filter_image (λ (p : Patch). p.name) passes patches)
 
--- patches whose names pass a test, where no name of some others does
+-- patches whose names pass a test that no name of some others passes
 apart_from : (names : List (List ℕ)) (patches : List Patch) (ours : List (List ℕ)) → ((name : List ℕ) → is_among names name ≡ true → is_among ours name ≡ false) → AllByRecursion (λ name. is_among (patch_names (those_of names patches)) name ≡ false) ours
 apart_from names patches ours apart = each_among _ ours (λ name e.
     ap (λ l. is_among l name) (names_chosen (is_among names) patches) ∙ not_kept (is_among names) (patch_names patches) name (false_from_ne_true (is_among names name) (λ f. true≢false (sym e ∙ apart name f))))
@@ -139,7 +139,7 @@ pub labels_count : (name : List ℕ) (place n : ℕ) → length (labels_from nam
 labels_count name place zero = refl
 labels_count name place (suc n) = ap suc (labels_count name (place + 1) n)
 
--- the labels of what is recorded
+-- the labels of recorded catches
 recorded_labels : (name : List ℕ) (place : ℕ) (changes : List Primitive) → keys_of (recorded name place changes) ≡ labels_from name place (length changes)
 recorded_labels name place [] = refl
 recorded_labels name place (change ∷ changes) =
@@ -160,7 +160,7 @@ recorded_patches branch patches name changes has new some few =
       labels = map-append catch_key branch (recorded name 1 changes) ∙ (λ i. has.labels i ++ (recorded_labels name 1 changes ∙ sym (append-nil (labels_from name 1 (length changes)))) i) ∙ sym (labels_of-append patches (patch ∷ []));
     }
 
--- the names of the labels at place 1
+-- the names of the labels at position 1
 abbrev pub starts_of : List Key → List (List ℕ)
 starts_of keys = key_names (filter (λ k. k.place == 1) keys)
 
@@ -178,7 +178,7 @@ starts_of_patches [] sized = refl
 starts_of_patches (p ∷ patches) sized =
     starts_of_patch p.name p.changes (labels_of patches) sized.0.0 ∙ ap (λ t. p.name ∷ t) (starts_of_patches patches sized.1)
 
--- the names of the catches at place 1
+-- the names of the catches at position 1
 abbrev pub starts : List Catch → List (List ℕ)
 starts branch = map name_of (filter (λ k. (catch_key k).place == 1) branch)
 
@@ -186,7 +186,7 @@ starts_by_keys : (branch : List Catch) → starts branch ≡ starts_of (keys_of 
 starts_by_keys branch =
     named_by_keys (filter (λ k. (catch_key k).place == 1) branch) ∙ sym (ap key_names (filter_image catch_key (λ k. k.place == 1) branch))
 
--- a lawful branch has a catch at place 1 for each of its names
+-- a lawful branch has a catch at position 1 for each of its names
 pub starts_are_names : (branch : List Catch) (patches : List Patch) → HasPatches branch patches → starts branch ≡ names_of branch
 starts_are_names branch patches has =
     starts_by_keys branch ∙ ap starts_of has.labels ∙ starts_of_patches patches has.sized ∙ sym (names_of_patches branch patches has)

@@ -1,4 +1,4 @@
--- Branches lead to one tree, and what is pulled into them, or left of them, leads to one.
+-- Branches lead to exactly one tree, also after a pull and after an obliteration.
 use Rattle.camp_branch.proofs.Words.{◌≡◌, ℕ, ◌+◌, false, List, [], ◌∷◌, ◌++◌, flat_map, Ok, sym, ◌∙◌, subst, empty, Files, Named, Primitive, AppliesAll, joined_runs, FitsAll, effect_of, keys_of, Catch, one_runs, plain_fits, run_once, lists_keep_effects, LeadsTo, recorded, AppliesEach, ObliterateGives, other_names, PullGives, common_names}
 use Rattle.camp_branch.proofs.Steps.{pulled_by, left_by}
 

@@ -6,7 +6,7 @@ use Rattle.std.proofs.lemmas.Option.{none-some, slice_get_cases}
 use Rattle.camp_prim.specs.Labels.{key_cmp}
 use Rattle.camp_ctx.proofs.EntrySteps.{found_at, take_push}
 
--- what one of the lists has that the elements of a list make
+-- the elements that each element of a list makes in one of two lists
 pub has_of_each : {X A : Type 0} (f : X → List A) (list : List X) (x : X) (y : A) → Contains list x → Contains (f x) y → Contains (flat_map f list) y
 has_of_each f [] x y c d = no_member x c
 has_of_each f (z ∷ list) x y c d = elim (first_or_later z x list c) [
@@ -87,7 +87,7 @@ module _ (named : Catch → List (List ℕ)) (Joins : List ℕ → List ℕ → 
   joined_as : (k : Catch) (a b c d : List ℕ) → a ≡ c → b ≡ d → Joins a b k → Joins c d k
   joined_as k a b c d e f w = subst (λ n. Joins c n k) f (subst (λ n. Joins n b k) e w)
 
-  -- the pairs that are collected are joined
+  -- each collected pair is of two patches in conflict, the lesser name first
   collected_joined : (branch : List Catch) (p : Pair) → Contains (flat_map paired branch) p → (by_name p.0 p.1 ≡ Less) × AreJoined branch p.0 p.1
   collected_joined branch p c =
       let at = one_has paired branch p c in
@@ -160,7 +160,7 @@ all_paired name xs i n old list keyed counted past was =
     let whole : take i (members_of xs) ≡ members_of xs = take_all i (members_of xs) (omega arith) in
     was ∙ ap (λ l. old ++ flat_map (pair_of name) l) (ap (map member_name) whole ∙ sym (names_of_members xs keyed))
 
--- no place below the number of members is empty
+-- each index below the number of members has a member
 pub some_member : {A : Type 0} (xs : ContextedPatches) (i n : ℕ) → n ≡ len xs → i < n → slice_get (members_of xs) i ≡ None → A
 some_member xs i n counted within none = absurd (elim (slice_get_cases (members_of xs) i).1 [
   | inl there ↦ none-some there.0 (sym none ∙ there.2)

@@ -4,7 +4,7 @@ use Rattle.camp_prim.proofs.Applied.{applies_once}
 use Rattle.std.proofs.lemmas.Grind.{flat_map-append}
 use Rattle.camp_prim.proofs.Inverses.{inverse_leads_back, leads_back}
 
--- what leads a list from a first tree leads the rest of it from this one
+-- if a list leads from a first tree to another, its rest leads there from the tree in between
 abbrev pub RunsOn : List Named → Files → List Named → Files → Type 0
 RunsOn s old rest tree = (aim : Files) → AppliesAll s old aim → AppliesAll rest tree aim
 
@@ -27,7 +27,7 @@ one_fits_on list i k d effect old tree next on within is of runs aim fits =
     let rest = subst (λ r. FitsAll r tree aim) (stands_at list i d k within is) (on aim fits) in
     subst (λ t. FitsAll (drop (i + 1) list) t aim) (run_once (effect_of k) tree rest.0 next rest.1.effect (subst (λ s. AppliesAll s tree next) of runs)) rest.2
 
--- the second part of catches that fit, where it is known to which tree the first leads
+-- the second part of catches that fit, if the tree after the first part is known
 pub second_fits : (s t : List Catch) (old new : Files) → FitsAll (s ++ t) old new → (between : Files) × FitsAll s old between × FitsAll t between new
 second_fits [] t old new w = (old, refl, w)
 second_fits (k ∷ s) t old new w =
@@ -43,7 +43,7 @@ first_leads s t old between new runs second =
     let cut = cut_run s t old new runs in
     subst (AppliesAll s old) (one_start t cut.0 between new cut.2 second) cut.1
 
--- the last primitive that is not taken back led to the tree
+-- the last primitive that is not yet inverted led to the tree
 pub goes_back : (s : List Named) (i at : ℕ) (p d : Named) (before tree new : Files) → i + 1 ≡ at → at ≤ length s → p ≡ get_or s i d → AppliesAll s before new → AppliesAll (drop at s) tree new → (next : Files) × Applies (inverse_of p).prim tree next
 goes_back s i at p d before tree new next within is runs left =
     let rest = subst (λ n. AppliesAll (drop n s) tree new) (sym next) left in
@@ -52,7 +52,7 @@ goes_back s i at p d before tree new next within is runs left =
     let one = first_leads (p ∷ []) (drop (i + 1) s) cut.0 tree new cut.2 rest in
     (cut.0, leads_back p.prim cut.0 tree (subst (Applies p.prim cut.0) (sym one.2) one.1))
 
--- and is taken back
+-- and is inverted
 pub one_back : (s : List Named) (i at : ℕ) (p d : Named) (tree next new : Files) → i + 1 ≡ at → at ≤ length s → p ≡ get_or s i d → AppliesAll (drop at s) tree new → Applies (inverse_of p).prim tree next → AppliesAll (drop i s) next new
 one_back s i at p d tree next new follows within is left back =
     let rest = subst (λ n. AppliesAll (drop n s) tree new) (sym follows) left in
@@ -62,7 +62,7 @@ one_back s i at p d tree next new follows within is left back =
 abbrev pub effects_of : List Catch → List Named
 effects_of list = flat_map effect_of list
 
--- the last effect that is not taken back led to the tree
+-- the last effect that is not yet inverted led to the tree
 pub effect_goes_back : (list : List Catch) (i at : ℕ) (k d : Catch) (effect : List Named) (before tree new : Files) → i + 1 ≡ at → at ≤ length list → k ≡ get_or list i d → effect ≡ effect_of k → AppliesAll (effects_of list) before new → AppliesAll (effects_of (drop at list)) tree new → (next : Files) × AppliesAll effect next tree
 effect_goes_back list i at k d effect before tree new next within is of runs left =
     let rest = subst (λ n. AppliesAll (effects_of (drop n list)) tree new) (sym next) left in

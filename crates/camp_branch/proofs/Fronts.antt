@@ -1,4 +1,4 @@
--- The front of a branch that stays as it is: what stands behind it is arranged alone.
+-- The prefix of a branch that an obliteration leaves unchanged: only the catches after it are arranged.
 use Rattle.camp_branch.proofs.Words.{◌≡◌, ◌+◌, ◌++◌, ◌&&◌, ℕ, suc, ap, arith, true, not, cond, Ok, Err, List, map, AllByRecursion, [], ◌∷◌, take, drop, refl, sym, ◌∙◌, subst, contains_key, keys, Key, Arrange, ArrangeSticks, Catch, IsLawfulBranch, has_patch, is_among, name_of, front_before, front_of, DependsIn, ObliterateGives, Blocked, cond_both, take-append-drop}
 use Rattle.camp_branch.proofs.BranchFields.{Names}
 use Rattle.camp_branch.proofs.KeepLawful.{obliterates_keep_lawful}
@@ -16,19 +16,19 @@ module _ (names : List (List ℕ)) where
       let more : suc n ≡ 1 + n = omega arith in
       cond_both (is_among names (name_of k)) (1 + n) 0 (λ m. AllOf names (take m (k ∷ list))) (λ e. subst (λ m. AllOf names (take m (k ∷ list))) more ((is_among_is names (name_of k)).1 e, front_all list)) (λ e. tt)
 
-  -- the front is arranged as it stands
+  -- the prefix is arranged as it is
   pub arranged_behind : (list first rest : List Catch) → Arrange names (drop (front_of names list) list) first rest → Arrange names list (take (front_of names list) list ++ first) rest
   arranged_behind list first rest w =
       let n = front_of names list in
       subst (λ l. Arrange names l (take n list ++ first) rest) (take-append-drop n list) (arranged_front names (take n list) (drop n list) first rest (front_all list) w)
 
-  -- what sticks behind the front sticks
+  -- what is blocked after the prefix is blocked in the whole
   pub sticks_behind : (list : List Catch) (patch on : Key) → ArrangeSticks names (drop (front_of names list) list) patch on → ArrangeSticks names list patch on
   sticks_behind list patch on w =
       let n = front_of names list in
       subst (λ l. ArrangeSticks names l patch on) (take-append-drop n list) (sticks_front names (take n list) (drop n list) patch on (front_all list) w)
 
--- each patch of a branch stays or goes, so the front ends before the first catch of one that goes
+-- each patch of a branch stays or goes, so the prefix ends before the first catch of a patch that goes
 module _ (own : List Catch) (gone : List (List ℕ)) (staying : Names) (stays : (n : List ℕ) → contains_key staying n ≡ (has_patch own n && not (is_among gone n))) where
   stays_or_goes : (k : Catch) → has_patch own (name_of k) ≡ true → not (is_among gone (name_of k)) ≡ is_among (keys staying) (name_of k)
   stays_or_goes k has = sym (sym (has_listed staying (name_of k)) ∙ stays (name_of k) ∙ ap (λ b. b && not (is_among gone (name_of k))) has)
@@ -40,13 +40,13 @@ module _ (own : List Catch) (gone : List (List ℕ)) (staying : Names) (stays : 
   pub front_is_before : front_before gone own ≡ front_of (keys staying) own
   front_is_before = front_in own (each_named name_of (λ k. has_patch own (name_of k) ≡ true) own (λ k has. (is_among_is (map name_of own) (name_of k)).0 has))
 
--- what stands behind a beginning that stays, and which names stay
+-- the catches after a prefix that stays, and the names that stay
 pub record StaysInFront (own : List Catch) (gone : List (List ℕ)) (staying : Names) (start : ℕ) (behind : List Catch) : Type 0 where
   pub stays : (n : List ℕ) → contains_key staying n ≡ (has_patch own n && not (is_among gone n))
   pub at : start ≡ front_of (keys staying) own
   pub is : behind ≡ drop start own
 
--- an obliteration goes by what stands behind the front
+-- an obliteration depends only on the catches after the prefix
 module _ (own : List Catch) (gone : List (List ℕ)) (staying : Names) (start : ℕ) (behind : List Catch) (front : StaysInFront own gone staying start behind) where
   pub front_stays : (first rest : List Catch) → Arrange (keys staying) behind first rest → ObliterateGives own gone (Ok (take start own ++ first))
   front_stays first rest w =
@@ -58,7 +58,7 @@ module _ (own : List Catch) (gone : List (List ℕ)) (staying : Names) (start : 
       let here = subst (λ n. ArrangeSticks (keys staying) (drop n own) w.0 w.1) front.at (subst (λ l. ArrangeSticks (keys staying) l w.0 w.1) front.is w.2) in
       obliterate_depends own gone staying front.stays own blocked refl (w.0, w.1, sticks_behind (keys staying) own w.0 w.1 here, w.3)
 
-  -- what it leaves is lawful, and has the names that stay
+  -- the remaining catches are lawful, and have the names that stay
   pub front_lawful : (first rest : List Catch) → Arrange (keys staying) behind first rest → IsLawfulBranch own → IsLawfulBranch (take start own ++ first)
   front_lawful first rest w lawful =
       obliterates_keep_lawful.lawful own (take start own ++ first) gone (front_stays first rest w) lawful

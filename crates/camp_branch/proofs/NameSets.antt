@@ -19,7 +19,7 @@ contains_with names added name =
     (λ e. has_already (contains_key names name) (bytes_eq name added) (λ same. ap (contains_key names) (same_name name added same) ∙ e))
     (λ e. contains_more names added name)
 
--- what a set lists
+-- the names that a set lists
 abbrev pub Entries : Type 0
 Entries = List (List ℕ × Unit {0})
 
@@ -70,7 +70,7 @@ pub one_added : (set next : Names) (n : List ℕ) (rest : List (List ℕ)) (aim 
 one_added set next n rest aim inv becomes =
     joined set next n rest aim inv (λ name. ap (λ m. contains_key m name) becomes ∙ contains_with set n name)
 
--- the name at a place comes into the set
+-- the name at an index is inserted into the set
 pub one_listed : (set next : Names) (names : List (List ℕ)) (i : ℕ) (n d : List ℕ) (aim : List ℕ → Bool) → IsFilled set (drop i names) aim → i < length names → n ≡ get_or names i d → next ≡ with_name set n → IsFilled next (drop (i + 1) names) aim
 one_listed set next names i n d aim inv within is becomes =
     one_added set next n (drop (i + 1) names) aim

@@ -26,7 +26,7 @@ is_among_is names name =
 pub not_among : (names : List (List ℕ)) (name : List ℕ) → ¬ (Contains names name) → is_among names name ≡ false
 not_among names name never = false_from_ne_true _ (λ e. never ((is_among_is names name).1 e))
 
--- what holds of each name that is among some holds of each of them
+-- a fact about each name among some holds of each of them
 pub each_among : (Q : List ℕ → Type 0) (names : List (List ℕ)) → ((name : List ℕ) → is_among names name ≡ true → Q name) → AllByRecursion Q names
 each_among Q names holds =
     recursion_from_All Q names (All-weaker (Contains names) Q (λ n c. holds n ((is_among_is names n).0 c)) names (All-contains_itself names))
@@ -34,12 +34,12 @@ each_among Q names holds =
 pub has_image : {X Y : Type 0} (f : X → Y) (xs : List X) (x : X) → Contains xs x → Contains (map f xs) (f x)
 has_image f xs x (k, within, is) = (k, (omega (arith, length-map xs f)), get_or-map f xs k x (f x) within ∙ ap f is)
 
--- what holds of each that has a name holds of each of some, where that is known by their names
+-- a fact about each element with a name holds of each of some, if it depends on their names only
 pub each_named : {X : Type 0} (name_in : X → List ℕ) (Q : X → Type 0) (xs : List X) → ((x : X) → Contains (map name_in xs) (name_in x) → Q x) → AllByRecursion Q xs
 each_named name_in Q xs holds =
     recursion_from_All Q xs (All-weaker (Contains xs) Q (λ x c. holds x (has_image name_in xs x c)) xs (All-contains_itself xs))
 
--- what passes a test is found among what passes a wider one
+-- a name that passes a test is among those that pass a weaker one
 pub filter_within : {X : Type 0} (p q : X → Bool) → ((x : X) → p x ≡ true → q x ≡ true) → (xs : List X) → filter p (filter q xs) ≡ filter p xs
 filter_within p q within [] = refl
 filter_within p q within (x ∷ xs) =
@@ -96,7 +96,7 @@ among_kept p names n =
 pub not_kept : (p : List ℕ → Bool) (names : List (List ℕ)) (name : List ℕ) → p name ≡ false → is_among (filter p names) name ≡ false
 not_kept p names name e = among_kept p names name ∙ and_right (is_among names name) (p name) e
 
--- the test of being among those that pass is the test
+-- whether a name is among those that pass a test is the test itself
 pub passes_is_kept : (p : List ℕ → Bool) (names : List (List ℕ)) (name : List ℕ) → is_among names name ≡ true → is_among (filter p names) name ≡ p name
 passes_is_kept p names name there = among_kept p names name ∙ ap (λ b. b && p name) there
 
@@ -110,7 +110,7 @@ among_once [] n = refl
 among_once (x ∷ names) n =
     or_else (bytes_eq n x) _ _ (λ e. among_kept (λ other. not (bytes_eq x other)) (each_once names) n ∙ ap (λ t. is_among (each_once names) n && not t) (other_way n x e) ∙ and-true (is_among (each_once names) n) ∙ among_once names n)
 
--- one list of catches behind another has the patches of both
+-- two lists of catches joined have the patches of both
 pub has_split : (front rest : List Catch) (n : List ℕ) → has_patch (front ++ rest) n ≡ (has_patch front n || has_patch rest n)
 has_split front rest n =
     ap (λ l. is_among l n) (map-append name_of front rest) ∙ list_any-append (bytes_eq n) (map name_of front) (map name_of rest)

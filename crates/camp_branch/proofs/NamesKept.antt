@@ -1,4 +1,4 @@
--- The names that a pull, or an obliteration, goes by, and those of what it gives.
+-- The sets of names that a pull or an obliteration works with, and the names of its result.
 use Rattle.camp_branch.proofs.Words.{◌≡◌, ℕ, not, ◌&&◌, List, map, Ok, Err, refl, sym, ap, ◌∙◌, subst, inl, inr, ◌↔◌, Contains, contains_key, keys, Arrange, Catch, arrange_by_members, names_decide, IsLawfulBranch, has_patch, is_among, name_of, names_of, DependsIn, ObliterateGives, other_names, common_names, Blocked}
 use Rattle.camp_branch.proofs.BranchFields.{Names}
 use Rattle.camp_branch.proofs.KeepLawful.{obliterates_keep_lawful}
@@ -18,7 +18,7 @@ pub same_members : (set : Names) (names : List (List ℕ)) → ((n : List ℕ) �
 same_members set names same n =
     (λ c. (is_among_is names n).1 (sym (same n) ∙ (names_decide set n).1 c), λ c. (names_decide set n).0 (same n ∙ (is_among_is names n).0 c))
 
--- what an obliteration leaves has the names that stay
+-- after an obliteration the branch has the names that stay
 pub left_has : (branch left : List Catch) (gone : List (List ℕ)) → IsLawfulBranch branch → ObliterateGives branch gone (Ok left) → (n : List ℕ) → has_patch left n ≡ (has_patch branch n && not (is_among gone n))
 left_has branch left gone lawful gives n =
     sym (among_once (map name_of left) n) ∙ ap (λ names. is_among names n) (obliterates_keep_lawful.names branch left gone gives lawful) ∙ among_others branch gone n

@@ -8,7 +8,7 @@ pub end_replaced : (catches own new next : List Catch) (start n : ℕ) → n ≡
 end_replaced catches own new next start n is was becomes =
     becomes ∙ ap (λ t. take start catches ++ (new ++ t)) (drop_all n catches (omega (is, arith))) ∙ ap (λ t. take start catches ++ t) (append-nil new) ∙ ap (λ l. take start l ++ new) was
 
--- catches that go stand behind all others
+-- the catches that go are after all others
 module _ (front gone : List Catch) (tree : Files) (leads : LeadsTo (front ++ gone) tree) where
   parts : (between : Files) × FitsAll front empty between × FitsAll gone between tree
   parts = second_fits front gone empty tree leads

@@ -1,4 +1,4 @@
--- A pull comes to one outcome, and so does an obliteration.
+-- A pull has exactly one outcome, and so does an obliteration.
 use Rattle.camp_branch.proofs.Words.{◌≡◌, ◌⊎◌, ℕ, List, [], ◌∷◌, ◌++◌, Ok, Err, refl, sym, ap, ◌∙◌, subst, inl, inr, Key, Arrange, ArrangeSticks, Align, AlignSticks, keys_of, MergeLists, MergeSticks, Catch, lists_are_unique, lists_succeed_or_stick, name_of, ExactlyOne, OutcomesAreDetermined, other_names, Outcome, StepThen, SameThen, DiffersAt, common_names, Blocked}
 use Rattle.camp_catch.specs.ListLaws.{GivesOnePair, HasPair, OneOf}
 use Rattle.camp_catch.proofs.SameCatches.{catch_or_not}
@@ -25,7 +25,7 @@ module _ (Gives : List Catch → List Catch → Type 0) (Sticks : Key → Key �
   stops one k l sticks never =
       by_second _ _ (once (Err (why k l)) (k, l, sticks, refl) (λ other s. s.3 ∙ (λ i. Err (why ((one s.0 k s.1 l s.2 sticks).0 i) ((one s.0 k s.1 l s.2 sticks).1 i))))) (λ other v. never (v.0, v.1, v.2))
 
-  -- a step that is determined, before what is
+  -- a determined step followed by one that is determined
   pub step : GivesOnePair Gives → GivesOnePair Sticks → OneOf (HasPair Gives) (HasPair Sticks) → ((x y : List Catch) → ExactlyOne (Next x y)) → ExactlyOne (StepThen Gives Sticks why Next)
   step one only choice next = elim choice.0 [
     | inl w ↦ goes_on one w.0 w.1 w.2 (choice.1 w) (next w.0 w.1)

@@ -1,4 +1,4 @@
--- The stages of a pull, put together.
+-- Joins the stages of a pull.
 use Rattle.std.specs.Prelude.{MatchOption}
 use Rattle.std.specs.Result.{MatchResult}
 use Rattle.camp_catch.specs.Making.{ComesTo}
@@ -6,7 +6,7 @@ use Rattle.camp_catch.specs.declared.faults.Unmade.{Unmade}
 use Rattle.camp_catch.proofs.Making.{blocks_too}
 use Rattle.camp_branch.proofs.Words.{Option, None, Some, false, true≢false, is_some, ℕ, List, [], ◌∷◌, ◌++◌, append-nil, append_assoc, arith, subst, ArrangesBehind, Result, Ok, Err, refl, ap, inl, inr, Arrange, Align, keys_of, MergeLists, Catch, DependsIn, DivergesFrom, DivergesIn, DoesNotMerge, PullBy, Blocked, ◌≡◌, DiffersAt}
 
--- what is said of either answer follows from what is said of it before
+-- a fact about either result follows from a fact about the result before it
 pub either_answer : {X W : Type 0} (P P' : X → Type 0) (Q Q' : W → Type 0) → ((x : X) → P x → P' x) → ((w : W) → Q w → Q' w) → (answer : Result X (Unmade W)) → ComesTo (λ a. MatchResult a P Q) answer → ComesTo (λ a. MatchResult a P' Q') answer
 either_answer P P' Q Q' goes stops (Ok x) w = goes x w
 either_answer P P' Q Q' goes stops (Err why) w = blocks_too why w stops
@@ -38,7 +38,7 @@ module _ (common : List (List ℕ)) (from to : List Catch) (wanted : List (List 
         merges same taken w =
             inl (from_common, behind, theirs, inl (chosen, left, choice, inl (to_common, others, ours, inl (same, inl (taken, w.0, w.1, refl)))))
 
--- what holds where nothing is found
+-- the case in which nothing is found
 pub none_found : {X P : Type 0} (Q : X → Type 0) (found : Option X) → is_some found ≡ false → MatchOption found P Q → P
 none_found Q None none told = told
 none_found Q (Some x) some told = absurd (true≢false some)

@@ -1,4 +1,4 @@
--- What a pull by what stands behind two fronts comes to.
+-- The outcome of a pull between the catches after two agreeing prefixes.
 use Rattle.camp_branch.proofs.Words.{◌≡◌, ℕ, ◌||◌, ◌&&◌, Ok, Err, List, ◌++◌, drop, ap, ◌∙◌, subst, contains_key, keys, Catch, Agree, has_patch, Outcome, PullBy, PullGives, common_names, Blocked, Bool, true, false, [], ◌∷◌, map, take, refl, sym, inl, inr, take-append-drop, Key, ArrangesBehind, IsOf, SticksBehind, name_of, MergesBehind, ◌↔◌, Contains, names_decide, AllByRecursion, or_right, or-false, or_comm, and_comm, false≢true}
 use Rattle.camp_branch.proofs.AgreedFronts.{blocked_behind, goes_behind, behind_has}
 use Rattle.camp_branch.proofs.BranchFields.{Indexes, Names}
@@ -67,12 +67,12 @@ module _ (from to : List Catch) (common : Names) (m : ℕ) (has : (n : List ℕ)
       let is = (is_among_is (map name_of (drop m to)) n).0 c in
       same_at n (has n ∙ or_comm (has_patch (drop m from) n && has_patch to n) (has_patch (drop m to) n && has_patch from n) ∙ of_theirs _ _ _ _ is (in_whole to n is) (in_whole from n) ∙ and_comm (has_patch to n) (has_patch from n))
 
-  -- a pull of what stands behind fronts, by a set of the common names that stand there
+  -- a pull between the catches after prefixes, with the set of the common names among them
   pub pull_by_those : (wanted : List (List ℕ)) (outcome : Outcome) → PullBy (keys common) (drop m from) (drop m to) wanted outcome → PullBy (common_names from to) (drop m from) (drop m to) wanted outcome
   pull_by_those wanted outcome =
       pull_alike (keys common) (common_names from to) (drop m from) (drop m to) wanted outcome (alike_on (keys common) (common_names from to) (drop m from) in_theirs) (alike_on (keys common) (common_names from to) (drop m to) in_ours)
 
--- what is pulled behind the fronts, or blocked there, is so for the whole of both branches
+-- the pulled or blocked catches after the prefixes are those of the whole branches
 pub record PullsWhole (from to theirs ours : List Catch) (common : Names) (wanted : List (List ℕ)) : Type 0 where
   pub gives : (taken : List Catch) → PullBy (keys common) theirs ours wanted (Ok (ours ++ taken)) → PullGives from to wanted (Ok (to ++ taken))
   pub blocked : (blocked : Blocked) → PullBy (keys common) theirs ours wanted (Err blocked) → PullGives from to wanted (Err blocked)

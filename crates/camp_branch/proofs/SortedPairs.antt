@@ -46,7 +46,7 @@ then_tied p q Greater e is = cc
 pub pairs_tie : IsAntisymmetric by_names
 pairs_tie p q is = then_tied p q (by_name p.0 q.0) refl is
 
--- no pair stands before itself, and no two before each other
+-- no pair is before itself, and no two are each before the other
 not_both : (p q : Pair) → IsBefore p q → IsBefore q p → ⊥
 not_both p q before after =
     let e : by_names p p ≡ Less = by_names_total.trans p q p (less_by_before p q before) (less_by_before q p after) in
@@ -100,7 +100,7 @@ ascending_once (p ∷ s) (q ∷ t) up up' f g =
     let rests = ascending_once s t (rest_ascends p s up) (rest_ascends q t up') (rests_within p q s t same up f) (rests_within q p t s (sym same) up' g) in
     λ i. same i ∷ rests i
 
--- a key of entries in order is below those that stand behind it
+-- a key of sorted entries is less than the keys after it
 below_later : {X : Type 0} (p : Pair) (list : List (Pair × X)) → T (below_all by_names p list) → All (IsBefore p) (map (λ e. e.0) list)
 below_later p [] below = All-nil (IsBefore p)
 below_later p (e ∷ list) below =
@@ -151,7 +151,7 @@ sames_tie : same_names ≡ eq_by_cmp by_names
 sames_tie i p q =
     both_tied _ _ (by_name p.0 q.0) (by_name p.1 q.1) (texts_ties p.0 q.0) (texts_ties p.1 q.1) i
 
--- sorted pairs without those that stand behind the same
+-- sorted pairs without duplicates
 pub sorted_once : (pairs sorted list : List Pair) → IsPermutation pairs sorted → IsSorted by_names sorted → list ≡ dedup same_names sorted → IsInOrder pairs list
 sorted_once pairs sorted list moved up is =
     let test = eq_by_cmp by_names in

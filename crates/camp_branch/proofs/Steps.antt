@@ -1,7 +1,7 @@
 -- The steps of a pull, and of an obliteration, that went through.
 use Rattle.camp_branch.proofs.Words.{◌≡◌, ℕ, List, ◌++◌, Ok, Err, refl, sym, subst, inl, inr, Arrange, Align, keys_of, MergeLists, Catch, PullsBeginWithOwn, ObliterateGives, other_names, Outcome, PullGives, common_names, Blocked}
 
--- a pull that goes through
+-- a pull that succeeds
 pub record Pulled (from to : List Catch) (wanted : List (List ℕ)) (pulled : List Catch) : Type 0 where
   pub from_common : List Catch
   pub behind : List Catch
@@ -48,14 +48,14 @@ pulled_by from to wanted pulled (inl (from_common, behind, own_front, inl (chose
   becomes = same_branch pulled (to ++ taken) (Ok pulled) refl is;
 }
 
--- what an obliteration that goes through leaves
+-- the result of an obliteration that succeeds
 pub left_by : (branch : List Catch) (names : List (List ℕ)) (left : List Catch) → ObliterateGives branch names (Ok left) → (gone : List Catch) × Arrange (other_names branch names) branch left gone
 left_by branch names left gives = elim gives [
   | inl a ↦ (a.1, subst (λ l. Arrange (other_names branch names) branch l a.1) (sym (same_branch left a.0 (Ok left) refl a.3)) a.2)
   | inr s ↦ apart left _ s.3
 ]
 
--- a pull that goes through gives the branch that is pulled into, and behind it what was taken
+-- a pull that succeeds gives the target branch followed by the pulled catches
 pub pulls_begin_with_own : PullsBeginWithOwn
 pulls_begin_with_own from to pulled wanted gives =
     let steps = pulled_by from to wanted pulled gives in

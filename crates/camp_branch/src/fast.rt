@@ -27,7 +27,7 @@ pub(crate) fn agreed(
     ensures agree { IfOk result (Agree from.now to.now) }
     ensures as_they_are { IfOk result (λ long. ReachesAll from.now to.now known long) }
 {
-    // Tells the prover that a length is a number of the machine.
+    // States a fact for the prover: a length fits in a `usize`.
     prove!(from.len() <= usize::MAX);
     let start = known + same_behind(from, to, known);
     let more = alike_in_labels(from, to, start);
@@ -55,7 +55,7 @@ fn same_behind(
     ensures fits_too { known + result ≤ length to.now }
     ensures most { DifferBehind (drop known from.now) (drop known to.now) result }
 {
-    // Tells the prover that a length is a number of the machine.
+    // States a fact for the prover: a length fits in a `usize`.
     prove!(from.len() <= usize::MAX);
     let mut others = to.iter_from(known);
     let mut same = 0;
@@ -83,7 +83,7 @@ fn alike_in_labels(
     ensures fits { known + result ≤ length from.now }
     ensures fits_too { known + result ≤ length to.now }
 {
-    // Tells the prover that a length is a number of the machine.
+    // States a fact for the prover: a length fits in a `usize`.
     prove!(from.len() <= usize::MAX);
     let mut others = to.iter_from(known);
     let mut difference: u64 = 0;

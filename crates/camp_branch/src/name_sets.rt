@@ -76,7 +76,7 @@ pub(crate) fn with_taken(names: &NameSet, taken: &[Shared<Catch>]) -> Result<Nam
 pub(crate) fn front_before(catches: &SharedList<Shared<Catch>>, names: &NameSet) -> usize
     ensures { result ≡ front_before (names_in names.now) catches.now }
 {
-    // Tells the prover that a length is a number of the machine.
+    // States a fact for the prover: a length fits in a `usize`.
     prove!(catches.len() <= usize::MAX);
     catches
         .iter()

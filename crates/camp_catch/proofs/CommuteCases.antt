@@ -5,7 +5,7 @@ use Rattle.camp_catch.proofs.Words.{None, Option, Some, [], ap, arith, cond, inl
 use Rattle.camp_catch.proofs.Determined.{Determined, both, chain, either, found, made_of, none_or_not, one_pair, pairs, where_holds}
 use Rattle.camp_catch.proofs.PartsDetermined.{adds_to_bare, against_one, all_added_to, all_pass_by, comes_before, effects_pass, fronts, lacks_or_not, one_member, one_passes, order, passes_by}
 
--- two catches that a case makes are determined
+-- the two catches of a case are determined
 abbrev pub IsDetermined : (Catch → Catch → Type 0) → Type 0
 IsDetermined Case = Determined (λ (pair : Catch × Catch). Case pair.0 pair.1)
 
@@ -57,7 +57,7 @@ one_of_several_conflicts j k =
     chain (effects_pass j.effect k.effect (remove k.conflicts key)) (λ e passes.
     both (all_added_to e.1 e.0 (without key k)) (all_added_to (inverse_all k.effect) e.1 j))))) (λ x. (Catch.Conflictor x.1.1.0, Catch.Conflictor (joined_by k.identity x.1.1.1))) (λ x w. record { z = x.0; member = w.0; several = w.1.0; effect = x.1.0.0; rr' = x.1.0.1; effects = w.1.1.0; moved = x.1.1.0; becomes = w.1.1.1.0; own = x.1.1.1; own_becomes = w.1.1.1.1; second = refl; first = refl }) (λ pair c. ((c.z, ((c.effect, c.rr'), (c.moved, c.own))), (c.member, (c.several, (c.effects, (c.becomes, c.own_becomes)))), λ t. (c.second t, c.first t)))
 
--- the set of one has its member
+-- a set of one member has that member
 get_only : (x : ContextedPatch) → get (only x) (context_key x) ≡ Some x
 get_only x =
     let none : ContextedPatches = empty in
@@ -67,7 +67,7 @@ get_only x =
 pub not_none : (x : ContextedPatch) (o : Option ContextedPatch) → o ≡ Some x → o ≡ None → ⊥
 not_none x o e f = cc
 
--- a set that lacks a label is not that of one member with it
+-- a set that lacks a label is not the set of one member with that label
 pub lacks_its_only : (ys : ContextedPatches) (x : ContextedPatch) (key : Key) → get ys key ≡ None → ys ≡ only x → context_key x ≡ key → ⊥
 lacks_its_only ys x key lacks alone named =
     not_none x (get ys key) (subst (λ s. get s key ≡ Some x) (sym alone) (subst (λ q. get (only x) q ≡ Some x) named (get_only x))) lacks
@@ -77,7 +77,7 @@ only_is_one ys x e several =
     let one : len ys ≡ 1 = ap len e ∙ len-only x in
     absurd (omega (arith, one, several))
 
--- the set of a conflictor with a alone
+-- the conflicts of a conflictor with a alone
 pub its_only : (a : Named) (k : Conflictor) (q : Named) → k ≡ against a q → k.conflicts ≡ only (bare a)
 its_only a k q is = ap (λ (c : Conflictor). c.conflicts) is
 

@@ -1,8 +1,8 @@
--- Commuting keeps effects: each case is a path of trees.
+-- Commuting keeps effects: each case gives a path through trees.
 use Rattle.camp_catch.proofs.Words.{List, [], inl, inr, refl, subst, sym, ◌++◌, ◌∷◌, ◌≡◌, append_assoc, remove, Files, applies_once, Applies, inverse_of, label_of, Named, after_one, all_passed, before, behind, equal_are, fronted, joined, ordered, passed, split, swapped, runs_back, through, ◌~◌, Norm, AppliesAll, inverse_all, run_along, valid_by_adding, valid_by_adding_all, valid_by_passing, valid_by_passing_all, Adds, AddsAll, PassesBy, PassesByAll, ContextedPatches, Valid, bare, context_key, patch_key, Fits, BothPlain, ConflictDissolves, ConflictorPastPlain, EffectsPass, OneOfSeveralConflicts, OnlyConflictGoes, PlainLeavesTheSet, PlainPastConflictor, TwoConflictorsApart, labels_undone, against, in_conflict_with, with_effect, without, CommuteKeepsEffects, Catch, Plain, Conflictor}
 use Rattle.camp_catch.proofs.Fitting.{plain_fits, conflictor_fits, becomes_fits, added_fits, joined_fits, places_change, one_runs, one_applies, one_back, only_valid, without_valid}
 
--- a case keeps effects
+-- one case keeps effects
 abbrev KeepsEffects : Catch → Catch → (Catch → Catch → Type 0) → Type 0
 KeepsEffects j k Case =
     (k' j' : Catch) → Case k' j' → (old between new : Files) → Fits j old between → Fits k between new → (other : Files) × Fits k' old other × Fits j' other new

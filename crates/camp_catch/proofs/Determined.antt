@@ -1,17 +1,17 @@
--- Relations that have at most one result, where it is decided whether they have one.
+-- Relations that have at most one result, and for which it is decidable whether they have one.
 use Rattle.camp_catch.proofs.Words.{None, Option, Some, ap, inl, inr, refl, subst, sym, ◌∙◌, ◌≡◌, ◌⊎◌, same_Some, Decided, decided_by, GivesOnePair}
 
--- a relation has at most one result, and it is decided whether it has one
+-- a relation has at most one result, and it is decidable whether it has one
 pub record Determined {X : Type 0} (Gives : X → Type 0) : Type 0 where
   pub one : (x y : X) → Gives x → Gives y → x ≡ y
   pub decided : Decided ((x : X) × Gives x)
 
--- a fact, and then a relation
+-- a fact followed by a relation
 pub where_holds : {Fact X : Type 0} {Gives : X → Type 0} → Decided Fact → (Fact → Determined Gives) → Determined (λ x. Fact × Gives x)
 where_holds (inl fact) next = record { one = λ x y v w. (next fact).one x y v.1 w.1; decided = decided_by (λ w. (w.0, (fact, w.1))) (λ w. (w.0, w.1.1)) (next fact).decided }
 where_holds (inr never) next = record { one = λ x y v w. absurd (never v.0); decided = inr (λ w. never w.1.0) }
 
--- a result, and what it leads to
+-- a relation followed by another one
 pub chain : {X Y : Type 0} {First : X → Type 0} {Next : X → Y → Type 0} → Determined First → ((x : X) → First x → Determined (Next x)) → Determined (λ (p : X × Y). First p.0 × Next p.0 p.1)
 chain {X} {Y} {First} {Next} first next = record {
   one = λ p q v w.
@@ -24,7 +24,7 @@ chain {X} {Y} {First} {Next} first next = record {
   ];
 }
 
--- a relation whose results are made of those of another
+-- a relation whose results are images of those of another
 pub made_of : {X Y : Type 0} {Gives : X → Type 0} {Case : Y → Type 0} → Determined Gives → (f : X → Y) → ((x : X) → Gives x → Case (f x)) → ((y : Y) → Case y → (x : X) × Gives x × (y ≡ f x)) → Determined Case
 made_of d f to from = record {
   one = λ y z v w.
@@ -34,7 +34,7 @@ made_of d f to from = record {
   decided = decided_by (λ x. (f x.0, to x.0 x.1)) (λ y. let x = from y.0 y.1 in (x.0, x.1)) d.decided;
 }
 
--- the results of one relation, or of another
+-- the results of either of two relations
 pub either : {X : Type 0} {One Other : X → Type 0} → ((x y : X) → One x → ¬ (Other y)) → Determined One → Determined Other → Determined (λ x. One x ⊎ Other x)
 either apart one other = record {
   one = λ x y v w. elim v [
@@ -47,11 +47,11 @@ either apart one other = record {
   ];
 }
 
--- a relation of two results, as one of a pair
+-- a relation between two results, as a relation on pairs
 pub pairs : {X Y : Type 0} {Gives : X → Y → Type 0} → ((x z : X) (y w : Y) → Gives x y → Gives z w → (x ≡ z) × (y ≡ w)) → Decided ((x : X) × (y : Y) × Gives x y) → Determined (λ (p : X × Y). Gives p.0 p.1)
 pairs one decided = record { one = λ p q v w. let e = one p.0 q.0 p.1 q.1 v w in λ t. (e.0 t, e.1 t); decided = decided_by (λ w. ((w.0, w.1), w.2)) (λ w. (w.0.0, w.0.1, w.1)) decided }
 
--- and back
+-- and conversely
 pub one_pair : {X Y : Type 0} (Gives : X → Y → Type 0) → ((p q : X × Y) → Gives p.0 p.1 → Gives q.0 q.1 → p ≡ q) → GivesOnePair Gives
 one_pair {X} {Y} Gives one x z y w v u =
     let same = one (x, y) (z, w) v u in
@@ -61,11 +61,11 @@ one_pair {X} {Y} Gives one x z y w v u =
 pub always : {X : Type 0} {Gives : X → Type 0} → ((x y : X) → Gives x → Gives y → x ≡ y) → (x : X) × Gives x → Determined Gives
 always one w = record { one = one; decided = inl w }
 
--- one value
+-- the relation with exactly this result
 pub just : {X : Type 0} (x : X) → Determined (λ y. y ≡ x)
 just x = always (λ y z v w. v ∙ sym w) (x, refl)
 
--- two results that have nothing to do with each other
+-- a pair of independent results
 pub both : {X Y : Type 0} {First : X → Type 0} {Second : Y → Type 0} → Determined First → Determined Second → Determined (λ (p : X × Y). First p.0 × Second p.1)
 both first second = chain first (λ x w. second)
 
@@ -81,10 +81,10 @@ some_or_not : {X : Type 0} (found : Option X) → Decided ((x : X) × (found ≡
 some_or_not None = inr (λ e. let is = e.1 in cc)
 some_or_not (Some x) = inl (x, refl)
 
--- what a search found
+-- the result of a search
 pub found : {X : Type 0} (o : Option X) → Determined (λ x. o ≡ Some x)
 found o = record { one = λ x y v w. same_Some x y (sym v ∙ w); decided = some_or_not o }
 
--- where the first result leads nowhere, nothing is led to
+-- if the first step has no result, the whole has none
 pub leads_nowhere : {X Y : Type 0} {First : X → Type 0} (Next : X → Y → Type 0) → Determined First → (x : X) → First x → ((y : Y) → ¬ (Next x y)) → (z : X) → First z → (y : Y) → ¬ (Next z y)
 leads_nowhere Next d x first never z other y next = never y (subst (λ u. Next u y) (d.one z x other first) next)

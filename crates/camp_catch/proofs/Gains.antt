@@ -37,7 +37,7 @@ none_merge = record {
 }
 
 module _ (j k : Conflictor) (none : j.effect ≡ []) (also : k.effect ≡ []) where
-  -- whatever their sets are
+  -- the same whatever their sets are
   module _ (xs ys : ContextedPatches) (found : Bool) (is : IsTrue found ↔ Conflict j.identity k.identity) where
     tells : TellsConflict (with_conflicts xs j) (with_conflicts ys k) found
     tells = record {
@@ -61,7 +61,7 @@ module _ (j k : Conflictor) (none : j.effect ≡ []) (also : k.effect ≡ []) wh
     merge_by k' j' each =
         two_from (with_conflicts xs j) (with_conflicts ys k) [] [] found (with_conflicts ys k) (with_conflicts xs j) k' j' effects tells stays own_stays each
 
-  -- where they do not conflict, neither gains
+  -- if they do not conflict, neither gains
   pub none_gains : ¬ (Conflict j.identity k.identity) → EachGains (Catch.Conflictor j) (Catch.Conflictor k) [] []
   none_gains apart before beside =
       let xs = fold with_member j.conflicts before in
@@ -76,7 +76,7 @@ module _ (j k : Conflictor) (none : j.effect ≡ []) (also : k.effect ≡ []) wh
         beside = ap (λ zs. Catch.Conflictor (with_conflicts zs j)) (fold-append with_member j.conflicts before []);
       })
 
-  -- where they do, each gains the other's identity
+  -- if they do, each gains the other's identity
   pub each_gains : Conflict j.identity k.identity → (l i : ContextedPatch) → l ≡ j.identity → i ≡ k.identity → EachGains (Catch.Conflictor j) (Catch.Conflictor k) (l ∷ []) (i ∷ [])
   each_gains conflict l i first second before beside =
       let xs = fold with_member j.conflicts before in
@@ -90,40 +90,40 @@ module _ (j k : Conflictor) (none : j.effect ≡ []) (also : k.effect ≡ []) wh
         beside = ap (λ zs. Catch.Conflictor (with_conflicts zs j)) (fold-append with_member j.conflicts before (i ∷ []));
       })
 
--- two catches that have gained, each in its place
+-- two catches together with the conflicts that they have gained
 pub met : (j k j-now k-now : Catch) (before beside these those more most : List ContextedPatch) → EachGains j k these those → more ≡ before ++ those → most ≡ beside ++ these → with_gained before j ≡ j-now → with_gained beside k ≡ k-now → MergesInPlace (j-now, k-now) (with_gained more j, with_gained most k)
 met j k j-now k-now before beside these those more most gains is also view k-view =
     rw (is, also, ← view, ← k-view) (gains before beside)
 
--- one that has gained stands behind the other one
+-- merges a catch that has gained conflicts to what it is after the other
 pub met_behind : (j k j-now k-now : Catch) (before beside these those most : List ContextedPatch) → EachGains j k these those → most ≡ beside ++ these → with_gained before j ≡ j-now → with_gained beside k ≡ k-now → MergesBehind j-now k-now (with_gained most k)
 met_behind j k j-now k-now before beside these those most gains also view k-view =
     (with_gained (before ++ those) j, rw (also, ← view, ← k-view) (gains before beside))
 
--- what a catch gains leaves its label
+-- a catch keeps its label when it gains conflicts
 pub same_key : (gained : List ContextedPatch) (catch : Catch) → catch_key (with_gained gained catch) ≡ catch_key catch
 same_key gained (Plain a) = refl
 same_key gained (Catch.Conflictor k) = refl
 
--- two that do not gain stay as they are by now
+-- two that gain nothing from each other keep what they have gained
 pub met_aside : (j k j-now k-now : Catch) (before beside : List ContextedPatch) → EachGains j k [] [] → with_gained before j ≡ j-now → with_gained beside k ≡ k-now → MergesInPlace (j-now, k-now) (j-now, k-now)
 met_aside j k j-now k-now before beside gains view k-view =
     rw (← view, ← k-view) (rw (append-nil before, append-nil beside) at (gains before beside))
 
--- one that has gained lets the one behind it pass
+-- a catch that has gained conflicts lets the one after it commute past
 pub let_by : (j k k' j-now : Catch) (before these more : List ContextedPatch) → PassesGaining j k k' these → more ≡ before ++ these → with_gained before j ≡ j-now → CommutesInPlace (j-now, k) (with_gained more j, k')
 let_by j k k' j-now before these more passes is view = rw (is, ← view) (passes before)
 
--- the same where neither changes
+-- the same if neither changes
 pub let_by_aside : (j k j-now : Catch) (before : List ContextedPatch) → PassesGaining j k k [] → with_gained before j ≡ j-now → CommutesInPlace (j-now, k) (j-now, k)
 let_by_aside j k j-now before passes view = rw (← view) (rw (append-nil before) at (passes before))
 
--- what has gained nothing is as it was
+-- a catch that has gained nothing is unchanged
 pub ungained : (gained : List ContextedPatch) (catch : Catch) → gained ≡ [] → with_gained gained catch ≡ catch
 ungained gained (Plain a) none = refl
 ungained gained (Catch.Conflictor k) none = ap (λ g. with_gained g (Catch.Conflictor k)) none
 
--- one that has gained nothing commutes as it is
+-- a catch that has gained nothing commutes as the plain definition says
 pub commuted_alone : {E : Type 0} (gained : List ContextedPatch) (j j-now j' k k' : Catch) (answer : Result Bool E) → gained ≡ [] → with_gained gained j ≡ j-now → IfOk answer (λ done. Changes CommutesInPlace (j, k) done (j', k')) → IfOk answer (λ done. Changes CommutesInPlace (j-now, k) done (with_gained gained j', k'))
 commuted_alone gained j j-now j' k k' answer none view w =
     subst (λ x. IfOk answer (λ done. Changes CommutesInPlace (x, k) done (with_gained gained j', k'))) (sym (ungained gained j none) ∙ view) (subst (λ y. IfOk answer (λ done. Changes CommutesInPlace (j, k) done (y, k'))) (sym (ungained gained j' none)) w)

@@ -31,7 +31,7 @@ passed_all_key : (r : List Named) (x y : ContextedPatch) → PassesByAll r x y �
 passed_all_key [] x y w = ap context_key w
 passed_all_key (a ∷ r) x y w = passed_context_key a w.0 y w.2 ∙ passed_all_key r x w.0 w.1
 
--- both labels are kept
+-- both labels are unchanged
 abbrev pub KeepKeys : Catch → Catch → Catch → Catch → Type 0
 KeepKeys j k k' j' = (catch_key k' ≡ catch_key k) × (catch_key j' ≡ catch_key j)
 
@@ -59,7 +59,7 @@ beside_or_joined a k k' j' (inl w) =
 beside_or_joined a k k' j' (inr w) =
     (ap catch_key w.after, ap catch_key w.beside ∙ same_key_of_sum _ (bare a) w.z w.becomes)
 
--- a conflictor that another joins keeps its own
+-- a conflictor keeps its label when another catch joins its conflicts
 joined_key : (Holds : Type 0) (l : ContextedPatch) (j k : Conflictor) → JoinsWhere Holds l j k → context_key k.identity ≡ context_key j.identity
 joined_key Holds l j k (inl w) = ap (λ (c : Conflictor). context_key c.identity) w.1
 joined_key Holds l j k (inr w) = ap (λ (c : Conflictor). context_key c.identity) w.1
@@ -82,7 +82,7 @@ before_keys (j ∷ list) k k' list' w =
     let pair = commuted_keys j w.0 k' w.1 w.4 in
     (pair.0 ∙ rest.0, ap keys_of w.5 ∙ (λ t. pair.1 t ∷ rest.1 t))
 
--- the others of a list stand behind those of another
+-- the other catches of a list come after those of another list
 parts_behind : (names : List (List ℕ)) (rest list first others : List Catch) → ArrangesBehind names rest list first others → (t : List Key) × KeysPart names (keys_of list) (keys_of first) t × (keys_of others ≡ keys_of rest ++ t)
 parts_behind names rest [] first others w =
     ([], (ap keys_of w.0, refl), ap keys_of w.1 ∙ sym (append-nil (keys_of rest)))

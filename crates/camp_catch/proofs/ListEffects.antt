@@ -1,4 +1,4 @@
--- Lists of catches keep fitting: a commute of neighbours does, and a merge of lists is a grid of merges.
+-- Lists of catches still fit after a commute of neighbours; a merge of lists is a grid of merges.
 use Rattle.camp_catch.proofs.Words.{List, [], inl, inr, refl, subst, sym, ℕ, ◌++◌, ◌∷◌, ◌≡◌, Files, Key, Align, ArrangesBehind, ComesBefore, ComesFirst, Fits, FitsAll, ListsKeepEffects, MergeLists, MergesWithAll, Catch}
 use Rattle.camp_catch.proofs.CommuteEffects.{commute_keeps_effects}
 use Rattle.camp_catch.proofs.MergeEffects.{merge_keeps_effects}

@@ -1,11 +1,12 @@
--- What lists of catches become is determined: one result, or one place where they stick, and never both.
+-- Commuting and arranging a list of catches gives exactly one result: the catches, or the place where they are
+-- blocked.
 use Rattle.camp_catch.proofs.Words.{Contains, List, [], ap, inl, inr, refl, ℕ, ◌++◌, ◌↔◌, ◌∷◌, ◌⊎◌, Key, among_or_not, keys_or_not, bytes_or_not, Align, AlignSticks, ArrangesBehind, ComesBefore, ComesFirst, SticksBehind, StopsAt, catch_key, ArrangeByMembers, CatchesAreDecided, HasPair, ListsAreUnique, ListsSucceedOrStick, OneOf, MergeLists, MergeSticks, MergesWithAll, SticksWithin, Catch}
 use Rattle.camp_catch.proofs.CommuteCases.{IsDetermined, commuting}
 use Rattle.camp_catch.proofs.Determined.{Determined, chain, either, just, made_of, not_or_not, one_pair, where_holds}
 use Rattle.camp_catch.proofs.MergeCases.{merging}
 use Rattle.camp_catch.proofs.Settled.{Settled, at_once, both_at_once, beside, by_cases, next, settled_as, settles}
 
--- the two catches that come of a pair, or the labels where none do
+-- the two results of a commute past a list, or the labels where it is blocked
 pub coming : (list : List Catch) (k : Catch) → Settled (λ (p : Catch × List Catch). ComesBefore list k p.0 p.1) (StopsAt list k)
 coming [] k = both_at_once k []
 coming (j ∷ list) k =

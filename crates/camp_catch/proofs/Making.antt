@@ -3,7 +3,7 @@ use Rattle.camp_catch.specs.Making.{IfBlocked}
 use Rattle.camp_catch.specs.declared.faults.Unmade.{Unmade}
 use Rattle.camp_catch.specs.declared.faults.Unmade.TheVariants.{Blocked, Memory}
 
--- what blocks a step blocks the whole, and so does its want of memory
+-- if a step is blocked or runs out of memory, so does the whole
 pub blocks_too : {W : Type 0} {Step Whole : W → Type 0} (why : Unmade W) → IfBlocked Step why → ((what : W) → Step what → Whole what) → IfBlocked Whole why
 blocks_too (Blocked what) w blocks = blocks what w
 blocks_too Memory w blocks = tt

@@ -4,12 +4,12 @@ use Rattle.camp_catch.proofs.CommuteCases.{IsDetermined}
 use Rattle.camp_catch.proofs.Determined.{Determined, both, chain, either, just, made_of, not_or_not, one_pair, pairs, where_holds}
 use Rattle.camp_catch.proofs.PartsDetermined.{adds_all, adds_to, all_added_to, one_passes, order}
 
--- two primitives merge cleanly where the inverse of the first commutes
+-- two primitives merge cleanly if the inverse of the first commutes past the second
 clean_merge : (a b : Named) → Determined (λ (p : Named × Named). Merges a b p.0 p.1)
 clean_merge a b =
     made_of (pairs (λ x z y w. swap_unique (inverse_of a) b x y z w) (swap_or_not (inverse_of a) b)) (λ x. (x.0, inverse_of x.1)) (λ x w. subst (Commute (inverse_of a) b x.0) (sym (inverse_of-inverse_of x.1)) w) (λ p m. ((p.0, inverse_of p.1), m, λ t. (p.0, sym (inverse_of-inverse_of p.1) t)))
 
--- a primitive merges cleanly with a list where its inverse passes the list
+-- a primitive merges cleanly with a list if its inverse commutes past the list
 row : (a : Named) (s : List Named) → Determined (λ (p : List Named × Named). MergesOne a s p.0 p.1)
 row a s =
     made_of (one_passes (inverse_of a) s) (λ x. (x.0, inverse_of x.1)) (λ x w. subst (λ p. MergesOne p s x.0 (inverse_of x.1)) (inverse_of-inverse_of a) (passes_row (inverse_of a) s x.0 x.1 w)) (λ p m. ((p.0, inverse_of p.1), row_passes a s p.0 p.1 m, λ t. (p.0, sym (inverse_of-inverse_of p.1) t)))

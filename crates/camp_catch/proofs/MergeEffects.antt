@@ -1,12 +1,12 @@
--- Merging keeps effects and is symmetric: each case closes a square of trees.
+-- Merging keeps effects and is symmetric: each case gives a square of trees.
 use Rattle.camp_catch.proofs.Words.{List, [], inl, inr, refl, subst, sym, ◌++◌, ◌∷◌, ◌≡◌, Files, Applies, inverse_of, Named, ordered, split, cut_run, runs_back, cell_is_symmetric, merge_closes, Norm, AppliesAll, inverse_all, run_along, valid_by_adding, valid_by_adding_all, conflict_is_symmetric, merge_behind_is_symmetric, Adds, Conflict, MergesBehindCommon, common_labels, ContextedPatch, Valid, bare, Fits, against, in_conflict_with, with_effect, MergeIsSymmetric, MergeKeepsEffects, Clean, FirstConflict, JoinsWhere, PlainBesideConflictor, PlainJoinsConflictor, TwoConflictors, Catch, Plain, Conflictor}
 use Rattle.camp_catch.proofs.Fitting.{plain_fits, conflictor_fits, becomes_fits, added_fits, joined_fits, one_runs, one_back, row_closes, run_once, only_valid}
 
--- two catches that fit, each from a tree of its own, and end in one
+-- two catches that fit, each in a tree of its own, and end in the same tree
 abbrev pub FitMeeting : Catch → Catch → Files → Files → Type 0
 FitMeeting k j left right = (new : Files) × Fits k left new × Fits j right new
 
--- a case keeps effects
+-- one case keeps effects
 abbrev ClosesSquares : Catch → Catch → (Catch → Catch → Type 0) → Type 0
 ClosesSquares j k Case =
     (k' j' : Catch) → Case k' j' → (old left right : Files) → Fits j old left → Fits k old right → FitMeeting k' j' left right
@@ -16,7 +16,7 @@ clean a b k' j' w old left right f g =
     let cell = row_closes a (b ∷ []) (w.b' ∷ []) w.a' (w.b', w.a', [], w.merge, (refl, refl), refl) old left right f.effect g.effect in
     rw (w.after, w.beside) (cell.0, plain_fits w.b' left cell.0 cell.1, plain_fits w.a' right cell.0 cell.2)
 
--- what undoes one of two patches that conflict leads back to where both began
+-- undoing one of two patches that conflict leads back to the tree from which both began
 undoing_fits : (a b : Named) (old left right : Files) → AppliesAll (a ∷ []) old left → AppliesAll (b ∷ []) old right → Fits (Catch.Conflictor (against a b)) left old
 undoing_fits a b old left right first second =
     conflictor_fits (against a b) left old (one_runs (inverse_of a) left old (one_back a old left first)) (only_valid old (bare a) (left, first)) (right, second)
@@ -42,7 +42,7 @@ plain_joins_conflictor a k k' j' w old left right f g =
     let effect = run_along (inverse_of a ∷ k.effect) w.effect (ordered (inverse_of a ∷ k.effect) w.effect w.joined) left right run in
     rw (w.after, w.beside) (right, joined_fits taken w.z left right (conflictor_fits taken left right effect g.seen.0 g.seen.1) valid, conflictor_fits (in_conflict_with k.identity w.z) right right refl (only_valid right k.identity g.seen.1) valid)
 
--- lists that merge cleanly behind what they have in common close a square of trees
+-- lists that merge cleanly after their common part give a square of trees
 behind_common_closes : (s t t' s' : List Named) → MergesBehindCommon s t t' s' → (old left right : Files) → AppliesAll s old left → AppliesAll t old right → (new : Files) × AppliesAll t' left new × AppliesAll s' right new
 behind_common_closes s t t' s' w old left right first second =
     let labels = common_labels s t in

@@ -1,10 +1,10 @@
--- What the bodies of merging know at their answers.
+-- Facts at the returns of merging.
 use Rattle.camp_catch.specs.Inside.TwoConflictors.{EffectsMerge, JoinEachOther, TellsConflict}
 use Rattle.camp_catch.proofs.Words.{Bool, IsTrue, List, Option, ap, inl, inr, refl, subst, sym, ◌∙◌, ◌≡◌, FindsPair, inverse_of-inverse_of, inverse_of, Named, passes_row, MergesOne, Norm, Passes, inverse_all, add_of_all_exists, one_add_of_all, members_change, Adds, AddsAll, Conflict, ContextedPatch, ContextedPatches, EachMember, bare, Becomes, joined_by, MergesBehind, MergePlainConflictor, PlainBesideConflictor, TwoConflictors, Catch, Plain, Conflictor}
 use Rattle.camp_catch.proofs.MergeEffects.{joins_alike}
 use Rattle.camp_catch.proofs.CommuteSteps.{finds_as}
 
--- a list that the inverse of a passes merges cleanly with a, which is what comes out turned back
+-- if the inverse of a commutes past a list, the list merges cleanly with a, and a becomes the inverse of the result
 pub row_of : (a : Named) (s merged : List Named) (back' a' : Named) → a' ≡ inverse_of back' → Passes (inverse_of a) s merged back' → MergesOne a s merged a'
 row_of a s merged back' a' turned w =
     rw (← inverse_of-inverse_of a, turned) (passes_row (inverse_of a) s merged back' w)
@@ -15,12 +15,12 @@ module _ (a : Named) (k : Conflictor) (seen : ContextedPatch) (sees : AddsAll k.
       let becomes = subst (λ p. Becomes (Norm merged) (Adds p) (Adds p) k moved) (sym (ap inverse_of turned ∙ inverse_of-inverse_of back')) made in
       record { seen = seen; sees = sees; apart = apart; merged = merged; a' = a'; merge = row_of a k.effect merged back' a' turned w; moved = moved; becomes = becomes; after = refl; beside = refl }
 
-  -- a plain catch that passes a conflictor, where both stay as they are, stands beside it so
+  -- a plain catch that commutes past a conflictor, both unchanged, also merges with it unchanged
   pub aside : (back : Named) → back ≡ inverse_of a → Passes back k.effect k.effect back → Becomes (Norm k.effect) (Adds back) (Adds back) k k → MergePlainConflictor a k (Catch.Conflictor k) (Plain a)
   aside back turned passes becomes =
       inl (beside_from k.effect back a k (sym (ap inverse_of turned ∙ inverse_of-inverse_of a)) (subst (λ p. Passes p k.effect k.effect back) turned passes) becomes)
 
-  -- a plain catch that is apart from a conflictor merges with it only by standing beside it
+  -- a plain catch that does not conflict with a conflictor can only merge with it without joining its set
   pub only_beside : (found : Option (Catch × Catch)) → FindsPair (PlainBesideConflictor a k) found → FindsPair (MergePlainConflictor a k) found
   only_beside = finds_as (λ k' j' w. inl w) (λ k' j' w. elim w [
     | inl v ↦ v
@@ -53,7 +53,7 @@ module _ (j k : Conflictor) where
     beside = each.beside;
   }
 
-  -- what the second becomes, where nobody reads what the first becomes
+  -- what the second becomes, if nobody reads what the first becomes
   module _ (s2 r2 : List Named) (found : Bool) (moved : Conflictor) (effects : EffectsMerge j.effect k.effect s2 r2) (tells : TellsConflict j k found) (becomes : Becomes (λ t. t ≡ s2) (AddsAll (inverse_all r2)) (AddsAll (inverse_all r2)) k moved) where
     members : (sum : ContextedPatches) × EachMember (AddsAll (inverse_all moved.effect)) j.conflicts sum
     members = members_change (AddsAll (inverse_all moved.effect)) (add_of_all_exists (inverse_all moved.effect)) j.conflicts

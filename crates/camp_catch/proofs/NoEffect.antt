@@ -1,4 +1,4 @@
--- Two conflictors without an effect commute as they are, but for their sets.
+-- Two conflictors without an effect commute unchanged, except for their sets.
 use Rattle.std.proofs.Common.{◌≡◌, ◌≢◌, ◌≤◌, ◌∙◌, ◌∷◌, ◌++◌, All, List, [], None, Some, ap, append-nil, inl, inr, refl, subst, sym}
 use Rattle.std.specs.FinMap.{get, len, remove}
 use Rattle.std.specs.List.{fold}
@@ -30,7 +30,7 @@ none_pass ys = record {
   whole = refl;
 }
 
--- nothing added to a conflictor without an effect
+-- nothing is added to a conflictor without an effect
 stays : (k : Conflictor) → k.effect ≡ [] → Becomes (λ t. t ≡ []) (AddsAll []) (AddsAll []) k k
 stays k none = record { effect = none; conflicts = unchanged k.conflicts; identity = refl }
 
@@ -53,7 +53,7 @@ apart_without_effect j k none also apart unseen = record {
   first = refl;
 }
 
--- the first leaves the set of the second, which joins its own
+-- the first is removed from the set of the second, which is added to the set of the first
 leaves_without_effect : (j k : Conflictor) (z : ContextedPatch) → get k.conflicts (context_key j.identity) ≡ Some z → 2 ≤ len k.conflicts → j.effect ≡ [] → k.effect ≡ [] → OneOfSeveralConflicts j k (Catch.Conflictor (without (context_key j.identity) k)) (Catch.Conflictor (joined_by k.identity j))
 leaves_without_effect j k z member several none also =
     let zs = remove k.conflicts (context_key j.identity) in record {
@@ -71,7 +71,7 @@ leaves_without_effect j k z member several none also =
       first = refl;
     }
 
--- whatever the first has gained
+-- the same whatever the first has gained
 module _ (j k : Conflictor) (none : j.effect ≡ []) (also : k.effect ≡ []) where
   pub passes_aside : get k.conflicts (context_key j.identity) ≡ None → All (λ p. patch_key p ≢ context_key j.identity) k.identity.context → PassesGaining (Catch.Conflictor j) (Catch.Conflictor k) (Catch.Conflictor k) []
   passes_aside apart unseen before =

@@ -1,4 +1,4 @@
--- What cases are made of is determined.
+-- The parts of each case are determined.
 use Rattle.std.proofs.lemmas.List.Elements.{All-nil, All-cons, All-head, All-tail}
 use Rattle.std.specs.List.{All}
 use Rattle.camp_seq.proofs.NormalOrders.{has_normal_order}
@@ -21,7 +21,7 @@ fronts y s = record { one = λ t u v w. (one_front (label_of y) s t u y y v w).1
 pub adds_all : (r : List Named) (x : ContextedPatch) → Determined (AddsAll r x)
 adds_all r x = always (one_add_of_all r x) (add_of_all_exists r x)
 
--- what a contexted patch without a context is
+-- the parts of a contexted patch without a context
 pub adds_to_bare : (r : List Named) (x : ContextedPatch) → Determined (λ a. AddsAll r x (bare a))
 adds_to_bare r x =
     let seen = add_of_all_exists r x in record {
@@ -50,19 +50,19 @@ lacks_or_not key s = all_or_not (λ p. patch_key p ≢ key) (λ p. not_or_not (k
 abbrev conflictor_of : List Named × (ContextedPatches × ContextedPatch) → Conflictor
 conflictor_of parts = record { effect = parts.0; conflicts = parts.1.0; identity = parts.1.1 }
 
--- two conflictors are the same, or they are not
+-- it is decidable whether two conflictors are equal
 pub conflictor_or_not : (j k : Conflictor) → Decided (j ≡ k)
 conflictor_or_not j k =
     decided_by (λ e. λ t. conflictor_of (e.0 t, (e.1.0 t, e.1.1 t))) (λ e. (ap (λ (c : Conflictor). c.effect) e, (ap (λ (c : Conflictor). c.conflicts) e, ap (λ (c : Conflictor). c.identity) e))) (both_or_not (lists_or_not j.effect k.effect) (both_or_not (contexts_or_not j.conflicts k.conflicts) (in_context_or_not j.identity k.identity)))
 
--- whom a conflictor with a alone is of
+-- the identity of a conflictor with a alone
 pub against_one : (a : Named) (k : Conflictor) → Determined (λ q. k ≡ against a q)
 against_one a k = record {
   one = λ q p v w. ap (λ (c : Conflictor). c.identity.patch) (sym v ∙ w);
   decided = decided_by (λ e. (k.identity.patch, e)) (λ w. w.1 ∙ ap (against a) (sym (ap (λ (c : Conflictor). c.identity.patch) w.1))) (conflictor_or_not k (against a k.identity.patch));
 }
 
--- a conflictor that becomes another, part by part
+-- the conflictor that a conflictor becomes, part by part
 pub becomes : {IsEffect : List Named → Type 0} {Member Identity : ContextedPatch → ContextedPatch → Type 0} (old : Conflictor) → Determined IsEffect → GivesOne Member → AlwaysGives Member → Determined (Identity old.identity) → Determined (Becomes IsEffect Member Identity old)
 becomes {IsEffect} {Member} {Identity} old effect one exists identity =
     let members : Determined (EachMember Member old.conflicts) = always (one_change_of_members Member one old.conflicts) (members_change Member exists old.conflicts) in
@@ -83,13 +83,13 @@ pub all_pass_by : (r s : List Named) (old : Conflictor) → Determined (Becomes 
 all_pass_by r s old =
     becomes old (just s) (one_add_of_all r) (add_of_all_exists r) (record { one = one_passing_of_all r old.identity; decided = list_passes_by_or_not r old.identity })
 
--- a list of one, or another
+-- a list has exactly one element, or it does not
 alone_or_not : (s : List Named) → Decided ((p : Named) × (s ≡ p ∷ []))
 alone_or_not [] = inr (λ w. let is = w.1 in cc)
 alone_or_not (p ∷ []) = inl (p, refl)
 alone_or_not (p ∷ q ∷ s) = inr (λ w. let is = w.1 in cc)
 
--- a primitive that comes before a list
+-- a primitive at the front of a list
 pub comes_before : (r : List Named) (b : Named) → Determined (λ (p : Named × List Named). PassesAll r (b ∷ []) (p.0 ∷ []) p.1)
 comes_before r b = record {
   one = λ p q v w.

@@ -1,9 +1,10 @@
--- Plain catches that come to the front take along what stops those of them that are to come alone.
+-- Plain catches: what blocks the patches of some names on their way to the front is among those of other names that
+-- were moved there.
 use Rattle.camp_catch.proofs.Words.{Contains, List, [], ap, append-nil, inl, inr, map, refl, subst, sym, ℕ, ◌++◌, ◌↔◌, ◌∙◌, ◌∷◌, ◌≡◌, append_assoc, map-append, Key, Named, before, among_or_not, one_precedes, room_before, room_behind, room_of_equivalent, Precedes, HasRoom, bytes_or_not, ArrangesBehind, ComesBefore, SticksBehind, StopsAt, BothPlain, CommuteCatch, FrontsComeBehindFronts, WhatStopsComesAlong, Catch, Plain}
 use Rattle.camp_catch.proofs.ListResults.{lists_are_unique, lists_succeed_or_stick}
 use Rattle.camp_catch.proofs.PlainFronts.{AreOthers, Parted, Stops, comes_or_stops, comes_past_parts, first_comes, one_more, one_other, others_and_one, others_stay, came}
 
--- what comes before plain catches as a plain one is plain, and they stay so
+-- a catch that is moved in front of plain catches and is then plain was plain before, and they stay plain
 pub came_plainly : (t : List Named) (k : Named) (k' : Catch) (list' : List Catch) → ComesBefore (map Plain t) (Plain k) k' list' → (p : Named) × (t' : List Named) × Precedes t k p t' × (k' ≡ Plain p) × (list' ≡ map Plain t')
 came_plainly [] k k' list' w = (k, [], (refl, refl), w.0, w.1)
 came_plainly (j ∷ t) k k' list' w =
@@ -22,7 +23,7 @@ stops_plainly (j ∷ s) k on (inl w) = inl (stops_plainly s k on w)
 stops_plainly (j ∷ s) k on (inr w) =
     inr (Plain w.0, map Plain w.1, comes_plainly s k w.0 w.1 w.2, (λ k' j' both. w.3 both.b' both.a' both.swap), w.4)
 
--- a catch does not both come and stop
+-- a catch cannot be both moved to the front and blocked
 pub not_both : {A : Type 0} (s : List Named) (k : Named) (k' : Catch) (list' : List Catch) (on : Key) → ComesBefore (map Plain s) (Plain k) k' list' → StopsAt (map Plain s) (Plain k) on → A
 not_both s k k' list' on comes stops =
     absurd ((lists_succeed_or_stick.comes_before (map Plain s) (Plain k)).1 (k', list', comes) (on, stops))
@@ -38,7 +39,7 @@ room_left s list k first rest room w =
     room_behind first (rest ++ list) (room_of_equivalent _ _ (before (s ++ k ∷ []) (first ∷ rest) list (came s k first rest w)) room)
 
 module _ (names others : List (List ℕ)) (within : (name : List ℕ) → Contains names name → Contains others name) where
-  -- two walks to the front: that of the others comes to its end, and the one of the names sticks
+  -- two moves to the front: the one for the others succeeds, and the one for the names is blocked
   walk : (s t list f : List Named) → HasRoom (s ++ list) → Parted others s f t → (first rest : List Catch) → ArrangesBehind others (map Plain t) (map Plain list) first rest → (patch on : Key) → SticksBehind names (map Plain s) (map Plain list) patch on → Contains others on.name
   walk s t [] f room p first rest came patch on stuck = absurd stuck
   walk s t (k ∷ list) f room p first rest (inl u) patch on stuck =
@@ -80,7 +81,7 @@ pub what_stops_comes_along : WhatStopsComesAlong
 what_stops_comes_along patches names others room within patch on sticks comes =
     walk names others within [] [] patches [] room (refl, refl) comes.0 comes.1 comes.2 patch on sticks
 
--- parts of a list are what it is arranged to
+-- the two parts of a list are what it is arranged to
 pub arranged_of_parts : (names : List (List ℕ)) (r list f t : List Named) → AreOthers names r → Parted names (r ++ list) f t → ArrangesBehind names (map Plain r) (map Plain list) (map Plain f) (map Plain t)
 arranged_of_parts names r [] f t are p =
     let stay = others_stay names r f t are (subst (λ l. Parted names l f t) (append-nil r) p) in
@@ -94,7 +95,7 @@ arranged_of_parts names r (k ∷ list) f t are p = elim (among_or_not bytes_or_n
 ]
 
 module _ (names others wanted : List (List ℕ)) (are : (name : List ℕ) → Contains wanted name ↔ (Contains names name × (¬ (Contains others name)))) where
-  -- what is behind those of the names, and what is behind those of the others, in parts: one list is behind all of them
+  -- the catches after those of the names, and those after those of the others: one list comes after all of them
   record BehindAll (rt rc : List Named) : Type 0 where
     first : List Named
     chosen : List Named
@@ -102,7 +103,7 @@ module _ (names others wanted : List (List ℕ)) (are : (name : List ℕ) → Co
     of_others : Parted others rt first rest
     of_wanted : Parted wanted rc chosen rest
 
-  -- two walks to the front, that of the names and that of the others
+  -- two moves to the front, of the names and of the others
   two_walks : (rt rc list : List Named) → HasRoom (rt ++ list) → HasRoom (rc ++ list) → BehindAll rt rc → (first left : List Catch) → ArrangesBehind names (map Plain rt) (map Plain list) first left → (front behind : List Catch) → ArrangesBehind others (map Plain rc) (map Plain list) front behind → (list' : List Named) × (f : List Named) × (t : List Named) × (behind ≡ map Plain list') × Parted wanted list' f t
   two_walks rt rc [] room room' all first left v front behind w = (rc, all.chosen, all.rest, w.1, all.of_wanted)
   two_walks rt rc (k ∷ list) room room' all first left (inl v) front behind (inl w) =

@@ -1,17 +1,18 @@
--- What stops plain patches on their way to the front of a list with room.
+-- What blocks plain patches on their way to the front of a list with headroom.
 use Rattle.camp_seq.proofs.LawOfThree.{law_of_three}
 use Rattle.camp_catch.proofs.Words.{Contains, List, [], ap, inl, inr, refl, subst, sym, ℕ, ◌++◌, ◌∙◌, ◌∷◌, ◌≡◌, ◌⊎◌, append_assoc, swap_or_not, key_of, label_of, Commute, Key, Named, after_one, before, behind, equal_are, passed, swapped, one_precedes, passes_push, precedes_back, room_before, room_behind, room_of_equivalent, backwards, through, ◌~◌, Precedes, Passes, HasRoom}
 
--- what comes to before a list leaves it the same but for the order of neighbours that commute
+-- moving an element in front of a list gives an equivalent list
 pub came : (s : List Named) (k k' : Named) (s' : List Named) → Precedes s k k' s' → (s ++ k ∷ []) ~ (k' ∷ s')
 came s k k' s' w = backwards (passed k' s' s k (precedes_back s k k' s' w))
 
--- the rooms of a step: j passes a, and k comes before what is behind them
+-- headroom at each step: j commutes past a, and k is moved in front of what is after them
 rooms : (j a q p' : Named) (s : List Named) (k k1 : Named) (s1 : List Named) → HasRoom (j ∷ a ∷ (s ++ k ∷ [])) → Commute j a q p' → Precedes s k k1 s1 → HasRoom (p' ∷ (s ++ k ∷ [])) × HasRoom (j ∷ a ∷ k1 ∷ [])
 rooms j a q p' s k k1 s1 room v n =
     (room_behind q _ (room_of_equivalent _ _ (swapped j a q p' (s ++ k ∷ []) v) room), room_before (j ∷ a ∷ k1 ∷ []) s1 (room_of_equivalent _ _ (after_one j _ _ (after_one a _ _ (came s k k1 s1 n))) room))
 
--- where j passes a list, and k comes before all of the list and passes j behind it, it passes j before it too
+-- if j commutes past a list, and k is moved in front of the whole list and j commutes past k after it, then j
+-- commutes past k before the list too
 passes_before : (j : Named) (s s' : List Named) (j' k kt last k1 : Named) (s1 : List Named) → HasRoom (j ∷ (s ++ k ∷ [])) → Passes j s s' j' → Commute j' k kt last → Precedes s k k1 s1 → (first : Named) × (next : Named) × Commute j k1 first next
 passes_before j [] s' j' k kt last k1 s1 room m w n =
     (kt, last, subst (λ x. Commute x k1 kt last) m.1 (subst (λ x. Commute j' x kt last) (sym n.0) w))
@@ -21,7 +22,8 @@ passes_before j (a ∷ s) s' j' k kt last k1 s1 room m w n =
     let six = law_of_three.from_before j a n.0 m.0 m.1 before.0 before.1 k1 n.1 room.1 m.3 before.2 n.4 in
     (six.0, six.1, six.3.pr1)
 
--- the other way: where k passes the list and then j, it passes j behind the list, and then the list
+-- conversely, if k is moved in front of the list and then j commutes past it, k commutes past j after the list, and
+-- is then moved in front of the list
 record PassesBehind (j' k y j1 : Named) (s' s1 : List Named) : Type 0 where
   coming : Named
   last : Named
@@ -52,7 +54,7 @@ passes_behind j (a ∷ s) s' j' k k1 s1 y j1 room m n w =
       passes = subst (λ t. Passes j1 t (six.2 ∷ behind.rest) behind.last) (sym n.5) (six.2, six.1, behind.rest, six.3.p1q1, behind.passes, refl);
     }
 
--- on its way left over a list, k can not pass the one with this absolute label
+-- k, moved left over a list, is blocked by the element with this absolute label
 abbrev pub Stops : List Named → Named → Key → Type 0
 Stops [] k on = ⊥
 Stops (j ∷ s) k on =
@@ -84,7 +86,8 @@ module _ (names : List (List ℕ)) where
       let comes = through (behind g (u ++ k ∷ []) (k1 ∷ u') (came u k k1 u' n)) (equal_are _ _ (sym (append_assoc g (k1 ∷ []) u'))) in
       room_before (j ∷ (g ++ k1 ∷ [])) u' (room_of_equivalent _ _ (after_one j _ _ (through parts comes)) room)
 
-  -- what comes before all of a list comes before the others of it, and then before those of the names
+  -- an element that can be moved in front of the whole list can be moved in front of the others, and then of those of
+  -- the names
   pub record ComesPastParts (f t s' : List Named) (k y : Named) : Type 0 where
     pub coming : Named
     pub rest : List Named
@@ -125,7 +128,8 @@ module _ (names : List (List ℕ)) where
         parted = subst (λ l. Parted l three.rest (three.last ∷ come.rest)) (sym n.5) (inr ((λ c. p.0 (subst (Contains names) (of_swapped j n.0 y n.1 n.4) c)), (come.front, come.rest, three.last, come.parted, three.passes, refl)));
       }
 
-  -- what comes before the others of a list comes before all of it, or it stops at one of the names
+  -- an element that can be moved in front of the others of a list can be moved in front of the whole list, or is
+  -- blocked by one of the names
   pub comes_or_stops : (s f t : List Named) (k kt : Named) (t' : List Named) → HasRoom (s ++ k ∷ []) → Parted s f t → Precedes t k kt t' → ((y : Named) × (s' : List Named) × Precedes s k y s') ⊎ ((on : Key) × Stops s k on × Contains names on.name)
   comes_or_stops [] f t k kt t' room p n = inl (k, [], (refl, refl))
   comes_or_stops (j ∷ s) f t k kt t' room (inl p) n = elim (comes_or_stops s p.1.0 t k kt t' (room_behind j (s ++ k ∷ []) room) p.1.1 n) [
@@ -147,7 +151,7 @@ module _ (names : List (List ℕ)) where
             inl (w.0, w.1 ∷ come.1, (come.0, w.1, come.1, come.2, w.2, refl))
       ]
 
-  -- one more of the names comes behind those that came
+  -- one more catch of the names comes after those already moved
   pub one_more : (s f t : List Named) (k kt : Named) (t' : List Named) → Contains names k.name → Parted s f t → Precedes t k kt t' → Parted (s ++ k ∷ []) (f ++ kt ∷ []) t'
   one_more [] f t k kt t' is p n =
       let at : (kt ≡ k) × (t' ≡ []) = subst (λ l. Precedes l k kt t') p.1 n in
@@ -159,7 +163,7 @@ module _ (names : List (List ℕ)) where
       let m = subst (λ l. Precedes l k kt t') g.5 n in
       inr (p.0, (g.0 ++ m.0 ∷ [], m.2, m.1, one_more s g.0 g.1 k m.0 m.2 is g.3 m.3, passes_push j g.0 f g.2 m.0 kt m.1 g.4 m.4, m.5))
 
-  -- and one that is of none of them stays where it is
+  -- a catch that is of none of the names stays at its position
   pub one_other : (s f t : List Named) (k : Named) → ¬ (Contains names k.name) → Parted s f t → Parted (s ++ k ∷ []) f (t ++ k ∷ [])
   one_other [] f t k never p =
       inr (never, ([], [], k, (refl, refl), (p.0, refl), ap (λ l. l ++ k ∷ []) p.1))
@@ -168,7 +172,7 @@ module _ (names : List (List ℕ)) where
       let g = p.1 in
       inr (p.0, (g.0, g.1 ++ k ∷ [], g.2, one_other s g.0 g.1 k never g.3, g.4, ap (λ l. l ++ k ∷ []) g.5))
 
-  -- none of a list are of the names
+  -- no element of a list is of the names
   abbrev pub AreOthers : List Named → Type 0
   AreOthers [] = Unit {0}
   AreOthers (p ∷ s) = (¬ (Contains names p.name)) × AreOthers s
@@ -177,7 +181,7 @@ module _ (names : List (List ℕ)) where
   others_and_one [] k are never = (never, tt)
   others_and_one (j ∷ s) k are never = (are.0, others_and_one s k are.1 never)
 
-  -- others alone stay as they are
+  -- a list of the others only is unchanged
   pub others_stay : (s f t : List Named) → AreOthers s → Parted s f t → (f ≡ []) × (t ≡ s)
   others_stay [] f t are p = p
   others_stay (j ∷ s) f t are (inl p) = absurd (are.0 p.0)
@@ -187,7 +191,7 @@ module _ (names : List (List ℕ)) where
       let m = subst (λ l. Passes j l f g.2) rest.0 g.4 in
       (m.0, g.5 ∙ (λ i. m.1 i ∷ rest.1 i))
 
-  -- behind others, the first of the names comes before these
+  -- the first catch of the names is moved in front of the others
   pub record FirstComes (r list f t : List Named) (k : Named) : Type 0 where
     pub first : Named
     pub rest : List Named

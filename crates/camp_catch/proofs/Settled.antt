@@ -1,4 +1,4 @@
--- Relations of which exactly one has a result, and one: something is done, or it sticks.
+-- Pairs of relations of which exactly one has a result, and only one: success, or what blocks it.
 use Rattle.camp_catch.proofs.Words.{ap, inl, inr, refl, subst, sym, ◌∙◌, ◌≡◌, ◌⊎◌, Decided}
 use Rattle.camp_catch.proofs.Determined.{Determined}
 
@@ -8,19 +8,19 @@ pub record Settled {A B : Type 0} (Done : A → Type 0) (Sticks : B → Type 0) 
   pub apart : (x : A) (y : B) → Done x → ¬ (Sticks y)
   pub either : ((x : A) × Done x) ⊎ ((y : B) × Sticks y)
 
--- one value, at once
+-- success with exactly this value
 pub at_once : {A B : Type 0} (x : A) → Settled (λ y. y ≡ x) (λ (y : B). ⊥)
 at_once x = record { one = λ y z v w. v ∙ sym w; one_stick = λ y z v w. absurd v; apart = λ y z v w. w; either = inl (x, refl) }
 
--- two values
+-- the same with two values
 pub both_at_once : {A B C : Type 0} (x : A) (y : B) → Settled (λ (p : A × B). (p.0 ≡ x) × (p.1 ≡ y)) (λ (z : C). ⊥)
 both_at_once x y = record { one = λ p q v w. λ t. ((v.0 ∙ sym w.0) t, (v.1 ∙ sym w.1) t); one_stick = λ y z v w. absurd v; apart = λ y z v w. w; either = inl ((x, y), (refl, refl)) }
 
--- what has no result sticks
+-- if there is no success, something blocks it
 pub settles : {A B : Type 0} {Gives : A → Type 0} → Determined Gives → (on : B) → Settled Gives (λ y. ((x : A) → ¬ (Gives x)) × (y ≡ on))
 settles d on = record { one = d.one; one_stick = λ y z v w. v.1 ∙ sym w.1; apart = λ x y v w. w.0 x v; either = elim d.decided [ inl w ↦ inl w | inr never ↦ inr (on, ((λ x w. never (x, w)), refl)) ] }
 
--- one thing after another
+-- one step after another
 pub next : {A B C : Type 0} {Done : A → Type 0} {Sticks : B → Type 0} {Next : A → C → Type 0} {NextSticks : A → B → Type 0} → Settled Done Sticks → ((x : A) → Done x → Settled (Next x) (NextSticks x)) → Settled (λ (p : A × C). Done p.0 × Next p.0 p.1) (λ y. Sticks y ⊎ ((x : A) × Done x × NextSticks x y))
 next {A} {B} {C} {Done} {Sticks} {Next} {NextSticks} first then = record {
   one = λ p q v w.
@@ -44,7 +44,7 @@ next {A} {B} {C} {Done} {Sticks} {Next} {NextSticks} first then = record {
   ];
 }
 
--- the same by other words: what is done is made of what was, and what sticks is the same
+-- the same result in other words: `done` is made of the old catches, and the blocked catch is the same
 pub settled_as : {A B C : Type 0} {Done : A → Type 0} {Sticks StillSticks : B → Type 0} {Made : C → Type 0} → Settled Done Sticks → (f : A → C) → ((x : A) → Done x → Made (f x)) → ((y : C) → Made y → (x : A) × Done x × (y ≡ f x)) → ((y : B) → Sticks y → StillSticks y) → ((y : B) → StillSticks y → Sticks y) → Settled Made StillSticks
 settled_as d f to from there back = record {
   one = λ y z v w.
@@ -56,7 +56,7 @@ settled_as d f to from there back = record {
   either = elim d.either [ inl w ↦ inl (f w.0, to w.0 w.1) | inr w ↦ inr (w.0, there w.0 w.1) ];
 }
 
--- the same with a value beside what sticks
+-- the same with a value beside what blocks it
 pub beside : {A B C : Type 0} {Done : A → Type 0} {Sticks : B → Type 0} (on : C) → Settled Done Sticks → Settled Done (λ (s : C × B). Sticks s.1 × (s.0 ≡ on))
 beside on d = record {
   one = d.one;
@@ -68,7 +68,7 @@ beside on d = record {
   either = elim d.either [ inl w ↦ inl w | inr w ↦ inr ((on, w.0), (w.1, refl)) ];
 }
 
--- one way where a fact holds, and another where it does not
+-- one case if a fact holds, another if it does not
 pub by_cases : {A B Fact : Type 0} {Done Other : A → Type 0} {Sticks OtherSticks : B → Type 0} → Decided Fact → Settled Done Sticks → Settled Other OtherSticks → Settled (λ x. (Fact × Done x) ⊎ ((¬ Fact) × Other x)) (λ y. (Fact × Sticks y) ⊎ ((¬ Fact) × OtherSticks y))
 by_cases (inl fact) one other =
     settled_as one (λ x. x) (λ x w. inl (fact, w)) (λ y v. elim v [ inl a ↦ (y, a.1, refl) | inr a ↦ absurd (a.0 fact) ]) (λ y w. inl (fact, w)) (λ y v. elim v [ inl a ↦ a.1 | inr a ↦ absurd (a.0 fact) ])

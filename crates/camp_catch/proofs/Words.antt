@@ -1,4 +1,4 @@
--- The words that lemmas and answers of this crate share, so that a file brings them in by one line.
+-- The words that most proofs about catches use.
 pub use Rattle.std.proofs.Common.{Bool, Contains, IfOk, IsTrue, List, None, Option, Result, Some, [], ap, append-nil, arith, cond, drop, eqb-true, false, get_or, inl, inr, is_some, length, map, not, refl, rules, set, slice_index_or, subst, suc, sym, take, tests, true, ℕ, ◌&&◌, ◌++◌, ◌+◌, ◌-◌, ◌<◌, ◌==◌, ◌↔◌, ◌∙◌, ◌∷◌, ◌≡◌, ◌≢◌, ◌≤◌, ◌⊎◌}
 pub use Rattle.std.proofs.lemmas.List.{append_assoc, drop-set, drop_all, drop_at, drop_more, get_or-set_same, length-append, length-take-le, length_push, map-append, nil_from_length, take-append-drop, take_all, take_at, take_more_set, take_rest, with_items_is}
 pub use Rattle.std.proofs.lemmas.Option.{same_Some}

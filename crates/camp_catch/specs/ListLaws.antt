@@ -38,7 +38,7 @@ pub record ListsAreUnique : Type 0 where
   pub merged : (p q : List Catch) → GivesOnePair (MergeLists p q)
   pub merge_sticks : (p q : List Catch) → GivesOnePair (MergeSticks p q)
 
--- a relation has a pair
+-- a relation on pairs has a result
 abbrev pub HasPair : {X Y : Type 0} → (X → Y → Type 0) → Type 0
 HasPair {X} {Y} Result = (x : X) × (y : Y) × Result x y
 

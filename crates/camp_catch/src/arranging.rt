@@ -16,7 +16,7 @@ use camp_prim::Key;
 use camp_share::{Share, Shared, SharedMap};
 use std::alloc::Global;
 
-/// The catches of some patches, and the others, which come after them.
+/// The result of an arrangement: the catches of some patches, and the others, which come after them.
 #[derive(Drop)]
 pub struct Arranged {
     pub first: Vec<Shared<Catch>>,

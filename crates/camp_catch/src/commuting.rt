@@ -22,8 +22,8 @@ use camp_seq::{Seq, front, past, past_all};
 use std::alloc::{AllocError, Global};
 
 /// Commutes two catches, one after the other: `Some((k', j'))`, where `k'` and then `j'` have the effect of
-/// `j` and then `k`; `None` if they do not commute. For two plain catches `None` is exact: it never stands
-/// for out of memory.
+/// `j` and then `k`; `None` if they do not commute. For two plain catches `None` is exact: it never means out
+/// of memory.
 pub fn commute(alloc: Global, j: &Catch, k: &Catch) -> Result<Option<(Catch, Catch)>, AllocError>
     ensures exact { IfOk result (FindsPair (CommuteCatch j.now k.now)) }
     ensures memory { IfErr result (λ error. MayWant j.now k.now) }

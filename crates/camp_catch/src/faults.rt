@@ -1,10 +1,10 @@
-//! The error of what may be blocked.
+//! The error of an operation that can be blocked.
 ghost use Rattle.std.specs.Prelude.{◌≡◌};
 ghost use Rattle.camp_catch.specs.declared.faults.Unmade.TheVariants as unmade;
 
 use std::alloc::{AllocError, AllocFailed};
 
-/// Why something was not made: it is blocked by this, or memory ran out.
+/// Why an operation has no result: it is blocked by this, or memory ran out.
 #[derive(Clone, Copy, Debug)]
 pub enum Unmade<W> {
     Blocked(W),

@@ -160,7 +160,7 @@ fn two_conflictors(
     Ok(Some(pair))
 }
 
-/// Merges two effects behind what they have in common, in normal order: `r | s -> s2 | r2`.
+/// Merges two effects after their common part, in normal order: `r | s -> s2 | r2`.
 pub(crate) fn merged_effects(
     alloc: Global,
     r: &Seq,
@@ -183,7 +183,7 @@ pub(crate) fn conflict_before(j: &Conflictor, k: &Conflictor) -> Result<bool, Al
     conflict(&x, &y)
 }
 
-/// Turns what is seen before a list into what is seen after it.
+/// Moves a contexted patch from before a list to after it.
 pub(crate) fn seen_behind(list: &Seq, x: &Contexted) -> Result<Contexted, AllocError>
     ensures { IfOk result (AddsAll (inverse_all list.now) x.now) }
 {

@@ -1,4 +1,4 @@
--- With room, adding a list does not depend on the order of its elements.
+-- With headroom, adding a list does not depend on the order of its elements.
 use Rattle.camp_ctx.proofs.Words.{◌≡◌, List, [], ◌∷◌, ◌++◌, refl, sym, ◌∙◌, subst, append_assoc, inverse_of, Commute, Named, Norm, Adds, AddsAll, ContextedPatch, whole}
 use Rattle.camp_prim.proofs.CommuteLaws.{inverse, own_inverse}
 use Rattle.camp_seq.specs.Equivalence.{◌~◌, CommutesOnce, same, exchanged, backwards, through}
@@ -44,19 +44,19 @@ module _ (a b b' a' : Named) (k : Commute a b b' a') (c : List Named) (p : Named
   room_both : HasRoom (a ∷ b ∷ c)
   room_both = room_before (a ∷ b ∷ c) (p ∷ []) room
 
-  -- where b is not undone, b' is not undone behind a'
+  -- if c does not undo b, what c becomes does not undo b', after a'
   module _ (never : NotUndone b c) where
     not_behind : NotUndone b' (a' ∷ c)
     not_behind e g =
         let n = front_behind a' (inverse_of b) (inverse_of b') a c e a_past room_a g in
         never n.0 n.1
 
-    -- nor where a' passes
+    -- nor does it after a' commutes past
     not_passed : (u : List Named) (q : Named) → Past a' c p u q → NotUndone b' u
     not_passed u q w e g =
         not_behind (e ++ w.passing ∷ []) (through (left_behind a' c p u q w) (before u (inverse_of b' ∷ e) (w.passing ∷ []) g))
 
-    -- nor where a' is undone
+    -- nor if a' is undone
     not_after : (d : List Named) → c ~ (inverse_of a' ∷ d) → NotUndone b' d
     not_after d f e g =
         never (inverse_of a ∷ e) (through f (through (after_one (inverse_of a') d (inverse_of b' ∷ e) g) (swapped (inverse_of a') (inverse_of b') (inverse_of b) (inverse_of a) e (own_inverse _ _ _ _ inverses))))
@@ -97,7 +97,7 @@ module _ (a b b' a' : Named) (k : Commute a b b' a') (c : List Named) (p : Named
       undone (through (after_one a' c (inverse_of b ∷ c1) e) (through (swapped a' (inverse_of b) (inverse_of b') a c1 a_past) (after_one (inverse_of b') (a ∷ c1) d f))) is,
     )
 
-  -- b passes
+  -- the case in which b commutes past
   module _ (never_b : NotUndone b c) (t : List Named) (q : Named) (v : Past b c p t q) where
     not_before : NotUndone a t → NotUndone a' c
     not_before never d g =
@@ -187,7 +187,7 @@ adds_exchanged [] a b b' a' after x y room k w =
     (n.0, (v.0, v.1, n.1), n.2)
 adds_exchanged (e ∷ front) a b b' a' after x y room k w = (w.0, adds_exchanged front a b b' a' after x w.0 room k w.1, w.2)
 
--- a list is added, and there is room
+-- a list is added, with headroom
 abbrev AddsInRoom : ContextedPatch → ContextedPatch → List Named → Type 0
 AddsInRoom x y r = HasRoomToAdd r x × AddsAll r x y
 

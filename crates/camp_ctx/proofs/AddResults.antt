@@ -45,7 +45,7 @@ one_add_of_all = one_from_last Adds one_add
 pub one_passing_of_all : (r : List Named) → GivesOne (PassesByAll r)
 one_passing_of_all = one_from_last PassesBy one_passing_by
 
--- a label comes to the front as a given primitive, or not
+-- a label can be moved to the front and is then a given primitive, or can't be
 abbrev pub FrontAs : Named → List Named → Type 0
 FrontAs y s = (rest : List Named) × Fronts (label_of y) s y rest
 

@@ -5,16 +5,16 @@ use Rattle.camp_ctx.specs.Inside.InPlace.{behind}
 use Rattle.camp_seq.proofs.ListSteps.{whole}
 use Rattle.camp_ctx.proofs.AddResults.{one_from_last}
 
--- what is behind the inverse of a at the front of a list
+-- what remains of a list after the inverse of a was moved to its front and removed
 abbrev pub Behind : Named → List Named → List Named → Type 0
 Behind a s rest = Fronts (label_of (inverse_of a)) s (inverse_of a) rest
 
--- a label that does not come to the front of a list
+-- a label that can't be moved to the front of a list
 pub none_behind_inverse : (a : Named) (s : List Named) (label : Label) (t : List Named) → label ≡ label_of (inverse_of a) → t ≡ s → ((pair : Named × List Named) → ¬ (Fronts label t pair.0 pair.1)) → (rest : List Named) → ¬ (Behind a s rest)
 none_behind_inverse a s label t labelled is never rest w =
     never (inverse_of a, rest) (subst (λ l. Fronts l t (inverse_of a) rest) (sym labelled) (subst (λ u. Behind a u rest) (sym is) w))
 
--- what came to the front of a list, and its inverse
+-- the element that was moved to the front of a list, and its inverse
 module _ (a : Named) (s : List Named) (label : Label) (first : Named) (rest : List Named) (labelled : label ≡ label_of (inverse_of a)) (comes : Fronts label s first rest) where
   front : Fronts (label_of (inverse_of a)) s first rest
   front = subst (λ l. Fronts l s first rest) labelled comes
@@ -27,7 +27,7 @@ module _ (a : Named) (s : List Named) (label : Label) (first : Named) (rest : Li
       let it : first ≡ inverse_of a = sym (inverse_of-inverse_of first) ∙ ap inverse_of same in
       subst (λ z. Fronts (label_of (inverse_of a)) s z rest) it front
 
--- the three cases of adding, of a context and the patch behind it
+-- the three cases of adding a primitive to a context and its patch
 module _ (a : Named) (s : List Named) (p : Named) where
   pub by_cancelling : (rest left : List Named) → Behind a s rest → Norm rest left → Adds a (behind s p) (behind left p)
   by_cancelling rest left w order = cancel (record { rest = rest; front = w; context = order; patch = refl })
@@ -48,7 +48,7 @@ module _ (a : Named) (s : List Named) (p : Named) where
 pub not_past_context : (a : Named) (x : ContextedPatch) (s : List Named) → s ≡ x.context → ((pair : List Named × Named) → ¬ (Passes a s pair.0 pair.1)) → GivesNone (PassesBy a) x
 not_past_context a x s is never y w = never (w.passed, w.a') (subst (λ t. Passes a t w.passed w.a') (sym is) w.past_context)
 
--- what passed a context
+-- the result of commuting past a context
 module _ (a : Named) (x : ContextedPatch) (passed : List Named) (a' : Named) (past : Passes a x.context passed a') where
   pub not_past_patch : (p : Named) → p ≡ x.patch → ((pair : Named × Named) → ¬ (Commute a' p pair.0 pair.1)) → GivesNone (PassesBy a) x
   not_past_patch p patch never y w =
@@ -79,13 +79,13 @@ one_added a r x copy y alone same w =
     let one : AddsAll (a ∷ []) copy y = subst (λ l. AddsAll l copy y) alone w in
     subst (λ z. Adds a z y) (one.1 ∙ same) one.2
 
--- where the elements from i on have been taken, and the one before them gives nothing, the list gives nothing
+-- if the elements from i on were added, and the one before them cannot be, the list cannot be added
 pub none_from_last : (Change : Named → ContextedPatch → ContextedPatch → Type 0) → ((a : Named) → GivesOne (Change a)) → (before : List Named) (a : Named) (r : List Named) (x y : ContextedPatch) → FromLast Change r x y → GivesNone (Change a) y → GivesNone (FromLast Change (before ++ a ∷ r)) x
 none_from_last Change one [] a r x y taken never z w =
     never z (subst (λ u. Change a u z) (one_from_last Change one r x w.0 y w.1 taken) w.2)
 none_from_last Change one (b ∷ before) a r x y taken never z w = none_from_last Change one before a r x y taken never w.0 w.1
 
--- the same at a step of a loop that goes back over the list
+-- the same for one step of a loop that goes backwards over the list
 pub none_at_step : (Change : Named → ContextedPatch → ContextedPatch → Type 0) → ((a : Named) → GivesOne (Change a)) → (r : List Named) (i : ℕ) (a : Named) (x y : ContextedPatch) → i < length r → a ≡ get_or r i a → FromLast Change (drop (i + 1) r) x y → GivesNone (Change a) y → GivesNone (FromLast Change r) x
 none_at_step Change one r i a x y within is taken never =
     let next : drop i r ≡ a ∷ drop (i + 1) r = drop_more r i a within ∙ ap (λ p. p ∷ drop (i + 1) r) (sym is) in

@@ -1,4 +1,4 @@
--- What is valid behind a list becomes valid before it.
+-- A contexted patch that is valid after a list becomes one that is valid before it.
 use Rattle.camp_ctx.proofs.Words.{◌≡◌, List, [], ◌∷◌, ◌++◌, sym, subst, append_assoc, Files, Applies, inverse_of, label_of, Named, leads_back, AppliesAll, Cancels, PassesBy, Keeps, Adds, cancel, commute, keep, FromLast, AddsAll, PassesByAll, ContextedPatch, whole, Valid, KeepsValid}
 use Rattle.camp_prim.proofs.Applied.{applies_once}
 use Rattle.camp_seq.specs.Equivalence.{◌~◌, through}
@@ -39,7 +39,7 @@ valid_by_adding a x y (cancel w) = valid_by_cancel a x y w
 valid_by_adding a x y (commute never w) = valid_by_passing a x y w
 valid_by_adding a x y (keep never none w) = valid_by_keeping a x y w
 
--- a change that keeps validity, by lists
+-- a step that keeps validity, repeated over a list
 valid_from_last : (Change : Named → ContextedPatch → ContextedPatch → Type 0) → ((a : Named) → KeepsValid (Change a) (Applies a.prim)) → (r : List Named) → KeepsValid (FromLast Change r) (AppliesAll r)
 valid_from_last Change keeps [] x y w old new run valid = subst (λ t. Valid t y) run (subst (Valid new) (sym w) valid)
 valid_from_last Change keeps (a ∷ r) x y w old new run valid =

@@ -10,11 +10,11 @@ use Rattle.camp_seq.proofs.RoomSteps.{room_before, room_behind, room_of_equivale
 use Rattle.camp_seq.proofs.EquivalentLists.{comes_first, passed_before}
 use Rattle.camp_ctx.proofs.PastPatches.{Past, past_alike}
 
--- the inverse of a does not come to the front of c
+-- the inverse of a can't be moved to the front of c
 abbrev pub NotUndone : Named → List Named → Type 0
 NotUndone a c = (d : List Named) → ¬ (c ~ (inverse_of a ∷ d))
 
--- a does not pass c and p
+-- a does not commute past c and p
 abbrev pub NotPast : Named → List Named → Named → Type 0
 NotPast a c p = (d : List Named) (q : Named) → ¬ (Past a c p d q)
 
@@ -24,7 +24,7 @@ pub data Sum (a : Named) (c : List Named) (p : Named) (d : List Named) (q : Name
   goes_past : NotUndone a c → Past a c p d q → Sum a c p d q
   stays : NotUndone a c → NotPast a c p → (a ∷ c) ~ d → q ≡ p → Sum a c p d q
 
--- a normal order of a list with room is its own
+-- a normal order of a list with headroom is its own
 pub own_order : (s t : List Named) → HasRoom s → Norm s t → Norm t t
 own_order s t room n = normal_form s t room (ordered s t n) t n
 
@@ -129,12 +129,12 @@ sum_left a c c' p d q room f (stays never none e is) =
     let there : HasRoom (a ∷ c') = room_of_equivalent (a ∷ c) (a ∷ c') (after_one a c c' f) room in
     stays (λ t g. never t (through f g)) (λ t z w. none t z (past_alike a c' c p t t z there (backwards f) same w)) (through (after_one a c' c (backwards f)) e) is
 
--- what passes c and p comes to stand behind what they become
+-- what commutes past c and p comes after what they become
 pub past_whole : (a : Named) (c : List Named) (p : Named) (d : List Named) (q : Named) → (w : Past a c p d q) → (a ∷ (c ++ p ∷ [])) ~ ((d ++ q ∷ []) ++ w.behind ∷ [])
 past_whole a c p d q w =
     through (passed_before a c w.left w.passing (p ∷ []) w.past_list) (through (behind w.left _ _ (swapped w.passing p q w.behind [] w.past_patch)) (through (before w.left d (q ∷ w.behind ∷ []) w.alike) (equal_are _ _ (sym (append_assoc d (q ∷ []) (w.behind ∷ []))))))
 
--- what stays is a part of the sum
+-- if nothing changes, the sum is the same
 pub stays_whole : (a : Named) (c : List Named) (p : Named) (d : List Named) (q : Named) → (a ∷ c) ~ d → q ≡ p → (a ∷ (c ++ p ∷ [])) ~ (d ++ q ∷ [])
 stays_whole a c p d q e is = through (before (a ∷ c) d (p ∷ []) e) (equal_are _ _ (ap (λ z. d ++ z ∷ []) (sym is)))
 
@@ -142,7 +142,7 @@ stays_whole a c p d q e is = through (before (a ∷ c) d (p ∷ []) e) (equal_ar
 pub inverse_past : (a b b' a' : Named) → Commute a b b' a' → Commute a' (inverse_of b) (inverse_of b') a
 inverse_past a b b' a' k = own_inverse (inverse_of b') a a' (inverse_of b) (square b' a' a b (own_inverse a b b' a' k))
 
--- where a b <-> b' a', a before the sum of b has room
+-- if a b <-> b' a', then a, followed by the sum of b, has headroom
 pub room_of_sum : (a b b' a' : Named) (c : List Named) (p : Named) (d : List Named) (q : Named) → HasRoom (a ∷ b ∷ (c ++ p ∷ [])) → Commute a b b' a' → Sum b c p d q → HasRoom (a ∷ (d ++ q ∷ []))
 room_of_sum a b b' a' c p d q room k (undone e is) =
     let front : (a ∷ b ∷ (c ++ p ∷ [])) ~ (b' ∷ inverse_of b' ∷ a ∷ (d ++ p ∷ [])) =

@@ -54,8 +54,8 @@ module _ (x y : ContextedPatch) (lacks : LacksLabels (whole x) (whole y)) (any :
         merge = v.6;
       })
 
--- a patch without a context, which does not merge with a list and a patch behind it, conflicts with them, where they
--- don't have its label
+-- if a patch without a context does not merge with a list and the patch after it, and they do not have its label, it
+-- conflicts with them
 pub some_behind : (a patch : Named) (s : List Named) → has_label (s ++ patch ∷ []) (label_of a) ≡ false → NoCleanMerge (a ∷ []) (s ++ patch ∷ []) → Norm (s ++ patch ∷ []) (s ++ patch ∷ []) → Conflict (bare a) (record { context = s; patch = patch })
 some_behind a patch s lacks stops own =
     conflict_as_they_stand (bare a) (record { context = s; patch = patch }) (lacks, tt) (of_own_orders (a ∷ []) (s ++ patch ∷ []) (chain_is_ordered (a ∷ []) (tt, tt)) own) stops

@@ -53,12 +53,12 @@ common_turned s t l among =
     let theirs : has_label t l ≡ true = All-contains (λ m. has_label t m ≡ true) common l (filter_passes (has_label t) labels) among in
     contains_from_in l (common_labels t s) (filter_from_in (has_label s) l (map label_of t) (has_from_in s l (in_from_contains l labels ours)) (in_from_has t l theirs))
 
--- what comes to the front of a list is in it
+-- an element that can be moved to the front of a list is in it
 pub in_from_fronts : (l : Label) (s : List Named) (y : Named) (t : List Named) → Fronts l s y t → IsIn l (map label_of s)
 in_from_fronts l [] y t w = absurd w
 in_from_fronts l (p ∷ s) y t (inl w) = inl w.0
 in_from_fronts l (p ∷ s) y t (inr w) = let found = w.1 in inr (in_from_fronts l s found.0 found.2 found.3)
 
--- no label comes to the front of a list that does not have it
+-- a label that no element of a list has can't be moved to its front
 pub none_fronts : (l : Label) (s : List Named) → has_label s l ≡ false → (y : Named) (t : List Named) → ¬ (Fronts l s y t)
 none_fronts l s lacks y t w = let yes = has_from_in s l (in_from_fronts l s y t w) in cc

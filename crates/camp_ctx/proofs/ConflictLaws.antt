@@ -1,5 +1,4 @@
--- Merging behind a common part has at most one result, and does not depend on the order of the two; so neither does
--- conflict.
+-- Merging after a common part has at most one result and is symmetric; so is conflict.
 use Rattle.camp_ctx.proofs.Words.{◌≡◌, List, [], ◌∷◌, subst, inl, inr, Contains, label_of, Label, Named, CleanMerge, Splits, Parts, one_split, one_clean_merge, merge_is_symmetric, common_labels, MergesBehindCommon, Conflict, ContextedPatch, whole}
 use Rattle.camp_ctx.specs.Laws.{AreSymmetric}
 use Rattle.camp_ctx.proofs.CommonLabels.{common_turned}

@@ -1,8 +1,8 @@
--- What the body of a merge behind a common part knows at its answers.
+-- Facts at the returns of a merge after a common part.
 use Rattle.camp_ctx.proofs.Words.{◌≡◌, List, Option, None, Some, sym, ◌∙◌, subst, Label, Named, CleanMerge, Splits, one_split, common_labels, MergesBehindCommon, Conflict, ContextedPatch, whole}
 use Rattle.camp_base.specs.Answers.{FindsPair}
 
--- no two lists merge behind what these have in common
+-- no two lists merge after their common part
 abbrev pub NoMerge : List Named → List Named → Type 0
 NoMerge s t = (pair : List Named × List Named) → ¬ (MergesBehindCommon s t pair.0 pair.1)
 

@@ -1,4 +1,4 @@
--- Whether contexted patches pass and conflict, and whether a set has one member, is decided.
+-- It is decidable whether contexted patches commute and conflict, and whether a set has exactly one member.
 use Rattle.camp_ctx.proofs.Words.{◌≡◌, None, Some, List, [], ◌∷◌, refl, sym, ap, ◌∙◌, subst, inl, inr, entries, same_entries_map, Key, key_cmp, Named, key_total, key_ties, Decided, decided_by, same_or_not, Splits, TwoOrNone, clean_merge_or_not, splits_or_not, PassesBy, PassesByAll, common_labels, MergesBehindCommon, Conflict, ContextedPatch, ContextedPatches, context_key, only, whole}
 use Rattle.camp_ctx.proofs.AddResults.{one_passing_of_all, passing_by_or_not, same_in_context}
 use Rattle.camp_ctx.proofs.ConflictSteps.{no_first, no_second, other_fronts, merges_as_the_rests}
@@ -30,7 +30,7 @@ list_passes_by_or_not (a ∷ r) x = elim (list_passes_by_or_not r x) [
   | inr never ↦ inr (λ v. never (v.1.0, v.1.1))
 ]
 
--- lists merge behind what they have in common as their rests merge
+-- lists merge after their common part exactly if their rests merge
 merge_of_rests : (s t : List Named) → (v : (f : List Named) × (r : List Named) × Splits (common_labels s t) s f r) → (w : (f : List Named) × (r : List Named) × Splits (common_labels s t) t f r) → Decided (v.0 ≡ w.0) → TwoOrNone (MergesBehindCommon s t)
 merge_of_rests s t v w (inl same) = elim (clean_merge_or_not v.1 w.1) [
   | inl m ↦ inl (m.0, m.1, merges_as_the_rests s t (common_labels s t) refl v.0 w.0 v.1 w.1 v.2 w.2 same (Some (m.0, m.1)) m.2)
@@ -74,6 +74,6 @@ entries_or_not xs (e ∷ es) is =
     let same : e ≡ (context_key y.0, y.0) = cc in
     y.1 ∙ ap (λ (f : Key × ContextedPatch). only f.1) (sym same)) (contexts_or_not xs (only e.1))
 
--- a set has one member, which stands under its own label, or it is another
+-- a set has exactly one member, under its own label, or it is another set
 pub only_or_not : (xs : ContextedPatches) → Decided ((x : ContextedPatch) × (xs ≡ only x))
 only_or_not xs = entries_or_not xs (entries xs) refl

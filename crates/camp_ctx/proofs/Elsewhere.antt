@@ -45,7 +45,7 @@ turned_all s (q ∷ t) w =
     let both = turned_each q s t w in
     (both.0, turned_all s t both.1)
 
--- what has nothing to do with a list still has nothing to do with it where it moved
+-- a primitive that is independent of a list is still independent after the list was moved
 module _ (t : List Named) where
   front_elsewhere : (label : Label) (s : List Named) (y : Named) (u : List Named) → Fronts label s y u → AreElsewhere s t → IsElsewhere t y × AreElsewhere u t
   front_elsewhere label [] y u w a = absurd w

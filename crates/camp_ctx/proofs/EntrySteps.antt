@@ -1,4 +1,4 @@
--- Entries in order, met one after the other.
+-- Sorted entries, visited one after the other.
 use Rattle.camp_ctx.proofs.Words.{take_more, slice_get_within, get_or_from_slice_get, ◌≡◌, ℕ, zero, suc, ◌+◌, T, cond, false, Some, None, List, [], ◌∷◌, ◌++◌, take, refl, sym, ap, ◌∙◌, subst, same_Some, none-some, slice_get, is_eq, eq_by_cmp, IsTotalOrder, tied_itself, find, below_all, is_sorted, Ordering, Less}
 use Rattle.camp_share.proofs.Entries.{first, second, is_less, above}
 
@@ -16,7 +16,7 @@ module _ {K X : Type 0} (R : K → K → Ordering) (o : IsTotalOrder R) where
   apart : (l : K) (es : List (K × X)) (i : ℕ) (k : K) (x : X) → slice_get es i ≡ Some (k, x) → T (below_all R l es) → eq_by_cmp R k l ≡ false
   apart l es i k x is below = ap is_eq (above R o l k (below_later l es i k x is below))
 
-  -- the entry at a place is what is found of its key
+  -- the entry at an index is what a lookup of its key finds
   pub found_at : (es : List (K × X)) (i : ℕ) (k : K) (x : X) → slice_get es i ≡ Some (k, x) → T (is_sorted R es) → find R k es ≡ Some x
   found_at [] i k x is sorted = absurd (none-some _ is)
   found_at (e ∷ es) zero k x is sorted =

@@ -1,4 +1,4 @@
--- What neither commutes nor cancels with its neighbour is kept before the context.
+-- Elements that neither commute nor cancel with the next one are inserted before the context.
 use Rattle.camp_ctx.proofs.Words.{◌≡◌, ◌<◌, ◌∙◌, ap, ℕ, length, List, [], ◌∷◌, ◌++◌, refl, subst, inverse_of, label_of, Commute, Named, chain_is_ordered, front_of_chain, Adds, AddsAll, Cancels, GivesNone, PassesBy, keep, ContextedPatch, Links}
 use Rattle.std.proofs.Common.{append-nil}
 use Rattle.camp_ctx.specs.Inside.InPlace.{behind}
@@ -18,7 +18,7 @@ chain_more : (a : Named) (s : List Named) (patch : Named) → Chain s → Links 
 chain_more a [] patch c l = (tt, tt)
 chain_more a (q ∷ s) patch c l = (l.0, c)
 
--- a list that is all put before nothing becomes the context
+-- a list that is wholly inserted before the empty context becomes the context
 pub all_linked : (r s : List Named) (x : ContextedPatch) (patch : Named) (start : ℕ) → s ≡ [] → s ≡ x.context → patch ≡ x.patch → start ≡ 0 → LinksFrom r s patch start → AddsAll r x (behind r x.patch)
 all_linked r s x patch start none own same whole w =
     let all : LinksFrom r s patch 0 = subst (LinksFrom r s patch) whole w in

@@ -1,4 +1,4 @@
--- A list in normal order is so too when a primitive has passed it, if there is room.
+-- A list in normal order, given headroom, is in normal order after a primitive has commuted past it.
 use Rattle.camp_ctx.proofs.Words.{List, [], ◌∷◌, ◌++◌, inl, Less, refl, sym, ap, ◌∙◌, subst, ◌≡◌, inverse_of, label_cmp, label_of, Named, Norm, Fronts, Passes}
 use Rattle.camp_prim.proofs.CommuteLaws.{square}
 use Rattle.camp_seq.specs.Equivalence.{through}
@@ -11,13 +11,13 @@ use Rattle.camp_seq.proofs.OwnOrders.{rest_ordered}
 use Rattle.camp_seq.proofs.RoomSteps.{at_front, room_before, room_behind, room_exchanged, room_of_equivalent}
 use Rattle.camp_ctx.specs.Inside.InPlace.{KeepsOrder}
 
--- where a passes a list, its inverse passes what the list has become
+-- if a commutes past a list, its inverse commutes past what the list becomes
 passes_back : (a : Named) (s s' : List Named) (a' : Named) → Passes a s s' a' → Passes (inverse_of a) s' s (inverse_of a')
 passes_back a [] s' a' w = subst (λ t. Passes (inverse_of a) t [] (inverse_of a')) (sym w.0) (refl, ap inverse_of w.1)
 passes_back a (q ∷ s) s' a' w =
     subst (λ t. Passes (inverse_of a) t (q ∷ s) (inverse_of a')) (sym w.5) (q, inverse_of w.1, s, square a q w.0 w.1 w.3, passes_back w.1 s w.2 a' w.4, refl)
 
--- a list is in normal order if what it becomes where b passes it is
+-- a list is in normal order if what it becomes is, once b has commuted past it
 order_before : (b : Named) (t s : List Named) (b' : Named) → HasRoom (b ∷ t) → Passes b t s b' → Norm s s → Norm t t
 order_before b [] s b' room w own = refl
 order_before b (y ∷ t) s b' room w own =
@@ -34,7 +34,7 @@ order_before b (y ∷ t) s b' room w own =
     (subst (λ l. label_cmp l (label_of w.0) ≡ Less) same (subst (λ l. label_cmp other l ≡ Less) (sym w.3.anywhere.second) less)) in
     (t, inl (refl, refl, refl), least, order_before w.1 t w.2 b' (room_behind w.0 (w.1 ∷ t) turned) w.4 first.1)
 
--- where a passes a context in normal order, and there is room, the context stays so
+-- if a commutes past a context in normal order, with headroom, the context is still in normal order
 pub keeps_order : (a : Named) (c d : List Named) (a' p : Named) → Passes a c d a' → Norm c c → KeepsOrder a d p
 keeps_order a c d a' p w own room =
     order_before (inverse_of a) d c (inverse_of a') (room_before (inverse_of a ∷ d) (p ∷ []) room) (passes_back a c d a' w) own

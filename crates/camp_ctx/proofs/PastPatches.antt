@@ -1,4 +1,4 @@
--- An element that passes a list and the patch behind it, in whatever order the list is.
+-- An element that commutes past a list, in any order, and the patch after it.
 use Rattle.camp_ctx.proofs.Words.{List, [], ◌∷◌, ◌++◌, refl, ap, ◌∙◌, subst, Commute, Named, swap_unique, Passes}
 use Rattle.camp_seq.specs.Equivalence.{◌~◌, same, backwards, through}
 use Rattle.camp_seq.specs.Room.{HasRoom}
@@ -8,7 +8,7 @@ use Rattle.camp_seq.proofs.RoomSteps.{room_before, room_of_equivalent}
 use Rattle.camp_seq.proofs.EquivalentLists.{both_pass, passed_before, passes_alike, room_of_rest}
 use Rattle.camp_seq.proofs.MergeOrders.{two_pass}
 
--- a passes c and p, which become d, in whatever order, and q
+-- a commutes past c and p, which become d, in any order, and q
 pub record Past (a : Named) (c : List Named) (p : Named) (d : List Named) (q : Named) : Type 0 where
   pub passing : Named
   pub behind : Named
@@ -17,7 +17,7 @@ pub record Past (a : Named) (c : List Named) (p : Named) (d : List Named) (q : N
   pub past_patch : Commute passing p q behind
   pub alike : left ~ d
 
--- a and c are what c becomes, and what comes of a behind it
+-- a and c are equivalent to what c becomes, followed by what a becomes
 pub left_behind : (a : Named) (c : List Named) (p : Named) (d : List Named) (q : Named) → (w : Past a c p d q) → (a ∷ c) ~ (d ++ w.passing ∷ [])
 left_behind a c p d q w =
     through (passed a c w.left w.passing w.past_list) (before w.left d (w.passing ∷ []) w.alike)
@@ -34,7 +34,7 @@ past_alike a c c' p d d' q room e f w =
       alike = through (backwards n.2) (through w.alike f);
     }
 
--- where p q <-> q' p', p passes q s where p' passes s
+-- if p q <-> q' p' and p' commutes past s, then p commutes past q s
 pub past_with : (p q q' p' : Named) (s : List Named) (r : Named) (t : List Named) (z : Named) → Commute p q q' p' → Past p' s r t z → Past p (q ∷ s) r (q' ∷ t) z
 past_with p q q' p' s r t z k w = record {
   passing = w.passing;
@@ -62,17 +62,17 @@ past_rest p q q' p' s r t z k w =
       through (backwards w.alike) (equal_are _ _ (v.5 ∙ ap (λ x. x ∷ v.2) one.0)),
     )
 
--- two that pass a list, and the patch behind it, have room
+-- two elements that commute past a list and the patch after it have headroom
 three_behind : (a b : Named) (c : List Named) (p : Named) (t : List Named) (b1 : Named) (s : List Named) (a1 : Named) → HasRoom (a ∷ b ∷ (c ++ p ∷ [])) → Passes b c t b1 → Passes a t s a1 → HasRoom (a1 ∷ b1 ∷ p ∷ [])
 three_behind a b c p t b1 s a1 room v w =
     room_of_rest s (a1 ∷ b1 ∷ p ∷ []) (room_of_equivalent _ _ (through (after_one a _ _ (passed_before b c t b1 (p ∷ []) v)) (passed_before a t s a1 (b1 ∷ p ∷ []) w)) room)
 
--- a before what b leaves has room
+-- a, followed by what b leaves, has headroom
 pub room_before_left : (a b : Named) (c t : List Named) (b1 : Named) → HasRoom (a ∷ b ∷ c) → Passes b c t b1 → HasRoom (a ∷ t)
 room_before_left a b c t b1 room v =
     room_before (a ∷ t) (b1 ∷ []) (room_of_equivalent _ _ (after_one a (b ∷ c) (t ++ b1 ∷ []) (passed b c t b1 v)) room)
 
--- where a b <-> b' a', and b and then a pass, a' and then b' pass, and leave the same
+-- if a b <-> b' a', and b and then a commute past, a' and then b' do, and leave the same
 pub two_past : (a b b' a' : Named) (c : List Named) (p : Named) (t : List Named) (q : Named) (s : List Named) (z : Named) → HasRoom (a ∷ b ∷ (c ++ p ∷ [])) → Commute a b b' a' → Past b c p t q → Past a t q s z → (u : List Named) × (o : Named) × Past a' c p u o × Past b' u o s z
 two_past a b b' a' c p t q s z room k v w =
     let there : HasRoom (a ∷ b ∷ c) = room_before (a ∷ b ∷ c) (p ∷ []) room in
@@ -86,7 +86,7 @@ two_past a b b' a' c p t q s z room k v w =
       record { passing = n.2; behind = m.2; left = x.left; past_list = n.4; past_patch = m.3.qr2; alike = x.alike },
     )
 
--- where a b <-> b' a', and b and a' pass, a passes what b leaves
+-- if a b <-> b' a', and b and a' commute past, a commutes past what b leaves
 pub both_past : (a b b' a' : Named) (c : List Named) (p : Named) (t : List Named) (q : Named) (u : List Named) (o : Named) → HasRoom (a ∷ b ∷ (c ++ p ∷ [])) → Commute a b b' a' → Past b c p t q → Past a' c p u o → (s : List Named) × (z : Named) × Past a t q s z
 both_past a b b' a' c p t q u o room k v x =
     let there : HasRoom (a ∷ b ∷ c) = room_before (a ∷ b ∷ c) (p ∷ []) room in

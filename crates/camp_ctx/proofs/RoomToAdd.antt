@@ -1,4 +1,4 @@
--- What fits before an addition fits behind it, so a reach in range gives room to add.
+-- A list that fits before an addition fits after it, so a reach in range gives headroom to add.
 use Rattle.camp_ctx.proofs.Words.{List, [], ◌∷◌, ◌++◌, sym, subst, append_assoc, inverse_of, Named, Adds, AddsAll, ContextedPatch, whole}
 use Rattle.camp_seq.specs.Equivalence.{through}
 use Rattle.camp_seq.proofs.FittingLists.{fits_alike, fits_before, fits_rest, fits_without}

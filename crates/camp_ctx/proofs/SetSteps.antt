@@ -70,16 +70,16 @@ same_by_index xs ys long same =
 past_end : {X : Type 0} (xs : List X) (i : ℕ) → slice_get xs i ≡ None → length xs ≤ i
 past_end xs i is = elim (slice_get_cases xs i).1 [ inl w ↦ absurd (none-some w.0 (sym is ∙ w.2)) | inr w ↦ w.0 ]
 
--- an entry at its place
+-- an entry at its index
 pub entry_at : (as_kept xs : ContextedPatches) (i : ℕ) (e : Key × ContextedPatch) → as_kept ≡ xs → Some e ≡ slice_get (entries as_kept) i → slice_get (entries xs) i ≡ Some e
 entry_at as_kept xs i e is entry = ap (λ m. slice_get (entries m) i) (sym is) ∙ sym entry
 
--- a member at its place
+-- a member at its index
 pub member_at : (as_kept xs : ContextedPatches) (i : ℕ) (e : Key × ContextedPatch) → as_kept ≡ xs → Some e ≡ slice_get (entries as_kept) i → slice_get (members_of xs) i ≡ Some e.1
 member_at as_kept xs i e is entry =
     slice_get-map (λ e. e.1) (entries xs) i ∙ ap (option_map (λ (e : Key × ContextedPatch). e.1)) (entry_at as_kept xs i e is entry)
 
--- what one member's entries are
+-- the entries of one member
 pub entries-only : (x : ContextedPatch) → entries (only x) ≡ entry_of x ∷ []
 entries-only x =
     entries-insert key_total empty (context_key x) x ∙ ap (put key_cmp (context_key x) x) (nil_from_length (entries empty) (sym (len-entries empty) ∙ len-empty key_cmp ContextedPatch))
@@ -112,12 +112,12 @@ nothing_from : (Change : ContextedPatch → ContextedPatch → Type 0) (now : Op
 nothing_from Change None w = refl
 nothing_from Change (Some y) w = absurd w
 
--- nothing stands yet at the label of the next member
+-- the set has no entry yet at the label of the next member
 none_yet : (r : List Named) (xs sum : ContextedPatches) (i : ℕ) (k : Key) (x : ContextedPatch) → slice_get (entries xs) i ≡ Some (k, x) → ((key : Key) → ChangesAt (AddsAll r) (find key_cmp key (take i (entries xs))) (get sum key)) → get sum k ≡ None
 none_yet r xs sum i k x is before =
     nothing_from (AddsAll r) (get sum k) (subst (λ was. ChangesAt (AddsAll r) was (get sum k)) (not_before key_cmp key_total (entries xs) i k x is (entries_sorted xs)) (before k))
 
--- so the next member comes to stand there
+-- so the next member is inserted there
 pub one_more_put : (r : List Named) (xs sum after : ContextedPatches) (i : ℕ) (k : Key) (x y : ContextedPatch) → slice_get (entries xs) i ≡ Some (k, x) → AddsAll r x y → after ≡ cond (contains_key sum k) sum (insert sum k y) → ((key : Key) → ChangesAt (AddsAll r) (find key_cmp key (take i (entries xs))) (get sum key)) → (key : Key) → ChangesAt (AddsAll r) (find key_cmp key (take (i + 1) (entries xs))) (get after key)
 one_more_put r xs sum after i k x y is adds is_put before key =
     let es = entries xs in
@@ -128,7 +128,7 @@ one_more_put r xs sum after i k x y is adds is_put before key =
     let now : get after key ≡ cond test (Some y) (get sum key) = ap (λ m. get m key) becomes ∙ get-insert key_total sum k y key in
     subst (ChangesAt (AddsAll r) (find key_cmp key (take (i + 1) es))) (sym now) (subst (λ w. ChangesAt (AddsAll r) w (cond test (Some y) (get sum key))) (sym was) (changes_choose (AddsAll r) test x y _ _ adds (before key)))
 
--- no place below the number of entries is empty
+-- each index below the number of entries has an entry
 pub none_missing : (xs : ContextedPatches) (i n : ℕ) → n ≡ len xs → i < n → ¬ (None ≡ slice_get (entries xs) i)
 none_missing xs i n counted within none =
     let long = len-entries xs in

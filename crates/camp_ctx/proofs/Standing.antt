@@ -1,4 +1,4 @@
--- What stays as it is where a primitive passes it as it is.
+-- Contexted patches that stay unchanged when a primitive that keeps its line commutes past them.
 use Rattle.camp_ctx.proofs.Words.{◌≡◌, ◌∙◌, ℕ, suc, get_or, ◌<◌, ◌≤◌, length, Some, Bool, true, false, cond, List, [], ◌∷◌, ◌++◌, map, refl, sym, ap, subst, inl, inr, arith, slice_get, none-some, same_Some, entries, get-entries, len, len-entries, find, eq_by_cmp, inverse_of, label_of, key_of, key_cmp, Commute, Key, Label, Named, inverse_of-inverse_of, Norm, Splits, Parts, Passes, passes_row, chain_is_ordered, Adds, PassesBy, commute, MergesBehindCommon, common_labels, has_label, Conflict, ChangesAt, ContextedPatches, EachMember, ContextedPatch, whole}
 use Rattle.std.proofs.lemmas.List.Folds.{list_any-append}
 use Rattle.std.proofs.Common.{◌||◌}
@@ -9,7 +9,7 @@ use Rattle.camp_ctx.specs.Inside.Apart.{LacksLabels, NoCleanMerge}
 use Rattle.camp_ctx.proofs.CommonLabels.{IsIn, in_from_fronts, in_from_has}
 use Rattle.camp_ctx.proofs.SetSteps.{members_of}
 
--- what a primitive passes has other absolute labels
+-- a primitive commutes only past elements with other absolute labels
 has_other_labels : (a : Named) (s s' : List Named) (a' : Named) → Passes a s s' a' → (l : Label) → key_of l ≡ key_of (label_of a) → ¬ (IsIn l (map label_of s))
 has_other_labels a [] s' a' passes l same among = absurd among
 has_other_labels a (q ∷ s) s' a' w l same (inl is) =
@@ -17,7 +17,7 @@ has_other_labels a (q ∷ s) s' a' w l same (inl is) =
 has_other_labels a (q ∷ s) s' a' w l same (inr among) =
     has_other_labels w.1 s _ a' w.4 l (same ∙ ap key_of (sym w.3.anywhere.first)) among
 
--- a primitive passes by a contexted patch in normal order, where all stay as they are
+-- a primitive commutes past a contexted patch in normal order, and all stay unchanged
 pub passes_as_it_is : (a : Named) (x : ContextedPatch) → Passes a x.context x.context a → Norm x.context x.context → Commute a x.patch x.patch a → PassesBy a x x
 passes_as_it_is a x passes own swap =
     record { a' = a; a'' = a; passed = x.context; past_context = passes; past_patch = swap; context = own }
@@ -26,7 +26,7 @@ passes_as_it_is a x passes own swap =
 pub stays_put : (a : Named) (x : ContextedPatch) → Passes a x.context x.context a → PassesBy a x x → Adds a x x
 stays_put a x passes = commute (λ y w. has_other_labels a x.context x.context a passes (label_of (inverse_of a)) refl (in_from_fronts _ x.context _ _ w.front))
 
--- what changes each element of entries to itself changes each value to itself
+-- if each entry changes to itself, each value does
 same_at_each : (Change : ContextedPatch → ContextedPatch → Type 0) (es : List (Key × ContextedPatch)) → ((k : ℕ) → k < length es → ChangesAt Change (slice_get (map (λ e. e.1) es) k) (slice_get (map (λ e. e.1) es) k)) → (key : Key) → ChangesAt Change (find key_cmp key es) (find key_cmp key es)
 same_at_each Change [] own key = tt
 same_at_each Change (e ∷ es) own key =
@@ -40,7 +40,7 @@ each_is_same Change xs i n counted past own key =
     let long = len-entries xs in
     subst (λ o. ChangesAt Change o o) (sym (get-entries xs key)) (same_at_each Change (entries xs) (λ k within. own k (omega arith)) key)
 
--- lists of which no label of the one is in the other have none in common
+-- two lists such that no label of one is in the other have no common label
 pub none_in_common : (s t : List Named) → LacksLabels s t → common_labels s t ≡ []
 none_in_common [] t lacks = refl
 none_in_common (p ∷ s) t lacks =
@@ -51,7 +51,7 @@ no_parts [] = (refl, refl)
 no_parts (p ∷ t) =
     inr ((λ named. let within = named.1 in absurd (omega arith)), ([], t, p, no_parts t, (refl, refl), refl))
 
--- no label splits off nothing, and leaves the list in its normal order
+-- splitting off no label gives nothing, and leaves the list in its normal order
 pub no_split : (labels : List Label) (t u : List Named) → labels ≡ [] → Norm t u → Splits labels t [] u
 no_split labels t u none n =
     subst (λ ls. Splits ls t [] u) (sym none) (record { named = []; others = t; parts = no_parts t; first = refl; rest = n })
@@ -61,7 +61,7 @@ module _ (back : Named) (t : List Named) (passes : Passes back t t back) where
   nothing_common =
       none_in_common (inverse_of back ∷ []) t (false_from_ne_true _ (λ has. has_other_labels back t t back passes _ refl (in_from_has t _ has)), tt)
 
-  -- what goes back past a list in normal order, where all stay as they are, merges with it
+  -- if the inverse commutes past a list in normal order, and all stay unchanged, the primitive merges with the list
   pub merges_aside : Norm t t → MergesBehindCommon (inverse_of back ∷ []) t t (inverse_of back ∷ [])
   merges_aside own = record {
     common = [];
@@ -94,7 +94,7 @@ module _ (x : ContextedPatch) (c : List Named) (l m : Label) (found : Bool) (is 
   named_by_patch t told lacks own tells_too =
       tells_too ∙ ap (λ s. has_label s m) own ∙ ap (has_label (x.patch ∷ [])) same ∙ sym (both_told ∙ ap (λ b. b || has_label (x.patch ∷ []) l) lacks)
 
--- the first of a context is the first of the whole
+-- the first element of a context is the first of the whole
 pub first_of_context : (x : ContextedPatch) (s : List Named) (p : Named) → s ≡ x.context → Some p ≡ slice_get s 0 → (rest : List Named) × (whole x ≡ p ∷ rest)
 first_of_context x [] p is there = absurd (none-some p (sym there))
 first_of_context x (q ∷ s) p is there =
@@ -111,7 +111,8 @@ firsts_stop s t rest more p q first second never = rw (first, second) (λ t' s' 
     let row = w.3 in
     never (row.0 ∷ []) (row.1 ∷ []) (row.0 ∷ [], row.1, [], (row.0, row.1, [], row.3, (refl, refl), refl), (refl, refl), refl))
 
--- what goes back past a list and a patch behind it, where all stay as they are, does not conflict with them
+-- if the inverse commutes past a list and the patch after it, and all stay unchanged, the primitive does not conflict
+-- with them
 pub none_behind : (a patch : Named) (s : List Named) → Passes (inverse_of a) (s ++ patch ∷ []) (s ++ patch ∷ []) (inverse_of a) → Norm (s ++ patch ∷ []) (s ++ patch ∷ []) → ¬ (Conflict (bare a) (record { context = s; patch = patch }))
 none_behind a patch s passes own conflict =
     let t : List Named = s ++ patch ∷ [] in

@@ -17,8 +17,8 @@ has_label s label = list_any (λ p. eq_by_cmp label_cmp (label_of p) label) s
 abbrev pub common_labels : List Named → List Named → List Label
 common_labels s t = filter (has_label t) (map label_of s)
 
--- two lists of the same state merge cleanly behind what they have in common: s ~ common s1 and t ~ common t1,
--- and s1 and t1 merge cleanly to t' and s'
+-- two lists of the same state merge cleanly after their common part: s ~ common s1 and t ~ common t1, and s1 and t1
+-- merge cleanly to t' and s'
 pub record MergesBehindCommon (s t t' s' : List Named) : Type 0 where
   pub common : List Named
   pub s1 : List Named
@@ -27,6 +27,6 @@ pub record MergesBehindCommon (s t t' s' : List Named) : Type 0 where
   pub second : Splits (common_labels s t) t common t1
   pub merge : CleanMerge s1 t1 t' s'
 
--- c:p and d:q conflict unless c p and d q merge cleanly behind what they have in common
+-- c:p and d:q conflict unless c p and d q merge cleanly after their common part
 abbrev pub Conflict : ContextedPatch → ContextedPatch → Type 0
 Conflict x y = (t' s' : List Named) → ¬ (MergesBehindCommon (whole x) (whole y) t' s')

@@ -59,7 +59,7 @@ pub record EmptyChangesNothing : Type 0 where
   pub adds : (x y : ContextedPatch) → AddsAll [] x y → y ≡ x
   pub adds_to_members : (xs ys : ContextedPatches) → EachMember (AddsAll []) xs ys → ys ≡ xs
 
--- merging behind a common part, and conflicting, are symmetric
+-- merging after a common part, and conflicting, are symmetric
 pub record AreSymmetric : Type 0 where
   pub merges : (s t t' s' : List Named) → MergesBehindCommon s t t' s' → MergesBehindCommon t s s' t'
   pub conflicts : (x y : ContextedPatch) → Conflict x y → Conflict y x

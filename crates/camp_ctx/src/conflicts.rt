@@ -37,8 +37,8 @@ pub fn conflict(x: &Contexted, y: &Contexted) -> Result<bool, AllocError>
     }
 }
 
-/// Merges two lists of the same state behind what they have in common: `Some((t', s'))` if the rests merge
-/// cleanly, where `t'` comes after `s`, and `s'` after `t`.
+/// Merges two lists of the same state after their common part: `Some((t', s'))` if the rests merge cleanly,
+/// where `t'` comes after `s`, and `s'` after `t`.
 pub fn merge_behind_common(
     alloc: Global,
     s: &Seq,

@@ -10,7 +10,8 @@
 //! - A context that a primitive passes unchanged, and that is in normal order, stays unchanged when the primitive is
 //! added, and is shared. So do the elements at the end of a list that all leave a contexted patch unchanged: the
 //! context is copied at the first that may change it.
-//! - A context in normal order stays so when a primitive has passed it, if there is headroom; it is not ordered anew.
+//! - A context in normal order stays so when a primitive has passed it, if there is headroom; it is not
+//! ordered again.
 //! - The quick checks of whether the context, and the whole, are their own normal orders are made once, when a
 //! contexted patch is made (`Contexted::context_is_ordered`, `whole_is_ordered`). Of a chain only the last element is
 //! checked, if the patch does not pass it. A context that was ordered is known to be its own normal order if it has

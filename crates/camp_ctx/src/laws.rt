@@ -2,7 +2,7 @@
 ghost use Rattle.camp_ctx.specs.Laws.{AddingGives, AreDetermined, AreSymmetric, EmptyChangesNothing, KeepValid};
 ghost use Rattle.camp_ctx.specs.Room.{AddsInAnyOrder, ReachGivesRoomToAdd};
 
-/// Adding, commuting past, and merging behind a common part have at most one result.
+/// Adding, commuting past, and merging after a common part have at most one result.
 #[tactic(auto, using(crate::proofs::SetChanges::are_determined))]
 pub fn results_in_context_are_determined()
     ensures law { AreDetermined }

@@ -1,4 +1,4 @@
--- What a primitive does to a tree, as a relation and as a function.
+-- The effect of a primitive on a tree, as a relation and as a function.
 use Rattle.camp_prim.proofs.Words.{◌≡◌, ℕ, cond, Option, None, Some, is_some, option_map, option_and_then, List, [], ◌∷◌, refl, sym, ap, ◌∙◌, get, insert, remove, none-some, same_Some, Lines, Files, Adds, Removes, Splices, Edit, Applies, is_empty_file, spliced, applied, AppliedIsApplies, Primitive, Add, Remove, Hunk}
 use Rattle.camp_prim.proofs.Splices.{SplicesLines-from_spliced, spliced-from_SplicesLines}
 
@@ -51,7 +51,7 @@ applied-from_Applies (Hunk hunk) old new a = applied-from_Splices hunk old new a
 pub applied_is : AppliedIsApplies
 applied_is p old new = (Applies-from_applied p old new, applied-from_Applies p old new)
 
--- a primitive leads from a tree to one tree at most
+-- a primitive leads from a tree to at most one tree
 pub applies_once : (p : Primitive) (old new other : Files) → Applies p old new → Applies p old other → new ≡ other
 applies_once p old new other a b =
     same_Some _ _ (sym (applied-from_Applies p old new a) ∙ applied-from_Applies p old other b)
@@ -60,6 +60,6 @@ none_at : (o : Option Files) → ((new : Files) → ¬ (o ≡ Some new)) → o �
 none_at None nowhere = refl
 none_at (Some new) nowhere = absurd (nowhere new refl)
 
--- where it leads to no tree, the function gives none
+-- if it leads to no tree, the function gives none
 pub applied-none : (p : Primitive) (old : Files) → ((new : Files) → ¬ (Applies p old new)) → applied p old ≡ None
 applied-none p old nowhere = none_at (applied p old) (λ new e. nowhere new (Applies-from_applied p old new e))

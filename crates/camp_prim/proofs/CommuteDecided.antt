@@ -33,7 +33,7 @@ tie_or_not Less = inr (λ e. cc)
 tie_or_not Equal = inl refl
 tie_or_not Greater = inr (λ e. cc)
 
--- where an order ties only equal values, two values are equal or not
+-- if an order ties only equal values, equality is decidable
 pub same_or_not : {K : Type 0} (R : K → K → Ordering) → IsTotalOrder R → IsAntisymmetric R → (a b : K) → Decided (a ≡ b)
 same_or_not R total ties a b =
     decided_by (ties a b) (λ e. ap (R a) (sym e) ∙ tied_itself total a) (tie_or_not (R a b))
@@ -47,7 +47,7 @@ primitive_in_range_or_not (Add path) = inl tt
 primitive_in_range_or_not (Remove path) = inl tt
 primitive_in_range_or_not (Hunk hunk) = in_range_or_not hunk
 
--- a line to which a hunk below another comes, or there is none
+-- the line to which a hunk below another moves, or none
 comes_or_not : (upper takes leaves : ℕ) (lower : Edit) → Decided ((line : ℕ) × ComesTo upper takes leaves lower line)
 comes_or_not upper takes leaves lower = elim (cases_lt lower.line (upper + leaves)) [
   | inl lt ↦ inr (λ c. let stands : lower.line ≡ upper + leaves + c.1.gap = c.1.stands in absurd (omega arith))
@@ -61,7 +61,7 @@ comes_or_not upper takes leaves lower = elim (cases_lt lower.line (upper + leave
       (subst Passes same c.1.passes, subst (λ n. IsInRange (at_line n lower)) (c.1.comes ∙ ap (λ n. upper + takes + n) same) c.1.fits)) (both_or_not passes (in_range_or_not (at_line (upper + takes + gap) lower)))
 ]
 
--- what two primitives become, in range
+-- the two primitives after the commute, in range
 abbrev Change : Primitive → Primitive → Type 0
 Change p q = (q' : Primitive) × (p' : Primitive) × ChangeInRange p q q' p'
 

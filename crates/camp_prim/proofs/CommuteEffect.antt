@@ -3,7 +3,7 @@ use Rattle.camp_prim.proofs.Words.{◌≡◌, ◌≢◌, ℕ, ◌+◌, inl, inr,
 use Rattle.camp_prim.proofs.FilesAtPaths.{with_file, get-with_file_same, get-with_file_other, with_file_twice, with_files_apart}
 use Rattle.camp_prim.proofs.HunksOfOneFile.{SplicesTwice, lower_first, upper_first}
 
--- a hunk turns this file into that one
+-- a hunk turns one file into another
 pub record EditsFile (hunk : Edit) (x y : Option Lines) : Type 0 where
   pub lines : Lines
   pub changed : Lines
@@ -11,13 +11,13 @@ pub record EditsFile (hunk : Edit) (x y : Option Lines) : Type 0 where
   pub splices : SplicesLines hunk.line hunk.old hunk.new lines changed
   pub becomes : y ≡ Some changed
 
--- a primitive turns what stands at its path into this
+-- a primitive turns the file at its path, or its absence, into another
 abbrev pub ChangesFile : Primitive → Option Lines → Option Lines → Type 0
 ChangesFile (Add path) x y = (x ≡ None) × (y ≡ Some [])
 ChangesFile (Remove path) x y = (x ≡ Some []) × (y ≡ None)
 ChangesFile (Hunk hunk) x y = EditsFile hunk x y
 
--- a primitive changes what stands at its path, and nothing else
+-- a primitive changes the file at its path and nothing else
 pub record ChangesPath (p : Primitive) (old new : Files) : Type 0 where
   pub file : Option Lines
   pub changes : ChangesFile p (get old (path_of p)) file
@@ -43,7 +43,7 @@ applies (Hunk hunk) old new c = record {
   becomes = c.becomes ∙ ap (with_file old hunk.path) c.changes.becomes;
 }
 
--- primitives on two paths may be put in the other order
+-- primitives on two paths can be exchanged
 pub apart_leads : (p q : Primitive) (old new : Files) → path_of p ≢ path_of q → Leads p q old new → Leads q p old new
 apart_leads p q old new apart leads =
     let a = changes_path p old leads.between leads.first in
@@ -65,7 +65,7 @@ apart_leads p q old new apart leads =
 inside : (x y : Lines) → Some x ≡ Some y → x ≡ y
 inside x y e = cc
 
--- two hunks of one path, one after the other, change the lines of one file twice
+-- two hunks of one path change the lines of one file twice
 pub record EditsTwice (h k : Edit) (old new : Files) : Type 0 where
   pub lines : Lines
   pub changed : Lines
@@ -101,7 +101,7 @@ hunks_lead h k old new same e =
     } in
     record { between = with_file old h.path (Some e.splices.between); first = a; second = b }
 
--- the upper hunk may be put first
+-- the upper hunk can be moved first
 pub below_leads : (h k : Edit) (gap : ℕ) (old new : Files) → h.path ≡ k.path → k.line ≡ h.line + length h.new + gap → Leads (Hunk h) (Hunk k) old new → Leads (Hunk (at_line (h.line + length h.old + gap) k)) (Hunk h) old new
 below_leads h k gap old new same stands leads =
     let e = edits_twice h k old new same leads in

@@ -1,4 +1,4 @@
--- What two primitives become is determined.
+-- The result of commuting two primitives is unique.
 use Rattle.camp_prim.proofs.Words.{◌≡◌, ◌+◌, true, false, None, Some, length, refl, sym, ap, ◌∙◌, inl, inr, arith, Edit, label_of, BothCommuteAlike, CommuteIsUnique, path_of, at_line, CommutesBelow, CommutesAbove, PrimitivesCommute, Primitive, Hunk, Named, ℕ, MayPass}
 
 pub same_named : (a b : Named) → label_of a ≡ label_of b → a.prim ≡ b.prim → a ≡ b
@@ -7,18 +7,18 @@ same_named a b labels prims = λ i. record { name = (labels i).name; place = (la
 pub same_hunk : (h k : Edit) → Hunk h ≡ Hunk k → h ≡ k
 same_hunk h k e = cc
 
--- two hunks that commute change one path
+-- two hunks that commute change one path or two
 pub one_path : (p q : Primitive) (h k : Edit) → p ≡ Hunk h → q ≡ Hunk k → h.path ≡ k.path → path_of p ≡ path_of q
 one_path p q h k is_p is_q same = ap path_of is_p ∙ same ∙ sym (ap path_of is_q)
 
--- two hunks of one path, of which one stands below the other, commute
+-- two hunks of one path commute if one is below the other
 pub hunk_below : {p q q' p' : Primitive} (h k : Edit) (gap : ℕ) → p ≡ Hunk h → q ≡ Hunk k → h.path ≡ k.path → k.line ≡ h.line + length h.new + gap → MayPass gap h k → q' ≡ Hunk (at_line (h.line + length h.old + gap) k) → p' ≡ p → PrimitivesCommute p q q' p'
 hunk_below h k gap is_p is_q path stands passes second first = inr (inl (record { h = h; k = k; gap = gap; is_p = is_p; is_q = is_q; path = path; stands = stands; passes = passes; second = second; first = first }))
 
 pub hunk_above : {p q q' p' : Primitive} (h k : Edit) (gap : ℕ) → p ≡ Hunk h → q ≡ Hunk k → h.path ≡ k.path → h.line ≡ k.line + length k.old + gap → MayPass gap h k → q' ≡ q → p' ≡ Hunk (at_line (k.line + length k.new + gap) h) → PrimitivesCommute p q q' p'
 hunk_above h k gap is_p is_q path stands passes second first = inr (inr (record { h = h; k = k; gap = gap; is_p = is_p; is_q = is_q; path = path; stands = stands; passes = passes; second = second; first = first }))
 
--- of two hunks not each stands below the other
+-- two hunks can't each be below the other
 pub not_both : (p q q' p' r' o' : Primitive) → CommutesBelow p q q' p' → CommutesAbove p q r' o' → ⊥
 not_both p q q' p' r' o' b a =
     let hs : b.h ≡ a.h = same_hunk b.h a.h (sym b.is_p ∙ a.is_p) in

@@ -1,9 +1,9 @@
--- The end of the file of a path, before and behind primitives: two that commute move it from where they did to where
--- they did.
+-- The number of lines of a file before and after primitives: two that commute change it as they did in the other
+-- order.
 use Rattle.camp_prim.proofs.Words.{◌≡◌, ◌≢◌, ℕ, ◌+◌, ◌-◌, ◌≤◌, ◌⊎◌, List, length, refl, sym, ap, ◌∙◌, subst, inl, inr, arith, slice_cmp-IsAntisymmetric, nat_cmp-IsAntisymmetric, nat_list_cmp_total, Edit, path_of, at_line, PrimitivesCommute, Primitive, Add, Remove, Hunk}
 use Rattle.camp_prim.proofs.CommuteDecided.{Decided, same_or_not}
 
--- a hunk of so many old and new lines stands at a line of a file that ends here, and moves the end there
+-- a hunk with these numbers of old and new lines fits a file that ends here, and moves its end there
 abbrev pub Ends : ℕ → ℕ → ℕ → ℕ → ℕ → Type 0
 Ends line olds news before behind = (line + olds ≤ before) × (behind + olds ≡ before + news)
 
@@ -15,12 +15,12 @@ turned_above : (p a b q c d gap before between behind : ℕ) → p ≡ q + c + g
 turned_above p a b q c d gap before between behind stands u v =
     (before + d - c, (omega (arith, u, v), omega (arith, u, v)), (omega (arith, u, v), omega (arith, u, v)))
 
--- the end of the file of a path, before and behind a hunk of any path
+-- the end of the file of a path before and after a hunk of any path
 abbrev pub MovesEnd : List ℕ → ℕ → Edit → ℕ → Type 0
 MovesEnd path before h behind =
     ((h.path ≡ path) × Ends h.line (length h.old) (length h.new) before behind) ⊎ ((h.path ≢ path) × (behind ≡ before))
 
--- and before and behind a primitive
+-- the end of the file of a path before and after a primitive
 abbrev pub Steps : List ℕ → ℕ → Primitive → ℕ → Type 0
 Steps path before (Add at) behind = behind ≡ before
 Steps path before (Remove at) behind = behind ≡ before
@@ -29,7 +29,7 @@ Steps path before (Hunk h) behind = (1 ≤ h.line) × (1 ≤ length h.old + leng
 abbrev pub StepBoth : List ℕ → ℕ → Primitive → Primitive → ℕ → Type 0
 StepBoth path before p q behind = (between : ℕ) × Steps path before p between × Steps path between q behind
 
--- what changes another file leaves this one
+-- a primitive that changes another file does not move the end of this one
 idles : (path : List ℕ) (before behind : ℕ) (p : Primitive) → path_of p ≢ path → Steps path before p behind → (behind ≡ before) × ((b : ℕ) → Steps path b p b)
 idles path before behind (Add at) off s = (s, λ b. refl)
 idles path before behind (Remove at) off s = (s, λ b. refl)

@@ -1,4 +1,4 @@
--- What stands at a path of a tree, and trees with that changed.
+-- The file at a path of a tree, and trees with that file changed.
 use Rattle.camp_prim.proofs.Words.{◌≡◌, ◌≢◌, ℕ, Bool, true, false, cond, List, Option, None, Some, refl, sym, ap, ◌∙◌, nat_cmp, eq_by_cmp, is_eq, Equal-is, slice_cmp, get, insert, remove, get-insert, get-remove, same_map, slice_cmp-IsAntisymmetric, nat_cmp-IsAntisymmetric, nat_list_cmp_total, tied_itself, Lines, Files}
 
 pub same_path : (q p : List ℕ) → eq_by_cmp (slice_cmp nat_cmp) q p ≡ true → q ≡ p
@@ -10,7 +10,7 @@ path_itself p = ap is_eq (tied_itself nat_list_cmp_total p)
 pub same_files : (m n : Files) → ((q : List ℕ) → get m q ≡ get n q) → m ≡ n
 same_files m n same = same_map nat_list_cmp_total (slice_cmp-IsAntisymmetric nat_cmp-IsAntisymmetric) m n same
 
--- the tree that has this, or nothing, at a path, and else what the tree has
+-- the tree with this file, or none, at a path, and all else as in the tree
 abbrev pub with_file : Files → List ℕ → Option Lines → Files
 with_file m p None = remove m p
 with_file m p (Some lines) = insert m p lines
@@ -33,7 +33,7 @@ own_at : (m : Files) (p q : List ℕ) (b : Bool) → eq_by_cmp (slice_cmp nat_cm
 own_at m p q true e = ap (get m) (sym (same_path q p e))
 own_at m p q false e = refl
 
--- the tree that has at a path what it has there
+-- setting a path to the file that it has changes nothing
 pub with_own_file : (m : Files) (p : List ℕ) → with_file m p (get m p) ≡ m
 with_own_file m p = same_files _ _ (λ q. get-with_file m p (get m p) q ∙ own_at m p q _ refl)
 

@@ -1,7 +1,7 @@
--- Two hunks of one file, one after the other: they may be put in the other order.
+-- Two successive hunks of one file can be applied in the other order.
 use Rattle.camp_prim.proofs.Words.{◌≡◌, ℕ, ◌+◌, ◌≤◌, [], ◌∷◌, ◌++◌, length, refl, sym, ap, ◌∙◌, arith, append_assoc, length-append, Lines, SplicesLines}
 
--- where lines are cut in two ways, the longer beginning is the shorter one and what lies between the cuts
+-- if lines are split in two ways, the longer prefix is the shorter one and the lines between the two positions
 pub record Cut (xs ys us vs : Lines) : Type 0 where
   pub middle : Lines
   pub front : us ≡ xs ++ middle
@@ -17,7 +17,7 @@ cut (x ∷ xs) ys (u ∷ us) vs e h =
     let f : us ≡ xs ++ c.middle = c.front in
     record { middle = c.middle; front = cc; rear = c.rear }
 
--- what stands in the middle may be counted to the beginning or to the end
+-- the middle may be counted to the prefix or to the suffix
 front_to_rear : (x m n a : Lines) → x ++ m ++ n ++ a ≡ x ++ (m ++ n ++ a)
 front_to_rear x m n a = append_assoc (x ++ m) n a ∙ append_assoc x m (n ++ a) ∙ ap (λ r. x ++ r) (sym (append_assoc m n a))
 
@@ -30,7 +30,7 @@ pub record SplicesTwice (line : ℕ) (gone come : Lines) (line' : ℕ) (gone' co
   pub first : SplicesLines line gone come old between
   pub second : SplicesLines line' gone' come' between new
 
--- the same changes, taken back
+-- the same changes, inverted
 pub taken_back : {line : ℕ} {gone come old new : Lines} → SplicesLines line gone come old new → SplicesLines line come gone new old
 taken_back s = record { before = s.before; after = s.after; at = s.at; was = s.becomes; becomes = s.was }
 
@@ -38,7 +38,7 @@ both_taken_back : {line line' : ℕ} {gone come gone' come' old new : Lines} →
 both_taken_back t = record { between = t.between; first = taken_back t.second; second = taken_back t.first }
 
 module _ (line line' gap : ℕ) (o n o' n' : Lines) (old new : Lines) where
-  -- the second stands below what the first leaves
+  -- the second is below what the first leaves
   pub lower_first : line' ≡ line + length n + gap → SplicesTwice line o n line' o' n' old new → SplicesTwice (line + length o + gap) o' n' line o n old new
   lower_first stands t =
       let b = t.first.before in
@@ -70,6 +70,6 @@ module _ (line line' gap : ℕ) (o n o' n' : Lines) (old new : Lines) where
         };
       }
 
--- the first stands below what the second takes away
+-- the first is below what the second removes
 pub upper_first : (line line' gap : ℕ) (o n o' n' old new : Lines) → line ≡ line' + length o' + gap → SplicesTwice line o n line' o' n' old new → SplicesTwice line' o' n' (line' + length n' + gap) o n old new
 upper_first line line' gap o n o' n' old new stands t = both_taken_back (lower_first line' line gap n' o' n o new old stands (both_taken_back t))

@@ -9,7 +9,7 @@ path_of-inverted (Add path) = refl
 path_of-inverted (Remove path) = refl
 path_of-inverted (Hunk hunk) = refl
 
--- a file that a primitive has changed its inverse changes back
+-- the inverse of a primitive restores the file that the primitive changed
 changed_back : (p : Primitive) (x y : Option Lines) → ChangesFile p x y → ChangesFile (inverted p) y x
 changed_back (Add path) x y c = (c.1, c.0)
 changed_back (Remove path) x y c = (c.1, c.0)

@@ -1,4 +1,4 @@
--- Labels and keys are in total orders, and only equal ones tie.
+-- Labels and keys are totally ordered, and only equal ones tie.
 use Rattle.camp_prim.proofs.Words.{◌≡◌, ◌≢◌, ◌⊎◌, Bool, true, false, IsTrue, refl, sym, ◌∙◌, subst, inl, inr, Ordering, bool_cmp, ordering_then, ordering_reverse, is_lt, Less, Equal, Greater, IsTotalOrder, nat_cmp_total, bool_cmp_total, tied_itself, IsAntisymmetric, slice_cmp-IsAntisymmetric, nat_cmp-IsAntisymmetric, nat_list_cmp_total, on_total, then_total, key_cmp, label_cmp}
 use Rattle.camp_prim.specs.declared.labels.Key.{Key}
 use Rattle.camp_prim.specs.declared.labels.Label.{Label}
@@ -41,7 +41,7 @@ neither_less Less v w = absurd (v refl)
 neither_less Equal v w = refl
 neither_less Greater v w = absurd (w refl)
 
--- two labels neither of which is less are one
+-- two labels are equal if neither is less
 pub same_label : (a b : Label) → label_cmp a b ≢ Less → label_cmp b a ≢ Less → a ≡ b
 same_label a b v w = label_ties a b (neither_less (label_cmp a b) v (λ e. w (label_total.antisymm b a ∙ e)))
 
@@ -50,7 +50,7 @@ reversed Less v w = absurd (v refl)
 reversed Equal v w = absurd (w refl)
 reversed Greater v w = refl
 
--- of two labels that differ one is less
+-- of two different labels one is less
 pub less_unless : (a b : Label) → label_cmp a b ≢ Less → a ≢ b → label_cmp b a ≡ Less
 less_unless a b v n = label_total.antisymm b a ∙ reversed (label_cmp a b) v (λ e. n (label_ties a b e))
 

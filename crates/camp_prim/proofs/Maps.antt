@@ -1,4 +1,4 @@
--- What stands at a path of a tree that was changed there.
+-- The file at a path of a tree that was changed there.
 use Rattle.camp_prim.proofs.Words.{◌≡◌, ℕ, None, Some, List, get, insert, remove, Lines, Files}
 use Rattle.camp_prim.proofs.FilesAtPaths.{get-with_file_same}
 

@@ -1,11 +1,11 @@
--- Where hunks that commute come to stand.
+-- The lines to which hunks move when they commute.
 use Rattle.camp_prim.proofs.Words.{◌≡◌, ℕ, ◌+◌, ◌<◌, ◌⊎◌, ◌↔◌, Bool, true, false, IsTrue, Option, option_map, length, refl, sym, ap, subst, inl, inr, Lines, InRange, Edit, IsInRange, SameKey, FindsPair, moved, turned, ComesTo, ChangeInRange, at_line, Commute, Primitive, Hunk, Named, Targets}
 use Rattle.camp_prim.proofs.CommuteUnique.{same_hunk, hunk_above, hunk_below}
 
 -- the sides of the upper hunk as other names for them have it
-pub comes_along : (upper upper' : ℕ) (takes takes' leaves leaves' : Lines) (lower : Edit) (line : ℕ) → upper ≡ upper' → takes ≡ takes' → leaves ≡ leaves' → ComesTo upper (length takes) (length leaves) lower line → ComesTo upper' (length takes') (length leaves') lower line
+pub comes_along : (upper upper' takes takes' leaves leaves' : ℕ) (lower : Edit) (line : ℕ) → upper ≡ upper' → takes ≡ takes' → leaves ≡ leaves' → ComesTo upper takes leaves lower line → ComesTo upper' takes' leaves' lower line
 comes_along upper upper' takes takes' leaves leaves' lower line e f g c =
-    subst (λ x. ComesTo upper' (length takes') (length x) lower line) g (subst (λ x. ComesTo upper' (length x) (length leaves) lower line) f (subst (λ x. ComesTo x (length takes) (length leaves) lower line) e c))
+    subst (λ x. ComesTo upper' takes' x lower line) g (subst (λ x. ComesTo upper' x leaves lower line) f (subst (λ x. ComesTo x takes leaves lower line) e c))
 
 pub comes_below : (h k : Edit) (line : ℕ) → h.path ≡ k.path → IsInRange h → IsInRange k → ComesTo h.line (length h.old) (length h.new) k line → ChangeInRange (Hunk h) (Hunk k) (Hunk (at_line line k)) (Hunk h)
 comes_below h k line path r s c = record {
@@ -60,16 +60,16 @@ swap_from p q q' p' targets apart c e f =
       ranges = c.ranges;
     }))
 
--- where primitives commute, there is a commute
+-- if primitives commute, the function gives the result
 pub swap_made : (p q : Named) (targets : Targets) → ¬ (SameKey p q) → ChangeInRange p.prim q.prim (moved targets.second q.prim) (moved targets.first p.prim) → (q' : Named) × ((p' : Named) × Commute p q q' p')
 swap_made p q targets apart c =
     (record q { prim = moved targets.second q.prim }, (record p { prim = moved targets.first p.prim }, swap_from p q _ _ targets apart c refl refl))
 
--- where primitives do not commute, there is no commute
+-- if primitives do not commute, the function gives none
 pub no_swap : (p q : Named) → ((any : Primitive × Primitive) → ¬ (ChangeInRange p.prim q.prim any.0 any.1)) → (any : Named × Named) → ¬ (Commute p q any.0 any.1)
 no_swap p q never any s = never (any.0.prim, any.1.prim) (record { change = s.anywhere.change; ranges = s.ranges })
 
--- what a test that says no tells
+-- what follows if a test is false
 pub told_not : {P : Type 0} (b : Bool) → b ≡ false → IsTrue b ↔ P → ¬ P
 told_not true is_false told = λ holds. cc
 told_not false is_false told = λ holds. let e : false ≡ true = told.1 holds in cc

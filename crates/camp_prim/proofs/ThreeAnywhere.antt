@@ -4,7 +4,7 @@ use Rattle.camp_prim.proofs.Inverses.{inverse_of-inverse_of}
 use Rattle.camp_prim.proofs.CommuteLaws.{same_key, own_inverse_anywhere, square_anywhere}
 use Rattle.camp_prim.proofs.ThreeCommute.{three_swap}
 
--- r passes q and then p
+-- r commutes past q and then p
 pub six_from_behind : (p q r q' p' r1 q1 y p1 : Named) → CommuteAnywhere p q q' p' → CommuteAnywhere q r r1 q1 → CommuteAnywhere p r1 y p1 → (r2 : Named) × (p2 : Named) × (q2 : Named) × SixOrders CommuteAnywhere p q r q' p' r1 q1 r2 p2 y p1 q2
 six_from_behind p q r q' p' r1 q1 y p1 u v w =
     let n = three_swap p.prim q.prim q'.prim p'.prim r.prim r1.prim q1.prim y.prim p1.prim u.change v.change w.change in (
@@ -41,7 +41,7 @@ turned : (p q q' p' : Named) → CommuteAnywhere (inverse_of p) q q' p' → Comm
 turned p q q' p' s =
     subst (λ x. CommuteAnywhere x q' q (inverse_of p')) (inverse_of-inverse_of p) (square_anywhere (inverse_of p) q q' p' s)
 
--- p passes q and then r: the inverse of p is what q, and then r, passes
+-- p commutes past q and then r, so the inverse of p is what q, and then r, commutes past
 pub six_from_before : (p q r q' p' r2 p2 r1 q1 : Named) → CommuteAnywhere p q q' p' → CommuteAnywhere p' r r2 p2 → CommuteAnywhere q r r1 q1 → (y : Named) × (p1 : Named) × (q2 : Named) × SixOrders CommuteAnywhere p q r q' p' r1 q1 r2 p2 y p1 q2
 six_from_before p q r q' p' r2 p2 r1 q1 u v w =
     let back = own_inverse_anywhere (inverse_of p) q' q (inverse_of p') (square_anywhere p q q' p' u) in

@@ -1,4 +1,4 @@
--- Where two primitives commute and a third passes both, it passes them in their other order too.
+-- If two primitives commute and a third commutes past both, it commutes past them in their other order too.
 use Rattle.camp_prim.proofs.Words.{◌≡◌, ◌≢◌, ℕ, ◌⊎◌, ◌+◌, length, refl, sym, ap, ◌∙◌, subst, inl, inr, Edit, path_of, at_line, CommutesOnTwoPaths, CommutesBelow, CommutesAbove, PrimitivesCommute, Primitive, Hunk}
 use Rattle.camp_prim.proofs.CommuteUnique.{same_hunk, one_path, hunk_below, hunk_above}
 use Rattle.camp_prim.proofs.ThreeHunks.{Moves, MovesInOrder, three_move}
@@ -63,7 +63,7 @@ hunks_of p q q' p' (inr s) = record { h = s.h; k = s.k; is_p = s.is_p; is_q = s.
 same_path : (p q q' p' : Primitive) → Near p q q' p' → path_of p ≡ path_of q
 same_path p q q' p' s = let a = hunks_of p q q' p' s in one_path p q a.h a.k a.is_p a.is_q a.path
 
--- a primitive changes one path wherever it stands
+-- a primitive changes the same path before and after a commute
 second_path : (p q q' p' : Primitive) → Near p q q' p' → path_of q' ≡ path_of q
 second_path p q q' p' s =
     let a = hunks_of p q q' p' s in
@@ -76,8 +76,7 @@ first_path p q q' p' s =
     let m = hunks_move a.h a.k p q q' p' a.is_p a.is_q s in
     ap path_of m.first ∙ sym (ap path_of a.is_p)
 
--- the third, r, passes p' and then q', which stand behind q' and p', and comes to y; and p1 and q1, which stand behind
--- y, become what is left
+-- the third, r, commutes past p' and then q' and becomes y; p1 and q1 are what q' and p' become after y
 pub record PassesInOrder (p' q' r p1 q1 y : Primitive) : Type 0 where
   pub r2 : Primitive
   pub p2 : Primitive
@@ -162,8 +161,8 @@ two_near p q q' p' r r1 q1 y p1 u v w = record {
   others = swaps_along p q q' p' p1 q1 q' p' (sym w.first) (sym v.first) refl refl (inr u);
 }
 
--- where p and q can commute, and r passes q and then p and comes to y, it passes them in their other order too and
--- comes to y, and what they become behind it are one pair in its two orders
+-- if p and q commute, and r commutes past q and then p and becomes y, it commutes past them in their other order too
+-- and becomes y, and what they become after it is one pair in its two orders
 pub three_swap : (p q q' p' r r1 q1 y p1 : Primitive) → PrimitivesCommute p q q' p' → PrimitivesCommute q r r1 q1 → PrimitivesCommute p r1 y p1 → PassesInOrder p' q' r p1 q1 y
 three_swap p q q' p' r r1 q1 y p1 (inl u) (inl v) (inl w) = on_three_paths p q q' p' r r1 q1 y p1 u v w
 three_swap p q q' p' r r1 q1 y p1 (inl u) (inl v) (inr w) = third_near_first p q q' p' r r1 q1 y p1 u v w

@@ -1,11 +1,11 @@
--- Three hunks of one file as numbers: their lines, and how many lines each takes away and leaves.
+-- Three hunks of one file as numbers: their lines, and how many lines each removes and adds.
 use Rattle.camp_prim.proofs.Words.{◌≡◌, ℕ, ◌+◌, ◌<◌, ◌⊎◌, refl, inl, inr, arith}
 
--- hunks of these sides may pass each other with this gap
+-- hunks of these sizes can commute with this gap
 abbrev pub Pass : ℕ → ℕ → ℕ → ℕ → ℕ → Type 0
 Pass gap a b c d = (0 < gap) ⊎ ((0 < a) × (0 < b) × (0 < c) × (0 < d))
 
--- the second hunk stands a gap below the first
+-- the second hunk is a gap below the first
 pub record MovesBelow (a b c d p q q' p' : ℕ) : Type 0 where
   pub gap : ℕ
   pub stands : q ≡ p + b + gap
@@ -13,7 +13,7 @@ pub record MovesBelow (a b c d p q q' p' : ℕ) : Type 0 where
   pub second : q' ≡ p + a + gap
   pub first : p' ≡ p
 
--- the first hunk stands a gap below the second
+-- the first hunk is a gap below the second
 pub record MovesAbove (a b c d p q q' p' : ℕ) : Type 0 where
   pub gap : ℕ
   pub stands : p ≡ q + c + gap
@@ -21,11 +21,11 @@ pub record MovesAbove (a b c d p q q' p' : ℕ) : Type 0 where
   pub second : q' ≡ q
   pub first : p' ≡ q + d + gap
 
--- hunks at p and q, of the sides a, b and c, d, move to q' and p' as they commute
+-- hunks at p and q with the sizes a, b and c, d move to q' and p' when they commute
 abbrev pub Moves : ℕ → ℕ → ℕ → ℕ → ℕ → ℕ → ℕ → ℕ → Type 0
 Moves a b c d p q q' p' = MovesBelow a b c d p q q' p' ⊎ MovesAbove a b c d p q q' p'
 
--- the third passes the two in their other order, and they commute behind it
+-- the third commutes past the two in their other order, and they commute after it
 pub record MovesInOrder (a b c d e f p' q' r p1 q1 y : ℕ) : Type 0 where
   pub r2 : ℕ
   pub p2 : ℕ
@@ -108,7 +108,7 @@ module _ (a b c d e f p q q' p' r r1 q1 y p1 : ℕ) where
         others = inr (record { gap = u.gap; stands = omega arith; passes = u.passes; second = refl; first = omega arith });
       }
 
-  -- the other two can't be: the first stands above the second, the second above the third, and the third above the
+  -- the other two are impossible: the first above the second, the second above the third, and the third above the
   -- first
   never_round : MovesBelow a b c d p q q' p' → MovesBelow c d e f q r r1 q1 → MovesAbove a b e f p r1 y p1 → ⊥
   never_round u v w =
@@ -119,8 +119,8 @@ module _ (a b c d e f p q q' p' r r1 q1 y p1 : ℕ) where
   never_round_back u v w =
       elim w.passes [ inl some ↦ omega arith | inr full ↦ let side : 0 < b = full.1 in omega arith ]
 
-  -- where two hunks can commute and a third passes the second and then the first, it passes them in their other order
-  -- too, and comes to the same line
+  -- if two hunks commute and a third commutes past the second and then the first, it commutes past them in their
+  -- other order too, and moves to the same line
   pub three_move : Moves a b c d p q q' p' → Moves c d e f q r r1 q1 → Moves a b e f p r1 y p1 → MovesInOrder a b c d e f p' q' r p1 q1 y
   three_move (inl u) (inl v) (inl w) = first_second_third u v w
   three_move (inl u) (inl v) (inr w) = absurd (never_round u v w)

@@ -19,7 +19,7 @@ is_empty_file (Some (line ∷ lines)) = false
 abbrev pub is_cut : ℕ → Lines → Lines → Lines → Lines → Bool
 is_cut line before gone after lines = length before + 1 == line && pointwise bytes_eq lines (before ++ gone ++ after)
 
--- the lines with `come` in place of `gone` at a line; None unless `gone` is there
+-- the lines with `gone` at a line replaced by `come`; None unless `gone` is there
 abbrev pub spliced : ℕ → Lines → Lines → Lines → Option Lines
 spliced line gone come lines =
     let before = take (line - 1) lines in

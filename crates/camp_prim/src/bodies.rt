@@ -1,5 +1,5 @@
 //! The body of a hunk: its path and its two sides, without the line.
-ghost use Rattle.std.specs.Prelude.{◌≡◌, IfOk};
+ghost use Rattle.std.specs.Prelude.{◌≡◌, IfOk, length};
 ghost use Rattle.camp_prim.specs.Inside.BodyFields.{held_lines};
 
 use camp_base::{Line, Path};
@@ -61,7 +61,7 @@ impl Body {
         Body { held }
     }
 
-    /// Puts the body behind a reference count. If memory runs out, it is dropped.
+    /// Makes the body reference counted. If memory runs out, it is dropped.
     pub(crate) fn into_shared(self, alloc: Global) -> Result<Body, AllocError>
         ensures { IfOk result (λ body. body ≡ self) }
     {
@@ -102,10 +102,30 @@ impl Body {
             Held::Shared(parts) => parts.new.as_slice(),
         }
     }
+
+    /// Returns the number of old lines.
+    pub(crate) fn old_len(&self) -> usize
+        ensures { result ≡ length self.now.old }
+    {
+        match &self.held {
+            Held::Own(own) => own.old.len(),
+            Held::Shared(parts) => parts.old.len(),
+        }
+    }
+
+    /// Returns the number of new lines.
+    pub(crate) fn new_len(&self) -> usize
+        ensures { result ≡ length self.now.new }
+    {
+        match &self.held {
+            Held::Own(own) => own.new.len(),
+            Held::Shared(parts) => parts.new.len(),
+        }
+    }
 }
 
 impl Share for Body {
-    /// Makes a copy behind a reference count. Allocates only if this body is not shared yet.
+    /// Makes a reference-counted copy. Allocates only if this body is not shared yet.
     fn share(&self) -> Result<Body, AllocError> {
         match &self.held {
             Held::Own(own) => own.copy(),
@@ -163,6 +183,16 @@ impl Side {
         match lines.pop() {
             Some(line) => Side::One(line),
             None => Side::Empty,
+        }
+    }
+
+    fn len(&self) -> usize
+        ensures { result ≡ length (held_lines self.now) }
+    {
+        match self {
+            Side::Empty => 0,
+            Side::One(_) => 1,
+            Side::Many(lines) => lines.len(),
         }
     }
 

@@ -11,7 +11,7 @@ use crate::{Hunk, Named, Primitive, commute_in_place, commutes};
 use std::alloc::AllocError;
 
 /// Commutes `p` and then `q`: `Some((q', p'))`, where `q'` and then `p'` have the same effect, or `None` if
-/// they do not commute. `None` is exact: it never stands for out of memory.
+/// they do not commute. `None` is exact: it never means out of memory.
 pub fn commute(p: &Named, q: &Named) -> Result<Option<(Named, Named)>, AllocError>
     ensures exact { IfOk result (FindsPair (Commute p.now q.now)) }
     ensures laws { IfOk result (λ found. IfSome found (λ pair. CommuteLaws p.now q.now pair.0 pair.1)) }
@@ -78,13 +78,13 @@ fn hunk_targets(h: &Hunk, k: &Hunk) -> Option<Targets>
     ensures { FindsPair (ChangeInRange (Primitive.Hunk h.now) (Primitive.Hunk k.now))
         (option_map (turned (Primitive.Hunk h.now) (Primitive.Hunk k.now)) result) }
 {
-    if let Some(line) = line_below(h.line(), h.old().len(), h.new().len(), k) {
+    if let Some(line) = line_below(h.line(), h.old_len(), h.new_len(), k) {
         return Some(Targets {
             second: Some(line),
             first: None,
         });
     }
-    if let Some(line) = line_below(k.line(), k.new().len(), k.old().len(), h) {
+    if let Some(line) = line_below(k.line(), k.new_len(), k.old_len(), h) {
         return Some(Targets {
             second: None,
             first: Some(line),
@@ -123,5 +123,5 @@ fn are_full(takes: usize, leaves: usize, lower: &Hunk) -> bool
     if takes == 0 || leaves == 0 {
         return false;
     }
-    !lower.old().is_empty() && !lower.new().is_empty()
+    lower.old_len() > 0 && lower.new_len() > 0
 }

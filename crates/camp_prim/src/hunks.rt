@@ -1,5 +1,5 @@
 //! The hunk: a body at a line.
-ghost use Rattle.std.specs.Prelude.{◌≡◌, ◌+◌, ◌≤◌, ◌↔◌, IfErr, IfOk, IsTrue, MatchOption};
+ghost use Rattle.std.specs.Prelude.{◌≡◌, ◌+◌, ◌≤◌, ◌↔◌, IfErr, IfOk, IsTrue, MatchOption, length};
 ghost use Rattle.camp_base.specs.Limits.{greatest_reach};
 ghost use Rattle.camp_prim.specs.Effect.{flipped};
 ghost use Rattle.camp_prim.specs.Hunks.{IsInRange, hunk_of};
@@ -51,7 +51,8 @@ impl Hunk {
         })
     }
 
-    /// Puts the lines behind a reference count, so that copies do not allocate. If memory runs out, the hunk is dropped.
+    /// Makes the lines reference counted, so that copies do not allocate. If memory runs out, the hunk is
+    /// dropped.
     pub(crate) fn into_shared(self, alloc: Global) -> Result<Hunk, AllocError>
         ensures { IfOk result (λ hunk. hunk ≡ self) }
     {
@@ -104,6 +105,26 @@ impl Hunk {
         self.body.new_lines()
     }
 
+    /// Returns the number of lines that the hunk takes away.
+    pub(crate) fn old_len(&self) -> usize
+        ensures { result ≡ length self.now.old }
+    {
+        if self.flipped {
+            return self.body.new_len();
+        }
+        self.body.old_len()
+    }
+
+    /// Returns the number of lines that the hunk inserts.
+    pub(crate) fn new_len(&self) -> usize
+        ensures { result ≡ length self.now.new }
+    {
+        if self.flipped {
+            return self.body.old_len();
+        }
+        self.body.new_len()
+    }
+
     /// Returns the hunk at another line, or `None` if it is out of range there. Allocates only if this hunk is
     /// not shared yet, as `try_clone` does.
     pub fn moved(&self, line: u32) -> Result<Option<Hunk>, AllocError>
@@ -138,7 +159,7 @@ impl Hunk {
     pub(crate) fn can_stand_at(&self, line: u32) -> bool
         ensures { IsTrue result ↔ IsInRange (at_line line self.now) }
     {
-        is_in_range(line, self.old().len(), self.new().len())
+        is_in_range(line, self.old_len(), self.new_len())
     }
 
     /// Moves the hunk to another line.

@@ -32,8 +32,8 @@ impl Primitive {
         Some(Primitive::Hunk(hunk))
     }
 
-    /// Puts the change behind a reference count, so that no copy of it allocates. A copy of a hunk that `hunk`
-    /// made copies the handles of its lines; this takes the vectors instead. If memory runs out, the change is
+    /// Makes the change reference counted, so that no copy of it allocates. A copy of a hunk that `hunk` made
+    /// copies the handles of its lines; this takes the vectors instead. If memory runs out, the change is
     /// dropped.
     pub fn into_shared(self, alloc: Global) -> Result<Primitive, AllocError>
         ensures exact { IfOk result (λ shared. shared ≡ self) }

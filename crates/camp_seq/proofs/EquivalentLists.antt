@@ -1,4 +1,5 @@
--- What comes to the front of a list with room, or passes it, does so in each list that is equivalent to it.
+-- An element that can be moved to the front of a list with headroom, or commutes past it, does so in each equivalent
+-- list.
 use Rattle.camp_seq.proofs.Words.{List, [], ◌∷◌, ◌++◌, refl, sym, ap, ◌∙◌, subst, inl, inr, append_assoc, inverse_of, label_of, key_of, Commute, Named, swap_unique, Fronts, Passes, square, ◌~◌, CommutesOnce, same, exchanged, backwards, through, HasRoom}
 use Rattle.camp_seq.proofs.LawOfThree.{law_of_three}
 use Rattle.camp_seq.proofs.ListEquivalence.{after_one, before, equal_are, fronted, passed, swapped}
@@ -6,7 +7,7 @@ use Rattle.camp_seq.proofs.ListResults.{one_front}
 use Rattle.camp_seq.proofs.NormalForms.{Near, exchanged_front}
 use Rattle.camp_seq.proofs.RoomSteps.{at_front, exchanges_behind, kept_by_swaps, room_before, room_behind, room_exchanged, room_of_equivalent, room_past, shared}
 
--- the rest of a list has room where the list has
+-- if a list has headroom, its rest has headroom
 pub room_of_rest : (u s : List Named) → HasRoom (u ++ s) → HasRoom s
 room_of_rest [] s room = room
 room_of_rest (x ∷ u) s room = room_of_rest u s (room_behind x (u ++ s) room)
@@ -15,7 +16,7 @@ near_is : (s t : List Named) → Near s t → s ~ t
 near_is s t (inl e) = equal_are s t e
 near_is s t (inr e) = exchanged e
 
--- this comes to the front of the list, with a rest that is equivalent
+-- the element can be moved to the front of the list, and the rest is an equivalent list
 abbrev FrontsWith : Named → List Named → List Named → Type 0
 FrontsWith y u t = (v : List Named) × Fronts (label_of y) t y v × (u ~ v)
 
@@ -24,7 +25,7 @@ fronts_once y u s t room e f =
     let n = exchanged_front (label_of y) s t y f.0 room e f.1 in
     (n.0, n.1, through f.2 (near_is f.0 n.0 n.2))
 
--- what an equivalent list begins with comes to the front
+-- the first element of an equivalent list can be moved to the front
 pub comes_first : (y : Named) (s t : List Named) → HasRoom s → s ~ (y ∷ t) → (u : List Named) × Fronts (label_of y) s y u × (t ~ u)
 comes_first y s t room e =
     kept_by_swaps (FrontsWith y t) (fronts_once y t) (y ∷ t) s (backwards e) (room_of_equivalent s (y ∷ t) e room) (t, inl (refl, refl, refl), same)
@@ -36,7 +37,7 @@ rests y s t room e =
     let one = one_front (label_of y) (y ∷ s) s f.0 y y (inl (refl, refl, refl)) f.1 in
     backwards (through f.2 (equal_are f.0 s (sym one.1)))
 
--- where p q <-> q' p', q' comes to the front of p s only where q comes to the front of s
+-- if p q <-> q' p' and q' can be moved to the front of p s, then q can be moved to the front of s
 pub front_behind : (p q q' p' : Named) (s e : List Named) → Commute p q q' p' → HasRoom (p ∷ s) → (p ∷ s) ~ (q' ∷ e) → (d : List Named) × (s ~ (q ∷ d)) × (e ~ (p' ∷ d))
 front_behind p q q' p' s e w room is =
     let f = comes_first q' (p ∷ s) e room is in
@@ -52,7 +53,7 @@ front_behind p q q' p' s e w room is =
           )
     ]
 
--- an element passes the list, and leaves an equivalent one
+-- an element commutes past the list and leaves an equivalent list
 abbrev PassesWith : Named → Named → List Named → List Named → Type 0
 PassesWith a a' u t = (t' : List Named) × Passes a t t' a' × (u ~ t')
 
@@ -69,7 +70,7 @@ pass_exchanged (x ∷ before) a p q q' p' after s' a' room w v =
     let rest = pass_exchanged before v.1 p q q' p' after v.2 a' (room_behind v.0 (v.1 ∷ (before ++ p ∷ q ∷ after)) (room_exchanged _ _ turn room)) w v.4 in
     (v.0 ∷ rest.0, (v.0, v.1, rest.0, v.3, rest.1, refl), through (equal_are _ _ v.5) (after_one v.0 v.2 rest.0 rest.2))
 
--- it passes the list, and there is room
+-- an element commutes past the list, and the list with it has headroom
 abbrev PassesInRoom : Named → Named → List Named → List Named → Type 0
 PassesInRoom a a' u t = HasRoom (a ∷ t) × PassesWith a a' u t
 
@@ -78,17 +79,17 @@ pass_once a a' u s t e (room, v) =
     let n = pass_exchanged e.before a e.p e.q e.q' e.p' e.after v.0 a' (subst (λ x. HasRoom (a ∷ x)) e.was room) e.turns (subst (λ x. Passes a x v.0 a') e.was v.1) in
     (room_exchanged (a ∷ s) (a ∷ t) (exchanges_behind (a ∷ []) s t e) room, (n.0, subst (λ x. Passes a x n.0 a') (sym e.becomes) n.1, through v.2 n.2))
 
--- what passes a list passes an equivalent one, and leaves an equivalent one
+-- an element that commutes past a list commutes past each equivalent list, and leaves equivalent lists
 pub passes_alike : (a : Named) (s t s' : List Named) (a' : Named) → HasRoom (a ∷ s) → s ~ t → Passes a s s' a' → (t' : List Named) × Passes a t t' a' × (s' ~ t')
 passes_alike a s t s' a' room e v =
     ((shared (PassesInRoom a a' s') (pass_once a a' s') s t e).0 (room, (s', v, same))).1
 
--- what passes a list comes to stand behind it, before what stood there
+-- if a becomes a' as it commutes past s, then a s and s' a' are equivalent, also with more elements after them
 pub passed_before : (a : Named) (s s' : List Named) (a' : Named) (u : List Named) → Passes a s s' a' → (a ∷ (s ++ u)) ~ (s' ++ a' ∷ u)
 passed_before a s s' a' u w =
     through (before (a ∷ s) (s' ++ a' ∷ []) u (passed a s s' a' w)) (equal_are _ _ (append_assoc s' (a' ∷ []) u))
 
--- where a b <-> b' a', and b and a' pass a list, a passes what b leaves
+-- if a b <-> b' a', and b and then a' commute past a list, then a commutes past what b leaves of it
 pub both_pass : (c : List Named) (a b b' a' : Named) (t : List Named) (b1 : Named) (u : List Named) (a3 : Named) → HasRoom (a ∷ b ∷ c) → Commute a b b' a' → Passes b c t b1 → Passes a' c u a3 → (s : List Named) × (a1 : Named) × (b3 : Named) × Passes a t s a1 × Commute a1 b1 b3 a3
 both_pass [] a b b' a' t b1 u a3 room w v x =
     ([], a, b', subst (λ y. Passes a y [] a) (sym v.0) (refl, refl), subst (λ y. Commute a y b' a3) (sym v.1) (subst (λ y. Commute a b b' y) (sym x.1) w))

@@ -1,12 +1,12 @@
--- CommutesOnce of neighbours, inside longer lists and back.
+-- CommutesOnce is kept when elements are added around a list or removed again.
 use Rattle.camp_seq.proofs.Words.{List, [], ◌∷◌, ◌++◌, refl, sym, ap, ◌∙◌, append_assoc, Commute, CommuteAnywhere, Named, own_inverse, CommutesOnce, ◌~◌, same, exchanged, backwards, through, ◌↔◌, ◌≡◌}
 
--- of two elements between others
+-- two neighbours with elements before and after them
 exchanged_at : {Turns : Named → Named → Named → Named → Type 0} (before : List Named) (p q q' p' : Named) (after s t : List Named) → s ≡ before ++ p ∷ q ∷ after → Turns p q q' p' → t ≡ before ++ q' ∷ p' ∷ after → CommutesOnce Turns s t
 exchanged_at before p q q' p' after s t was w becomes =
     record { before = before; p = p; q = q; q' = q'; p' = p'; after = after; was = was; turns = w; becomes = becomes }
 
--- of the first two
+-- the first two elements
 pub at_front : {Turns : Named → Named → Named → Named → Type 0} (p q q' p' : Named) (s : List Named) → Turns p q q' p' → CommutesOnce Turns (p ∷ q ∷ s) (q' ∷ p' ∷ s)
 at_front p q q' p' s w = exchanged_at [] p q q' p' s (p ∷ q ∷ s) (q' ∷ p' ∷ s) refl w refl
 
@@ -25,7 +25,7 @@ exchanges_back s t e =
 pub exchanged_anywhere : (s t : List Named) → CommutesOnce Commute s t → CommutesOnce CommuteAnywhere s t
 exchanged_anywhere s t e = exchanged_at e.before e.p e.q e.q' e.p' e.after s t e.was e.turns.anywhere e.becomes
 
--- what one exchange keeps, equivalent lists share
+-- a fact that is kept by one exchange holds of all equivalent lists or of none
 pub shared : (Fact : List Named → Type 0) → ((s t : List Named) → CommutesOnce Commute s t → Fact s → Fact t) → (s t : List Named) → s ~ t → Fact s ↔ Fact t
 shared Fact kept s t same = (λ f. f, λ f. f)
 shared Fact kept s t (exchanged e) = (kept s t e, kept t s (exchanges_back s t e))

@@ -1,4 +1,4 @@
--- What stays of a list that fits, in another order or with less in it, fits.
+-- A list that fits its files still fits when it is reordered or loses elements.
 use Rattle.camp_seq.proofs.Words.{◌≡◌, ℕ, ◌+◌, ◌≤◌, ◌^◌, List, [], ◌∷◌, ◌++◌, length, subst, inl, inr, arith, inverse_of, Commute, Primitive, Named, CommutesOnce, ◌~◌, here, further}
 use Rattle.camp_prim.specs.Effect.{inverted}
 use Rattle.camp_prim.specs.declared.primitives.Primitive.TheVariants.{Add, Remove, Hunk}
@@ -14,7 +14,7 @@ fits_exchanged s t e fits path =
     let news : all_news t ≡ all_news s = there.1 in
     (f.0, there.0, omega arith)
 
--- in another order
+-- reordered
 pub fits_alike : (s t : List Named) → s ~ t → FitsEverywhere s → FitsEverywhere t
 fits_alike s t e = (shared FitsEverywhere fits_exchanged s t e).0
 
@@ -49,7 +49,7 @@ fits_before s t fits path =
     let less : all_news s ≤ all_news (s ++ t) = first.1 in
     (f.0, first.0, omega arith)
 
--- a primitive and its inverse leave the end of a file where it is
+-- a primitive followed by its inverse leaves the number of lines of a file as it was
 back_again : (path : List ℕ) (before between behind : ℕ) (p : Primitive) → Steps path before p between → Steps path between (inverted p) behind → behind ≡ before
 back_again path before between behind (Add at) s t = omega (arith, s, t)
 back_again path before between behind (Remove at) s t = omega (arith, s, t)
@@ -70,7 +70,7 @@ less_fits path before (x ∷ u) p s f =
     let less : all_news (u ++ s) ≤ all_news (u ++ p ∷ inverse_of p ∷ s) = rest.1 in
     ((f.0, f.1, rest.0), omega arith)
 
--- without two neighbours of which the second undoes the first
+-- without two neighbours of which the second is the inverse of the first
 pub fits_without : (u : List Named) (p : Named) (s : List Named) → FitsEverywhere (u ++ p ∷ inverse_of p ∷ s) → FitsEverywhere (u ++ s)
 fits_without u p s fits path =
     let f = fits path in

@@ -1,9 +1,9 @@
--- Elements with given labels, gathered from the last to the first.
+-- Gathers the elements with given labels at the front, from the last to the first.
 use Rattle.camp_seq.proofs.Words.{◌≡◌, ℕ, ◌+◌, ◌<◌, List, [], ◌∷◌, ◌++◌, length, take, drop, get_or, refl, sym, ap, ◌∙◌, subst, inl, inr, arith, Contains, append_assoc, length-take-le, drop_more, take_at, drop_at, put_mid, label_of, Label, Named, FirstPasses, PartsFrom, Passes, Parts}
 use Rattle.camp_seq.proofs.ListResults.{one_parting}
 use Rattle.camp_seq.proofs.ListSteps.{at_last, shorter, whole}
 
--- an element with one of the labels stays where it is
+-- an element with one of the labels stays at its position
 pub parts_named : (labels : List Label) (s0 s : List Named) (i count : ℕ) (d : Named) → i < length s → length s ≡ length s0 → PartsFrom labels s0 (i + 1) count s → Contains labels (label_of (get_or s i d)) → PartsFrom labels s0 i (count + 1) s
 parts_named labels s0 s i count d within same w named =
     let p : Named = get_or s i d in
@@ -21,7 +21,7 @@ pub length-passes : (p : Named) (s s' : List Named) (p' : Named) → Passes p s 
 length-passes p [] s' p' m = ap length m.0
 length-passes p (q ∷ s) s' p' m = omega (arith, ap length m.5, length-passes m.1 s m.2 p' m.4)
 
--- the element at i, and behind it those with the labels
+-- the element at i, and after it the gathered elements
 window : (labels : List Label) (s0 s : List Named) (i count k : ℕ) (d : Named) → i < length s → PartsFrom labels s0 (i + 1) count s → k ≡ count + 1 → (w : PartsFrom labels s0 (i + 1) count s) → (take k (drop i s) ≡ get_or s i d ∷ w.named) × (drop k (drop i s) ≡ w.others)
 window labels s0 s i count k d within v k_is w =
     let p : Named = get_or s i d in
@@ -29,7 +29,7 @@ window labels s0 s i count k d within v k_is w =
     let long : length (p ∷ w.named) ≡ k = omega arith in
     (ap (take k) from ∙ take_at (p ∷ w.named) w.others k long, ap (drop k) from ∙ drop_at (p ∷ w.named) w.others k long)
 
--- another element is commuted past them
+-- another element is commuted past the gathered ones
 pub parts_other : (labels : List Label) (s0 s part new : List Named) (i count k : ℕ) (d : Named) → i < length s → length s ≡ length s0 → k ≡ count + 1 → PartsFrom labels s0 (i + 1) count s → ¬ (Contains labels (label_of (get_or s i d))) → part ≡ take k (drop i s) → FirstPasses part new → PartsFrom labels s0 i count (put_mid i k s new)
 parts_other labels s0 s part new i count k d within same k_is w other part_is first =
     let q : Named = get_or s i d in
@@ -58,7 +58,7 @@ stop labels (x ∷ before) q s g u f t m other never (inl v) = let a = v.1 in st
 stop labels (x ∷ before) q s g u f t m other never (inr v) =
     let a = v.1 in stop labels before q s g u a.0 a.1 m other never a.3
 
--- where another element can't pass them, there is no parting
+-- if another element can't be commuted past them, the list can't be split
 pub parts_stop : (labels : List Label) (s0 s part : List Named) (i count k : ℕ) (d : Named) → i < length s → length s ≡ length s0 → k ≡ count + 1 → PartsFrom labels s0 (i + 1) count s → ¬ (Contains labels (label_of (get_or s i d))) → part ≡ take k (drop i s) → ((any : List Named) → ¬ (FirstPasses part any)) → (f t : List Named) → ¬ (Parts labels s0 f t)
 parts_stop labels s0 s part i count k d within same k_is w other part_is never f t m =
     let q : Named = get_or s i d in

@@ -1,4 +1,4 @@
--- Labels tried in ascending order.
+-- Tries labels in ascending order.
 use Rattle.camp_seq.proofs.Words.{◌≡◌, ◌≢◌, ℕ, zero, suc, ◌+◌, ◌<◌, ◌≤◌, Bool, true, false, if◌then◌else◌, List, [], ◌∷◌, Option, None, Some, length, take, get_or, IsTrue, refl, sym, ap, subst, inl, inr, arith, All-more, All-weaker, Less, label_of, label_cmp, Label, Named, label_total, less_unless, not_below, less_from_lt, is_above, StartsAbove, HasLabel, NoneLess, LeastAbove, untried, Settles, IsLeast, Fronts, take_all}
 use Rattle.std.specs.Ordering.{is_lt}
 use Rattle.camp_seq.proofs.LabelsKept.{each_at_front}
@@ -9,7 +9,7 @@ holds_at [] i d within = absurd (omega arith)
 holds_at (p ∷ s) zero d within = inl refl
 holds_at (p ∷ s) (suc i) d within = inr (holds_at s i d (omega arith))
 
--- the least of the labels that are yet to be tried, so far
+-- the least of the labels not yet tried, among the elements checked so far
 pub record LeastSoFar (tried : Option Label) (s : List Named) (n : ℕ) (label : Label) : Type 0 where
   pub above : IsTrue (is_above tried label)
   pub held : HasLabel label s
@@ -37,17 +37,17 @@ pub least_of_all : (tried : Option Label) (s : List Named) (n : ℕ) (label : La
 least_of_all tried s n label all w =
     record { above = w.above; held = w.held; least = subst (NoneLess tried label) (take_all n s all) w.least }
 
--- what comes to the front is not less than the least label
+-- no label that can be moved to the front is less than the least label
 fronts_none_less : (tried : Option Label) (least other : Label) (s : List Named) (y : Named) (t : List Named) → NoneLess tried least s → Fronts other s y t → IsTrue (is_above tried other) → label_cmp other least ≢ Less
 fronts_none_less tried least other s y t none w above =
     each_at_front (λ l. IsTrue (is_above tried l) → label_cmp l least ≢ Less) other s y t w none above
 
--- a list has a first element, whose label comes to the front
+-- the first element of a list is one that can be moved to the front, so a label is found
 pub starts_above : (tried : Option Label) (s : List Named) → 0 < length s → ((other : Label) (y : Named) (t : List Named) → Fronts other s y t → IsTrue (is_above tried other)) → StartsAbove tried s
 starts_above tried [] some above = absurd (omega arith)
 starts_above tried (p ∷ s) some above = above (label_of p) p s (inl (refl, refl, refl))
 
--- where the least label does not come to the front, what comes there is above it
+-- if the least label can't be moved to the front, all that can are above it
 pub above_least : (tried : Option Label) (key : Label) (s : List Named) → LeastAbove tried s key → ((y : Named) (t : List Named) → ¬ (Fronts key s y t)) → (other : Label) (y : Named) (t : List Named) → Fronts other s y t → IsTrue (is_above tried other) → IsTrue (is_above (Some key) other)
 above_least tried key s least never other y t w above =
     ap is_lt (less_unless other key (fronts_none_less tried key other s y t least.least w above) (λ e. never y t (subst (λ x. Fronts x s y t) e w)))
@@ -63,7 +63,7 @@ none_one true b h k = absurd (h refl)
 none_one false true h k = omega arith
 none_one false false h k = cc
 
--- what is above a label that is above another, is above that
+-- labels above the key are above the label tried before it too
 further : (tried : Option Label) (key : Label) (other : Label) → IsTrue (is_above tried key) → IsTrue (is_above (Some key) other) → IsTrue (is_above tried other)
 further None key other above more = refl
 further (Some last) key other above more =
@@ -86,7 +86,7 @@ untried_less tried key (p ∷ s) above (inr held) =
     let l = label_of p in
     omega (arith, one_le (is_above (Some key) l) (is_above tried l) (further tried key l above), untried_less tried key s above held)
 
--- the least label that comes to the front, brought there
+-- the least label that can be moved to the front, moved there
 pub settles_from : (tried : Option Label) (label : Label) (s : List Named) (y : Named) (t now : List Named) → LeastAbove tried s label → ((other : Label) (z : Named) (u : List Named) → Fronts other s z u → IsTrue (is_above tried other)) → Fronts label s y t → now ≡ y ∷ t → Settles s now
 settles_from tried label s y t now least above w is =
     let labelled = label-front label s y t w in

@@ -1,8 +1,8 @@
--- What holds of the labels of a list holds of the labels of what passes, comes to the front or is put in order there.
+-- A fact that holds of each label of a list still holds after a commute, a move to the front or sorting.
 use Rattle.camp_seq.proofs.Words.{◌≡◌, List, [], ◌∷◌, refl, sym, ◌∙◌, subst, inl, inr, Contains, All, All-nil, All-cons, All-head, All-tail, All-same, label_of, Label, Named, SplitByLabels, Norm, Passes, Fronts, Parts}
 use Rattle.camp_seq.proofs.ListResults.{label-front}
 
--- it holds of each label of the list
+-- the fact holds of each label of the list
 abbrev pub Each : (Label → Type 0) → List Named → Type 0
 Each P s = All (λ p. P (label_of p)) s
 
@@ -18,7 +18,7 @@ each_front P label (p ∷ s) y t (inr w) a =
     let own : P (label_of f.1) = subst P (sym f.4.anywhere.first) (All-head Q p s a) in
     (subst P (sym f.4.anywhere.second) rest.0, All-same Q t (f.1 ∷ f.2) f.5 (All-cons Q f.1 f.2 own rest.1))
 
--- and of the label that comes to the front
+-- and of a label that can be moved to the front
 pub each_at_front : (P : Label → Type 0) (label : Label) (s : List Named) (y : Named) (t : List Named) → Fronts label s y t → Each P s → P label
 each_at_front P label s y t w a = subst P (label-front label s y t w) (each_front P label s y t w a).0
 

@@ -1,17 +1,17 @@
--- The law of three: with room, the six orders of three primitives are in range.
+-- The law of three: if three primitives have headroom, all six orders of them are in range.
 use Rattle.camp_seq.proofs.Words.{List, [], ◌∷◌, All, All-head, All-tail, InRange, Commute, CommuteAnywhere, Named, Reaches, here, further, HasRoom, LawOfThree, ◌++◌, length, drop_at, refl, subst, All-drop}
 use Rattle.camp_prim.specs.Laws.{SixOrders}
 use Rattle.camp_prim.proofs.ThreeAnywhere.{six_from_behind, six_from_before}
 use Rattle.camp_seq.proofs.RoomSteps.{reaches_through, at_front, exchanges_behind}
 
--- two neighbours of a list that one with room reaches are in range
+-- neighbours in a list equivalent to one with headroom are in range
 two_in_range : (s before : List Named) (p q : Named) (after : List Named) → HasRoom s → Reaches s (before ++ p ∷ q ∷ after) → InRange p.prim × InRange q.prim
 two_in_range s before p q after room reaches =
     let P : Named → Type 0 = λ x. InRange x.prim in
     let all : All P (p ∷ q ∷ after) = subst (All P) (drop_at before (p ∷ q ∷ after) (length before) refl) (All-drop P (length before) (before ++ p ∷ q ∷ after) (room _ reaches)) in
     (All-head P p (q ∷ after) all, All-head P q after (All-tail P p (q ∷ after) all))
 
--- they turn in range
+-- they commute in range
 turned : (s before : List Named) (p q q' p' : Named) (after : List Named) → HasRoom s → CommuteAnywhere p q q' p' → Reaches s (before ++ p ∷ q ∷ after) → Commute p q q' p' × Reaches s (before ++ q' ∷ p' ∷ after)
 turned s before p q q' p' after room w reaches =
     let turn = exchanges_behind before (p ∷ q ∷ after) (q' ∷ p' ∷ after) (at_front p q q' p' after w) in

@@ -1,4 +1,4 @@
--- What passes, comes to the front or is split is equivalent to what it came from.
+-- Commuting past a list, moving to the front and splitting give equivalent lists.
 use Rattle.camp_seq.proofs.Words.{◌≡◌, inl, inr, List, [], ◌∷◌, ◌++◌, sym, ap, ◌∙◌, subst, append_assoc, append-nil, label_of, Label, Commute, Named, ◌~◌, same, exchanged, backwards, through, AreEquivalent, Norm, Splits, Passes, PassesAll, Fronts, Parts}
 use Rattle.camp_seq.proofs.ExchangeSteps.{at_front, exchanges_behind, exchanges_before}
 
@@ -6,21 +6,21 @@ use Rattle.camp_seq.proofs.ExchangeSteps.{at_front, exchanges_behind, exchanges_
 pub equal_are : (s t : List Named) → s ≡ t → s ~ t
 equal_are s t e = subst (λ x. s ~ x) e same
 
--- equivalent lists stay equivalent behind a list
+-- equivalent lists with the same prefix are equivalent
 pub behind : (u s t : List Named) → s ~ t → (u ++ s) ~ (u ++ t)
 behind u s t same = same
 behind u s t (exchanged e) = exchanged (exchanges_behind u s t e)
 behind u s t (backwards e) = backwards (behind u t s e)
 behind u s t (through {t = r} e f) = through (behind u s r e) (behind u r t f)
 
--- and before one
+-- and with the same suffix
 pub before : (s t u : List Named) → s ~ t → (s ++ u) ~ (t ++ u)
 before s t u same = same
 before s t u (exchanged e) = exchanged (exchanges_before s t u e)
 before s t u (backwards e) = backwards (before t s u e)
 before s t u (through {t = r} e f) = through (before s r u e) (before r t u f)
 
--- and joined to equivalent lists
+-- joining equivalent lists gives equivalent lists
 pub joined : (s t u v : List Named) → s ~ t → u ~ v → (s ++ u) ~ (t ++ v)
 joined s t u v e f = through (before s t u e) (behind t u v f)
 

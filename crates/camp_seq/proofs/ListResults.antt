@@ -39,7 +39,7 @@ one_parting labels (p ∷ s) f t g u (inr v) (inr w) =
     let pass = one_pass p w.1.0 f g v.1.2 w.1.2 (subst (λ x. Passes p x f v.1.2) rest.0 v.1.4) w.1.4 in
     (pass.0, v.1.5 ∙ ap (λ x. x ∷ v.1.1) pass.1 ∙ ap (λ x. w.1.2 ∷ x) rest.1 ∙ sym w.1.5)
 
--- the first element of a list with this label has it at the front too
+-- the element that is moved to the front for a label has this label
 pub label-front : (label : Label) (s : List Named) (y : Named) (t : List Named) → Fronts label s y t → label_of y ≡ label
 label-front label [] y t w = absurd w
 label-front label (p ∷ s) y t (inl w) = ap label_of w.1 ∙ w.0

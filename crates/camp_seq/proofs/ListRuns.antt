@@ -1,4 +1,4 @@
--- What lists of primitives do to trees: joined lists, lists after a commute, inverses.
+-- The effect of lists of primitives on trees: of joined lists, commuted lists, inverses.
 use Rattle.camp_seq.proofs.Words.{◌≡◌, List, [], ◌∷◌, ◌++◌, map, reverse, refl, sym, ap, ◌∙◌, subst, reverse-append, map-append, Files, inverse_of, Commute, Named, leads_back, inverse_of-inverse_of, effect, CommutesOnce, EquivalentRun, InverseOfListLeadsBack, AppliesAll, inverse_all, ℕ, ◌+◌, ◌<◌, Err, length, take, drop, get_or, drop_more, take_more, Answers, AnswersByTrial, Applies}
 use Rattle.camp_seq.proofs.ExchangeSteps.{shared}
 use Rattle.camp_base.specs.declared.faults.Apply.{Apply}
@@ -10,7 +10,7 @@ pub joined_runs : (s t : List Named) (old between new : Files) → AppliesAll s 
 joined_runs [] t old between new r q = subst (λ x. AppliesAll t x new) r q
 joined_runs (p ∷ s) t old between new r q = (r.0, r.1, joined_runs s t r.0 between new r.2 q)
 
--- a run of two lists has a tree between them
+-- a run of two lists reaches a tree between them
 pub cut_run : (s t : List Named) (old new : Files) → AppliesAll (s ++ t) old new → (between : Files) × AppliesAll s old between × AppliesAll t between new
 cut_run [] t old new r = (old, refl, r)
 cut_run (p ∷ s) t old new r =
@@ -60,7 +60,7 @@ no_run [] p rest old between runs never new r = never r.0 (subst (λ x. Applies 
 no_run (q ∷ s) p rest old between runs never new r =
     no_run s p rest runs.0 between runs.2 never new (subst (λ x. AppliesAll (s ++ p ∷ rest) x new) (applies_once q.prim old r.0 runs.0 r.1 runs.1) r.2)
 
--- where a primitive does not apply to what those before it leave, the list leads nowhere
+-- if a primitive does not apply to the tree that those before it give, the list leads to no tree
 pub run_stops : (s : List Named) (i : ℕ) (p : Named) (old between after : Files) (fault : Apply) → i < length s → p ≡ get_or s i p → AppliesAll (take i s) old between → Answers (Applies p.prim) between (Err fault) after → AnswersByTrial (AppliesAll s) old (Err fault) old
 run_stops s i p old between after DoesNotApply within is runs answer =
     let next : drop i s ≡ p ∷ drop (i + 1) s = drop_more s i p within ∙ ap (λ x. x ∷ drop (i + 1) s) (sym is) in

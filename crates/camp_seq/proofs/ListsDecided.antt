@@ -1,10 +1,10 @@
--- Whether lists pass, split and merge is decided.
+-- It is decidable whether lists commute, split and merge.
 use Rattle.camp_seq.proofs.Words.{◌≡◌, ◌≢◌, zero, suc, List, [], ◌∷◌, refl, subst, inl, inr, arith, Contains, label_of, label_cmp, Label, Named, label_total, label_ties, Decided, decided_by, same_or_not, swap_or_not, swap_unique, CleanMerge, Splits, Passes, PassesAll, Parts, inverse_all}
 use Rattle.camp_seq.proofs.ListResults.{one_pass_of_all, one_parting}
 use Rattle.camp_seq.proofs.MergeGrid.{merge_is_passing, passing_merges}
 use Rattle.camp_seq.proofs.NormalOrders.{has_normal_order}
 
--- a relation gives two results, or it has none
+-- a relation gives two results, or none
 abbrev pub TwoOrNone : {A B : Type 0} → (A → B → Type 0) → Type 0
 TwoOrNone {A} {B} Gives = Decided ((x : A) × (y : B) × Gives x y)
 
@@ -16,7 +16,7 @@ in_either : {X : Type 0} (y x : X) (xs : List X) → y ≢ x → Decided (Contai
 in_either y x xs other (inl w) = let within = w.1 in inl (suc w.0, (omega arith), w.2)
 in_either y x xs other (inr never) = inr (in_neither y x xs other never)
 
--- an element stands in a list, or it does not
+-- an element is in a list or not
 pub among_or_not : {X : Type 0} → ((x y : X) → Decided (x ≡ y)) → (xs : List X) (x : X) → Decided (Contains xs x)
 among_or_not same [] x = inr (λ w. let within = w.1 in absurd (omega arith))
 among_or_not same (y ∷ xs) x = elim (same y x) [

@@ -1,9 +1,9 @@
--- The grid of a clean merge: it closes a square of trees, is symmetric, and is passing the inverse.
+-- The grid of a clean merge: it gives a square of trees, is symmetric, and is the same as commuting past the inverse.
 use Rattle.camp_seq.proofs.Words.{◌≡◌, List, [], ◌∷◌, ◌++◌, refl, sym, ap, ◌∙◌, subst, inverse_of, Commute, Named, inverse_of-inverse_of, own_inverse, square, MergeCloses, MergeIsEquivalent, MergeIsSymmetric, MergeIsPassing, Merges, MergesOne, CleanMerge, Passes, PassesAll, inverse_all}
 use Rattle.camp_seq.proofs.ListEquivalence.{all_passed}
 use Rattle.camp_seq.proofs.ListRuns.{joined_runs, cut_run, equivalent_run, inverse_all-cons, inverse_all-append, inverse_all-inverse_all, inverse_all_leads_back}
 
--- a cell, seen from its other side: [a] [b'] <-> [b] [a']
+-- a cell read in the other direction: [a] [b'] <-> [b] [a']
 cell_passes : (a b b' a' : Named) → Merges a b b' a' → Commute a b' b a'
 cell_passes a b b' a' m =
     subst (λ (x : Named × Named). Commute x.0 b' b x.1) (λ i. (inverse_of-inverse_of a i, inverse_of-inverse_of a' i)) (square (inverse_of a) b b' (inverse_of a') m)
@@ -13,7 +13,7 @@ column_passes a [] b' a' m = subst (λ x. Passes a x [] a') (sym m.0) (refl, m.1
 column_passes a (b ∷ bs) b' a' m =
     subst (λ x. Passes a x (b ∷ bs) a') (sym m.5) (b, m.1, bs, cell_passes a b m.0 m.1 m.3, column_passes m.1 bs m.2 a' m.4, refl)
 
--- the one list passes what the other becomes behind it
+-- a commutes past what b becomes after it
 grid_passes : (a b b' a' : List Named) → CleanMerge a b b' a' → PassesAll a b' b a'
 grid_passes [] b b' a' m = (sym m.0, m.1)
 grid_passes (p ∷ a) b b' a' m =
@@ -27,12 +27,12 @@ pub cell_is_symmetric : (a b b' a' : Named) → Merges a b b' a' → Merges b a 
 cell_is_symmetric a b b' a' m =
     square b a' a b' (own_inverse a b' b a' (cell_passes a b b' a' m))
 
--- a list against none
+-- a list merged with the empty list
 pub beside_none : (b : List Named) → CleanMerge b [] [] b
 beside_none [] = (refl, refl)
 beside_none (p ∷ b) = ([], p, b, (refl, refl), beside_none b, refl)
 
--- a first column put before a grid
+-- a grid with a first column added
 pub with_column : (p : Named) (b beside : List Named) (p' : Named) (a t b' : List Named) → MergesOne p b beside p' → CleanMerge beside a t b' → CleanMerge b (p ∷ a) (p' ∷ t) b'
 with_column p [] beside p' a t b' m g =
     let rest : CleanMerge [] a t b' = subst (λ s. CleanMerge s a t b') m.0 g in
@@ -57,14 +57,14 @@ passes_row x (b ∷ bs) b' x' m =
     let cell = subst (λ (y : Named × Named). Commute y.0 b m.0 y.1) (λ i. (sym (inverse_of-inverse_of x) i, sym (inverse_of-inverse_of m.1) i)) m.3 in
     (m.0, inverse_of m.1, m.2, cell, passes_row m.1 bs m.2 x' m.4, m.5)
 
--- a last element that passes first
+-- if x commutes past a list first, it can be appended to a list that commutes past
 pub passes_all_push : (r : List Named) (x : Named) (s t : List Named) (x' : Named) (s' q : List Named) → Passes x s t x' → PassesAll r t s' q → PassesAll (r ++ x ∷ []) s s' (q ++ x' ∷ [])
 passes_all_push [] x s t x' s' q v w =
     (s, x', [], (refl, refl), subst (λ y. Passes x s y x') (sym w.0) v, ap (λ y. y ++ x' ∷ []) w.1)
 passes_all_push (p ∷ r) x s t x' s' q v w =
     (w.0, w.1, w.2 ++ x' ∷ [], passes_all_push r x s t x' w.0 w.2 v w.3, w.4, ap (λ y. y ++ x' ∷ []) w.5)
 
--- the last element passes first
+-- the last element of a list is the first to commute past
 pub last_passes : (r : List Named) (x : Named) (s s' r' : List Named) → PassesAll (r ++ x ∷ []) s s' r' → (t : List Named) × (x' : Named) × (q : List Named) × Passes x s t x' × PassesAll r t s' q × (r' ≡ q ++ x' ∷ [])
 last_passes [] x s s' r' w =
     (s', w.1, [], subst (λ y. Passes x y s' w.1) w.3.0 w.4, (refl, refl), w.5 ∙ ap (λ y. w.1 ∷ y) w.3.1)
@@ -78,7 +78,7 @@ merge_passes (p ∷ a) b b' a' m =
     let all = passes_all_push (inverse_all a) (inverse_of p) b m.0 (inverse_of m.1) b' (inverse_all m.2) (row_passes p b m.0 m.1 m.3) (merge_passes a m.0 b' m.2 m.4) in
     subst (λ r. PassesAll r b b' (inverse_all a')) (sym (inverse_all-cons p a)) (subst (λ r. PassesAll (inverse_all a ++ inverse_of p ∷ []) b b' r) (sym (inverse_all-cons m.1 m.2) ∙ ap inverse_all (sym m.5)) all)
 
--- with the passed list any
+-- the other list may be any
 pub passing_merges : (a b b' r' : List Named) → PassesAll (inverse_all a) b b' r' → CleanMerge a b b' (inverse_all r')
 passing_merges [] b b' r' w = (w.0, ap inverse_all w.1)
 passing_merges (p ∷ a) b b' r' w =
@@ -91,7 +91,7 @@ pub merge_is_passing : MergeIsPassing
 merge_is_passing a b b' a' =
     (merge_passes a b b' a', λ w. subst (λ x. CleanMerge a b b' x) (inverse_all-inverse_all a') (passing_merges a b b' (inverse_all a') w))
 
--- back over the one list and over the other leads where both do in the other order
+-- undoing the one list and then the other leads to the same tree as undoing them in the other order
 pub merge_closes : MergeCloses
 merge_closes a b b' a' m old left right x y =
     let around = joined_runs (inverse_all a) b left old right ((inverse_all_leads_back a old left).0 x) y in

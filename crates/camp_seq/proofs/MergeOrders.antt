@@ -1,4 +1,4 @@
--- With room, whether two lists merge cleanly does not depend on the order of their elements.
+-- With headroom, whether two lists merge cleanly does not depend on the order of their elements.
 use Rattle.camp_seq.proofs.Words.{◌≡◌, List, [], ◌∷◌, ◌++◌, refl, sym, ap, ◌∙◌, subst, append_assoc, inverse_of, Commute, Named, CommutesOnce, ◌~◌, same, exchanged, backwards, through, CleanMerge, Passes, PassesAll, HasRoom, inverse_all}
 use Rattle.camp_prim.proofs.CommuteLaws.{inverse}
 use Rattle.camp_seq.specs.Room.{HasRoomToMerge, MergeCleanly, MergesInAnyOrder}
@@ -8,7 +8,7 @@ use Rattle.camp_seq.proofs.ListRuns.{inverse_all-cons, inverse_all-append}
 use Rattle.camp_seq.proofs.MergeGrid.{merge_is_symmetric, merge_passes, passing_merges}
 use Rattle.camp_seq.proofs.RoomSteps.{exchanges_before, room_before, room_behind, room_exchanged, room_of_equivalent, room_past, shared}
 
--- two neighbours that pass a list also pass it in their other order, and leave the same list
+-- two neighbours that commute past a list do so in their other order too, and leave the same list
 pub two_pass : (b : List Named) (p q q' p' : Named) (t b' : List Named) (q1 p1 : Named) → HasRoom (p ∷ q ∷ b) → Commute p q q' p' → Passes q b t q1 → Passes p t b' p1 → (u : List Named) × (p2 : Named) × (q2 : Named) × Passes p' b u p2 × Passes q' u b' q2 × Commute p1 q1 q2 p2
 two_pass [] p q q' p' t b' q1 p1 room w v x =
     let y = subst (λ s. Passes p s b' p1) v.0 x in
@@ -26,7 +26,7 @@ two_pass (r ∷ b) p q q' p' t b' q1 p1 room w v x =
       rest.5,
     )
 
--- exchange in a list that passes another one
+-- one exchange in a list that commutes past another
 passes_exchanged : (front : List Named) (p q q' p' : Named) (after t t' r' : List Named) → HasRoom ((front ++ p ∷ q ∷ after) ++ t) → Commute p q q' p' → PassesAll (front ++ p ∷ q ∷ after) t t' r' → (u' : List Named) × PassesAll (front ++ q' ∷ p' ∷ after) t t' u'
 passes_exchanged [] p q q' p' after t t' r' room w v =
     let a = v.3 in
@@ -38,7 +38,7 @@ passes_exchanged (z ∷ front) p q q' p' after t t' r' room w v =
     let n = passes_exchanged front p q q' p' after t v.0 v.2 (room_behind z ((front ++ p ∷ q ∷ after) ++ t) room) w v.3 in
     (v.1 ∷ n.0, (v.0, v.1, n.0, n.1, v.4, refl))
 
--- a list passes another one, and leaves this; there is room
+-- a list commutes past another and leaves this one, and both have headroom
 abbrev PassesTo : List Named → List Named → List Named → Type 0
 PassesTo t t' r = HasRoom (r ++ t) × ((r' : List Named) × PassesAll r t t' r')
 
@@ -74,7 +74,7 @@ first_in_any_order s u t t' s' room e m =
     let n = passes_in_any_order (inverse_all s) (inverse_all u) t t' (inverse_all s') room (inverses s u e) (merge_passes s t t' s' m) in
     (inverse_all n.0, passing_merges u t t' n.0 n.1)
 
--- lists that are equivalent to two with room have room
+-- lists equivalent to two lists with headroom have headroom
 pub room_in_any_order : (s u t v : List Named) → HasRoomToMerge s t → s ~ u → t ~ v → HasRoomToMerge u v
 room_in_any_order s u t v room e f = record {
   forth = room_of_equivalent _ _ (joined (inverse_all s) (inverse_all u) t v (inverses s u e) f) room.forth;

@@ -22,11 +22,11 @@ front_or_not label (p ∷ s) = elim (same_or_not _ label_total label_ties (label
   ]
 ]
 
--- no label of these elements that comes to the front of a list is less than this one
+-- no label of these elements that can be moved to the front of the list is less than this one
 abbrev LeastOf : List Named → Label → List Named → Type 0
 LeastOf s label t = Each (λ l. Front l s → label_cmp l label ≢ Less) t
 
--- the least of the labels of some elements that come to the front of a list, or none does
+-- the least label of some elements that can be moved to the front of a list, or none of them can
 least_of : (s t : List Named) → ((label : Label) × Front label s × LeastOf s label t) ⊎ Each (λ l. ¬ (Front l s)) t
 least_of s [] = inr (All-nil (λ x. ¬ (Front (label_of x) s)))
 least_of s (p ∷ t) =
@@ -48,7 +48,7 @@ least_of s (p ∷ t) =
       ]
     ]
 
--- coming to the front keeps the number of elements
+-- moving an element to the front keeps the number of elements
 pub length_front : (label : Label) (s : List Named) (y : Named) (t : List Named) → Fronts label s y t → length s ≡ length t + 1
 length_front label [] y t w = absurd w
 length_front label (p ∷ s) y t (inl w) = omega (arith, ap length w.2)

@@ -1,4 +1,4 @@
--- Steps of passing, from one neighbour to the next, and passing that stops.
+-- Commuting an element past a list, one neighbour at a time, and being blocked.
 use Rattle.camp_seq.proofs.Words.{◌≡◌, ℕ, zero, suc, ◌+◌, ◌<◌, ◌≤◌, Bool, true, false, List, [], ◌∷◌, ◌++◌, length, take, drop, get_or, set, set-get_or, take_more_set, refl, sym, ap, ◌∙◌, subst, inl, inr, arith, append_assoc, take_all, take_more, take-append-drop, then_some, FindsPair, Commute, Named, swap_unique, own_inverse, Precedes, IsHeld, ComesUpTo, Passes, PassesAll}
 use Rattle.std.specs.Prelude.{eqb}
 use Rattle.std.proofs.lemmas.Bool.Decides.{eqb_tells}
@@ -25,7 +25,7 @@ all_stop [] p r s s' r' t z m never v =
     never t v.1 (subst (λ y. Passes p y t v.1) (sym rest.0) v.4)
 all_stop (x ∷ before) p r s s' r' t z m never v = all_stop before p r s s' r' v.0 v.2 m never v.3
 
--- an element that stops leaves no way for the whole list
+-- an element that is blocked does not commute past the whole list
 pub stops_all : (r0 r s0 s : List Named) (at i : ℕ) (d : Named) → at ≡ i + 1 → i < length r → length r ≡ length r0 → DoneFrom (λ t u. PassesAll t s0 s u) r0 r at → ((x : List Named) (y : Named) → ¬ (Passes (get_or r i d) s x y)) → (t u : List Named) → ¬ (PassesAll r0 s0 t u)
 stops_all r0 r s0 s at i d e within long w never t u m =
     let v = subst (DoneFrom (λ t u. PassesAll t s0 s u) r0 r) e w in
@@ -45,7 +45,7 @@ precedes_stop [] q s p r z t u m never v =
     never z v.1 (subst (λ x. Commute q x z v.1) (sym rest.0) v.4)
 precedes_stop (x ∷ before) q s p r z t u m never v = precedes_stop before q s p r v.0 t v.2 m never v.3
 
--- what came before a list passes it back
+-- an element that was moved in front of a list commutes back past it
 pub precedes_back : (s : List Named) (p p' : Named) (s' : List Named) → Precedes s p p' s' → Passes p' s' s p
 precedes_back [] p p' s' m = subst (λ t. Passes p' t [] p) (sym m.1) (refl, sym m.0)
 precedes_back (q ∷ s) p p' s' m =
@@ -55,7 +55,7 @@ pub passed_back : (s : List Named) (p p' : Named) (s' : List Named) (done : Bool
 passed_back s p p' s' true t r m w = one_pass p' s' t s r p w (precedes_back s p p' s' m)
 passed_back s p p' s' false t r m w = absurd (w (s, p) (precedes_back s p p' s' m))
 
--- the neighbour that it can't pass holds it, and those before that one do
+-- an element is blocked by the neighbour that it can't commute past, also with more elements before that neighbour
 pub all_hold : (a : List Named) (q : Named) (s : List Named) (x r : Named) (t : List Named) → Precedes s x r t → ((b c : Named) → ¬ (Commute q r b c)) → IsHeld (a ++ q ∷ []) s x
 all_hold [] q s x r t m never = ((λ p u. precedes_stop [] q s x r p t u m never), tt)
 all_hold (y ∷ a) q s x r t m never =
@@ -72,39 +72,39 @@ comes_up_to s0 s x0 x at i d e within long w never =
       held = subst (λ a. IsHeld a (drop (i + 1) s0) x0) (sym (take_more s i d within) ∙ v.waiting) (all_hold (take i s) (get_or s i d) (drop (i + 1) s0) x0 x (drop (i + 1) s) v.done never);
     }
 
--- what is held does not come to before the whole list
+-- an element that is blocked can't be moved in front of the whole list
 pub never_first : (s0 : List Named) (at : ℕ) (x : Named) → 0 < at → at ≤ length s0 → IsHeld (take at s0) (drop at s0) x → (y : Named) (t : List Named) → ¬ (Precedes s0 x y t)
 never_first s0 zero x some bound held y t = absurd (omega arith)
 never_first [] (suc n) x some bound held y t = absurd (omega arith)
 never_first (z ∷ s) (suc n) x some bound held y t =
     subst (λ u. ¬ (Precedes (z ∷ u) x y t)) (take-append-drop n s) (held.0 y t)
 
--- what has passed a list comes back to before it
+-- an element that has commuted past the list is moved back to the front
 pub passes_back : (p : Named) (s s' : List Named) (p' : Named) → Passes p s s' p' → Precedes s' p' p s
 passes_back p [] s' p' m = subst (λ t. Precedes t p' p []) (sym m.0) (sym m.1, refl)
 passes_back p (q ∷ s) s' p' m =
     subst (λ t. Precedes t p' p (q ∷ s)) (sym m.5) (m.1, q, s, passes_back m.1 s m.2 p' m.4, own_inverse p q m.0 m.1 m.3, refl)
 
--- and the list is as it was then
+-- and the list is then as it was
 pub gone_back : (p : Named) (s s' : List Named) (p' : Named) (done : Bool) (t : List Named) (r : Named) → Passes p s s' p' → Changes PrecedesInPlace (s', p') done (t, r) → (t ≡ s) × (r ≡ p)
 gone_back p s s' p' true t r m w =
     let same = one_precedes s' p' r p t s w (passes_back p s s' p' m) in
     (same.1, same.0)
 gone_back p s s' p' false t r m w = absurd (w.0 (s, p) (passes_back p s s' p' m))
 
--- what has passed all before the end has passed the list
+-- an element that has passed all before the end has passed the list
 pub passed_all : (s0 s : List Named) (p0 p : Named) (at : ℕ) → GoesPast s0 p0 at s p → length s ≤ at → Passes p0 s0 s p
 passed_all s0 s p0 p at w all =
     subst (λ t. Passes p0 t s p) (take_all at s0 (omega (arith, w.long))) (subst (λ t. Passes p0 (take at s0) t p) (take_all at s all) w.passed)
 
--- and what has not does not pass it
+-- and one that has not does not commute past it
 pub passes_where : (s0 s : List Named) (p0 p : Named) (at : ℕ) → GoesPast s0 p0 at s p → FindsPair (Passes p0 s0) (then_some (eqb at (length s)) (s, p))
 passes_where s0 s p0 p at w = elim (eqb_tells at (length s)) [
   | inl e ↦ rw e.0 (passed_all s0 s p0 p at w (omega (arith, e.1)))
   | inr e ↦ rw e.0 (λ any m. w.stops (omega (arith, w.bound, w.long, e.1)) any.0 any.1 m)
 ]
 
--- a place that an element has come to in a list that it passes
+-- the position that an element has reached in a list that it commutes past
 module _ (s0 s : List Named) (p0 p : Named) (at : ℕ) (d : Named) (within : at < length s) (long : length s ≡ length s0) (waiting : drop at s ≡ drop at s0) (passed : Passes p0 (take at s0) (take at s) p) where
   next : drop at s0 ≡ get_or s at d ∷ drop (at + 1) s0
   next = at_next s0 s at d within long waiting

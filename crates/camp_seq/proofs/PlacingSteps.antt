@@ -1,4 +1,4 @@
--- An element that is commuted to its place behind the others, from one neighbour to the next.
+-- Inserts an element at its position among the following ones, one neighbour at a time.
 use Rattle.camp_seq.proofs.Words.{◌≡◌, ◌≢◌, ℕ, ◌+◌, ◌-◌, List, [], ◌∷◌, ◌++◌, length, take, drop, refl, sym, ap, ◌∙◌, subst, inl, inr, arith, append_assoc, length-append, length-take-le, length-drop, take_at, drop_at, take-append-drop, Less, label_of, label_cmp, Named, ◌~◌, backwards, through, IsHeld, ComesUpTo, HasRoom, Label, IsLeast, Norm, Passes, Fronts}
 use Rattle.camp_seq.specs.Inside.FirstInOrder.{ComesIn, GoesIn}
 use Rattle.camp_seq.proofs.EquivalentLists.{comes_first, passes_alike, room_of_rest}
@@ -11,17 +11,17 @@ use Rattle.camp_seq.proofs.OwnOrders.{fronts_of_longer, rest_ordered}
 use Rattle.camp_seq.proofs.PassingSteps.{precedes_back}
 use Rattle.camp_seq.proofs.RoomSteps.{at_front, room_before, room_behind, room_exchanged, room_of_equivalent}
 
--- this comes to the front of the list, with whatever rest
+-- the element can be moved to the front of the list, whatever the rest
 abbrev ComesFirst : Label → Named → List Named → Type 0
 ComesFirst label y s = (t : List Named) × Fronts label s y t
 
--- what comes to the front of a list with room comes to the front of each equivalent list
+-- an element that can be moved to the front of a list with headroom can be moved there in each equivalent list
 front_of_equivalent : (s t : List Named) → s ~ t → HasRoom s → (label : Label) (y : Named) (u : List Named) → Fronts label s y u → ComesFirst label y t
 front_of_equivalent s t e room label y u f =
     let v = comes_first y t u (room_of_equivalent s t e room) (through (backwards e) (fronted label s y u f)) in
     (v.0, subst (λ l. Fronts l t y v.0) (label-front label s y u f) v.1)
 
--- what comes to the front of a list comes to the front of what the list is behind an element that passes it, too
+-- if x commutes past s, an element that can be moved to the front of s can be moved to the front of what s becomes
 front_past : (label : Label) (x : Named) (s s' : List Named) (x' z : Named) (w : List Named) → HasRoom (x ∷ s) → Passes x s s' x' → Fronts label s z w → (z' : Named) × ComesFirst label z' s'
 front_past label x s s' x' z w room m f =
     let there = passes_alike x s (z ∷ w) s' x' room (fronted label s z w f) m in
@@ -30,7 +30,7 @@ front_past label x s s' x' z w room m f =
     let first = comes_first v.0 s' v.2 room_of_s' (through there.2 (equal_are _ _ v.5)) in
     (v.0, (first.0, subst (λ l. Fronts l s' v.0 first.0) (v.3.anywhere.second ∙ label-front label s z w f) first.1))
 
--- a list is its own normal order where what it is behind an element that passes it is so
+-- if x commutes past a list, and what the list becomes is its own normal order, the list is its own normal order
 own_before : (x : Named) (s s' : List Named) (x' : Named) → HasRoom (x ∷ s) → Passes x s s' x' → Norm s' s' → Norm s s
 own_before x [] s' x' room m own = refl
 own_before x (q ∷ s) s' x' room m own =
@@ -42,7 +42,8 @@ own_before x (q ∷ s) s' x' room m own =
     in
     (s, inl (refl, refl, refl), least, own_before m.1 s m.2 x' room_behind_q m.4 first.1)
 
--- a list that is its own normal order stays so behind elements that hold its x, where they were in order before it
+-- if a b and t are their own normal order, t is equivalent to b x, and x is blocked there, then a t is its own normal
+-- order
 own_held : (a b : List Named) (x : Named) (t : List Named) → HasRoom (a ++ t) → t ~ (b ++ x ∷ []) → Norm (a ++ b) (a ++ b) → IsHeld a b x → Norm t t → Norm (a ++ t) (a ++ t)
 own_held [] b x t room e own held n = n
 own_held (y ∷ a) b x t room e own held n =
@@ -57,15 +58,15 @@ own_held (y ∷ a) b x t room e own held n =
     in
     (a ++ t, inl (refl, refl, refl), least, own_held a b x t (room_behind y (a ++ t) room) e first.1 held.1 n)
 
--- a list that is its own normal order is that of each list with room that it is equivalent to
+-- a list that is its own normal order is the normal order of each equivalent list with headroom
 pub norm_of_equivalent : (s t : List Named) → HasRoom s → s ~ t → Norm t t → Norm s t
 norm_of_equivalent s t room e own = normal_form t s (room_of_equivalent s t e room) (backwards e) t own
 
--- the normal order of a list with room is its own normal order
+-- the normal order of a list with headroom is its own normal order
 pub own_order : (s t : List Named) → HasRoom s → Norm s t → Norm t t
 own_order s t room n = own_with_room s t (room_of_equivalent s t (ordered s t n) room) n
 
--- an element that has come forward among others that are their own normal order
+-- an element that was moved forward in a list that is its own normal order
 module _ (s0 s : List Named) (x0 x : Named) (from : ℕ) (room : HasRoom (s0 ++ x0 ∷ [])) (own : Norm s0 s0) (w : ComesUpTo s0 x0 from s x) where
   back : Passes x (drop from s) (drop from s0) x0
   back = precedes_back (drop from s0) x0 x (drop from s) w.came
@@ -79,7 +80,7 @@ module _ (s0 s : List Named) (x0 x : Named) (from : ℕ) (room : HasRoom (s0 ++ 
   room_there : HasRoom (x ∷ drop from s)
   room_there = room_of_equivalent _ _ (backwards as_was) (room_of_rest (take from s0) _ (subst HasRoom parts room))
 
-  -- those that it has come before are their own normal order
+  -- the elements that it was moved in front of are their own normal order
   pub own_there : Norm (drop from s) (drop from s)
   own_there = own_before x (drop from s) (drop from s0) x0 room_there back (own_behind s0 from own)
 
@@ -90,7 +91,7 @@ module _ (s0 s : List Named) (x0 x : Named) (from : ℕ) (room : HasRoom (s0 ++ 
       let whole : Norm (take from s0 ++ drop from s0) (take from s0 ++ drop from s0) = subst (λ l. Norm l l) (sym (take-append-drop from s0)) own in
       norm_of_equivalent _ _ room all (own_held (take from s0) (drop from s0) x0 t (room_of_equivalent _ _ all room) there whole w.held (own_order _ t room_there n))
 
-  -- it goes in among them, as far as it stays before the others
+  -- it is inserted at the first position where it stays before the rest
   pub comes_in : (part left now : List Named) (at : ℕ) (y : Named) → part ≡ drop from s → GoesIn part x at left y → ((t : List Named) (p : Named) → Passes x part t p → Norm (y ∷ drop at part) (y ∷ drop at part)) → now ≡ take from s ++ left → ComesIn s0 x0 (from + at) now y
   comes_in part left now at y is go stays now_is =
       let long : length (take from s) ≡ from = length-take-le from s (omega (arith, w.bound, w.long)) in
@@ -103,7 +104,7 @@ module _ (s0 s : List Named) (x0 x : Named) (from : ℕ) (room : HasRoom (s0 ++ 
         ordered = rw (ap (take (from + at)) cut ∙ take_at (take from s ++ take at left) (drop at left) (from + at) most, ap (drop (from + at)) cut ∙ drop_at (take from s ++ take at left) (drop at left) (from + at) most, append_assoc (take from s) (take at left) (y ∷ drop at left), w.waiting, go.waiting) all;
       }
 
--- what is written from its place on
+-- the elements written from its position on
 pub placed_there : (s s0 left items part new : List Named) (x0 x : Named) (at : ℕ) → s ≡ s0 ++ x0 ∷ [] → length left ≡ length s0 → ComesIn s0 x0 at left x → items ≡ left ++ x ∷ [] → part ≡ drop at items → new ≡ drop (length part - 1) part ++ take (length part - 1) part → Norm s (take at items ++ new)
 placed_there s s0 left items part new x0 x at was same w is part_is new_is =
     let cut : left ≡ take at left ++ drop at left = sym (take-append-drop at left) in
@@ -113,12 +114,12 @@ placed_there s s0 left items part new x0 x at was same w is part_is new_is =
     let becomes : take at items ++ new ≡ take at left ++ x ∷ drop at left = ap (λ y. take at items ++ y) (new_is ∙ turned (drop at left) x part there) ∙ ap (λ y. y ++ x ∷ drop at left) (ap (take at) whole ∙ take_at (take at left) (drop at left ++ x ∷ []) at front) in
     rw (was, becomes) w.ordered
 
--- a list whose first n elements are their own normal order, and the first n + 1 of them, which have room
+-- the first n elements are their own normal order, and the first n + 1 have headroom
 module _ (s0 s : List Named) (n : ℕ) (room : HasRoom s0) (equivalent : s0 ~ s) where
   pub room_of_part : HasRoom (take (n + 1) s)
   room_of_part = room_before (take (n + 1) s) (drop (n + 1) s) (subst HasRoom (sym (take-append-drop (n + 1) s)) (room_of_equivalent s0 s equivalent room))
 
-  -- with the next element in its place among them
+  -- the next element is inserted among them
   pub placed_more : (now : List Named) → length now ≡ n + 1 → Norm (take (n + 1) s) now → (s0 ~ (now ++ drop (n + 1) s)) × Norm (take (n + 1) (now ++ drop (n + 1) s)) (take (n + 1) (now ++ drop (n + 1) s))
   placed_more now long order =
       let part : List Named = take (n + 1) s in

@@ -1,9 +1,10 @@
--- A list whose reach is in range has room: in every order its hunks stand in their files, whose ends are known.
+-- A list whose reach is in range has headroom: in each order its hunks are in range, since the ends of files are
+-- known.
 use Rattle.camp_seq.proofs.Words.{◌≡◌, ℕ, ◌+◌, ◌-◌, ◌≤◌, ◌^◌, List, [], ◌∷◌, ◌++◌, length, get_or, refl, sym, ap, ◌∙◌, subst, inl, inr, arith, All, All-nil, All-cons, All-head, All-tail, InRange, path_of, PrimitivesCommute, Primitive, Named, Reaches, here, further, HasRoom, line_of, sides_of, greatest_line, all_sides, reach_of}
 use Rattle.camp_prim.specs.declared.primitives.Primitive.TheVariants.{Add, Remove, Hunk}
 use Rattle.camp_prim.proofs.FileEnds.{Steps, same_path_or_not, both_turned, olds_of, news_of, news_kept}
 
--- each primitive stands in the file of a path, which ends here before them
+-- each primitive lies within the file of a path, whose number of lines before them is given
 abbrev pub Fits : List ℕ → ℕ → List Named → Type 0
 Fits path before [] = Unit {0}
 Fits path before (p ∷ s) = (behind : ℕ) × Steps path before p.prim behind × Fits path behind s
@@ -14,7 +15,7 @@ fits_turned path before [] p q q' p' t w f =
     (b.0, b.1, (f.2.0, b.2, f.2.2))
 fits_turned path before (x ∷ s) p q q' p' t w f = (f.0, f.1, fits_turned path f.0 s p q q' p' t w f.2)
 
--- how many old and how many new lines a list has
+-- the numbers of old and new lines of a list
 abbrev all_olds : List Named → ℕ
 all_olds [] = 0
 all_olds (p ∷ s) = olds_of p.prim + all_olds s
@@ -40,7 +41,7 @@ news_turned [] p q q' p' t w =
     omega arith
 news_turned (x ∷ s) p q q' p' t w = ap (λ n. news_of x.prim + n) (news_turned s p q q' p' t w)
 
--- what a list reaches fits where the list does, and has as many new lines
+-- a list that is reached from one that fits also fits, and has as many new lines
 pub reached : (path : List ℕ) (before : ℕ) (s t : List Named) → Reaches s t → Fits path before s → Fits path before t × (all_news t ≡ all_news s)
 reached path before s t here f = (f, refl)
 reached path before s t (further {t = v} e r) f =
@@ -49,7 +50,7 @@ reached path before s t (further {t = v} e r) f =
     let rest = reached path before v t r next in
     (rest.0, rest.1 ∙ news)
 
--- a primitive stands in a file that ends behind it, and takes away no more than its old lines
+-- a primitive lies within a file of the given end, and removes no more than its old lines
 stands : (path : List ℕ) (before : ℕ) (p : Primitive) → InRange p → line_of p + olds_of p ≤ before → (behind : ℕ) × Steps path before p behind × (before ≤ behind + olds_of p)
 stands path before (Add at) r within = (before, refl, omega arith)
 stands path before (Remove at) r within = (before, refl, omega arith)
@@ -61,7 +62,7 @@ stands path before (Hunk h) r within =
       | inr off ↦ (before, (r.counted, r.changes, inr (off, refl)), omega arith)
     ]
 
--- a list fits where its greatest line and all its old lines do
+-- a list fits if its greatest line and all its old lines do
 every_fits : (path : List ℕ) (before top : ℕ) (s : List Named) → All (λ p. InRange p.prim) s → greatest_line s ≤ top → top + all_olds s ≤ before → Fits path before s
 every_fits path before top [] a g w = tt
 every_fits path before top (p ∷ s) a g w =
@@ -69,7 +70,7 @@ every_fits path before top (p ∷ s) a g w =
     let left : before ≤ c.0 + olds_of p.prim = c.2 in
     (c.0, c.1, every_fits path c.0 top s (All-tail (λ p. InRange p.prim) p s a) (omega arith) (omega arith))
 
--- what stands in a file is in range where that and its new lines are
+-- a primitive within a file is in range if the end of the file and its new lines are
 pub in_range_there : (path : List ℕ) (before behind : ℕ) (p : Primitive) → Steps path before p behind → before + news_of p ≤ 2 ^ 30 → (path_of p ≡ path → InRange p) × (behind ≤ before + news_of p)
 in_range_there path before behind (Add at) s le = (λ e. tt, omega (arith, s))
 in_range_there path before behind (Remove at) s le = (λ e. tt, omega (arith, s))
@@ -106,6 +107,6 @@ room_where_it_fits s fits t r = in_range_everywhere t (λ path.
     let news : all_news t ≡ all_news s = there.1 in
     in_range_at path f.0 t there.0 (omega arith))
 
--- a list of primitives in range has room where its reach is within the limit of a hunk
+-- a list of primitives in range has headroom if its reach is within the limit of a hunk
 pub room_within : (s : List Named) → All (λ p. InRange p.prim) s → reach_of s ≤ 2 ^ 30 → HasRoom s
 room_within s a le = room_where_it_fits s (fits_within s a le)

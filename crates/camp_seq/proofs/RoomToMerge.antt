@@ -1,4 +1,5 @@
--- Two lists whose greatest line and all whose old and new lines are within the limit of a hunk have room to merge.
+-- Two lists whose greatest line and all whose old and new lines are within the limit of a hunk have headroom to
+-- merge.
 use Rattle.std.specs.Prelude.{◌<◌, MatchOption}
 use Rattle.std.proofs.lemmas.List.Elements.{All-append}
 use Rattle.camp_base.specs.Limits.{greatest_reach}
@@ -55,14 +56,14 @@ one_way : (s t : List Named) → AllInRange s → AllInRange t → max (greatest
 one_way s t a b le =
     omega (arith, line-append (inverse_all s) t, sides-append (inverse_all s) t, line-inverse_all s, sides-inverse_all s)
 
--- what looks at both lists have found tells that they have room to merge
+-- the bounds found by a pass over each list show that they have headroom to merge
 pub room_to_merge : (s t : List Named) (g h m n : ℕ) → GoesOnTo s 0 0 g m → GoesOnTo t 0 0 h n → max g h + m + n ≤ 2 ^ 30 → HasRoomToMerge s t
 room_to_merge s t g h m n a b le = record {
   forth = room_within (inverse_all s ++ t) (All-append (λ x. InRange x.prim) (inverse_all s) t (in_range-inverse_all s a.ranges) b.ranges) (one_way s t a.ranges b.ranges (omega (arith, a.top, a.all, b.top, b.all)));
   back = room_within (inverse_all t ++ s) (All-append (λ x. InRange x.prim) (inverse_all t) s (in_range-inverse_all t b.ranges) a.ranges) (one_way t s b.ranges a.ranges (omega (arith, a.top, a.all, b.top, b.all)));
 }
 
--- one more element behind a list, from which a look goes on
+-- one more element after a list, and the bounds with it
 pub shape_with : (s : List Named) (p : Named) (line more g m : ℕ) → InRange p.prim → line ≡ line_of p.prim → more ≡ sides_of p.prim → GoesOnTo s line more g m → GoesOnTo (s ++ p ∷ []) 0 0 g m
 shape_with s p line more g m r first then found = record {
   ranges = All-append (λ x. InRange x.prim) s (p ∷ []) found.ranges (All-cons (λ x. InRange x.prim) p [] r (All-nil (λ x. InRange x.prim)));
@@ -76,18 +77,18 @@ pub shape_told : (s : List Named) (p : Named) (line more : ℕ) → InRange p.pr
 shape_told s p line more r first then None w = omega (arith, w, then, sides-append s (p ∷ []))
 shape_told s p line more r first then (Some x) w = shape_with s p line more x.0 x.1 r first then w
 
--- what looks at both lists have found, is how far both together reach
+-- the bounds of both lists together are the reach of the joined list
 pub both_reach : (s t : List Named) (g h m n : ℕ) → GoesOnTo s 0 0 g m → GoesOnTo t 0 0 h n → max g h + m + n ≡ reach_of (s ++ t)
 both_reach s t g h m n a b = omega (arith, a.top, a.all, b.top, b.all, line-append s t, sides-append s t)
 
--- where a look at one list finds too much, both together reach too far
+-- if one list alone exceeds the bound, the joined list does
 pub first_too_far : (s t : List Named) → greatest_reach < all_sides s → ¬ (reach_of (s ++ t) ≤ greatest_reach)
 first_too_far s t much le = absurd (omega (arith, much, le, sides-append s t))
 
 pub second_too_far : (s t : List Named) → greatest_reach < all_sides t → ¬ (reach_of (s ++ t) ≤ greatest_reach)
 second_too_far s t much le = absurd (omega (arith, much, le, sides-append s t))
 
--- what a walk over the whole list has found
+-- the bounds after the whole list
 pub goes_on_to : (s : List Named) (line more g m i : ℕ) → length s ≤ i → (AllInRange (drop i s) → AllInRange s) → max g (greatest_line (drop i s)) ≡ max line (greatest_line s) → m + all_sides (drop i s) ≡ more + all_sides s → g ≤ 2 ^ 30 → m ≤ 2 ^ 30 → GoesOnTo s line more g m
 goes_on_to s line more g m i le ranges greatest all small few =
     let a : greatest_line (drop i s) ≡ 0 = at_drop_all greatest_line s i le in

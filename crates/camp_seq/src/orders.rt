@@ -127,8 +127,8 @@ fn order_anew(items: &mut [Named])
 /// Selects, for each index, the least label that can be moved to the front of the rest, trying the labels in
 /// ascending order. If the first one succeeds each time, n elements take at most n * (n - 1) / 2 commuting
 /// steps. A label that is blocked costs at most twice the steps up to where it is blocked; at worst nearly
-/// all are blocked late at each index, n^3 / 3 steps. What is blocked has to be tried anew at each index,
-/// since near the limit of a hunk's line it may pass later, and the other way round.
+/// all are blocked late at each index, n^3 / 3 steps. A blocked label has to be tried again at each index:
+/// near the limit of a hunk's line it may no longer be blocked there, or another may be.
 fn order_by_selection(items: &mut [Named])
     ensures { Norm items.old items.new }
 {

@@ -1,4 +1,4 @@
--- What edits at a place do to a sorted list of entries, and to the map that it stands for.
+-- What edits of a sorted list of entries do to the finite map that the list stands for.
 use Rattle.camp_share.proofs.Words.{◌≡◌, ℕ, zero, suc, Bool, true, false, cond, not, ◌&&◌, T, List, [], ◌∷◌, get_or, set, sym, ◌<◌, ◌≤◌, arith, ap, subst, ◌∙◌, refl, length, None, Some, insert, remove, Ordering, is_lt, is_eq, eq_by_cmp, ordering_reverse, Less, Equal, Greater, IsTotalOrder, tied_itself, tied_back, alike_right, eq_by_cmp_equiv, from_sorted}
 use Rattle.camp_share.proofs.Words.{IsAntisymmetric, same_map, same_entries_map, entries-from_sorted, entries-insert, get-from_sorted, get-remove, get_tied, len-entries, empty_of_len, find, put, is_sorted, below_all, where_key, is_sorted-put, is_sorted-where_key, find-where_key, IsAt, WouldBeAt}
 use Rattle.std.specs.FinMap as map
@@ -41,19 +41,19 @@ would_be_within R (e ∷ es) k zero h = omega arith
 would_be_within R (e ∷ es) k (suc i) h = let l = would_be_within R es k i h.1 in omega arith
 
 module _ {K : Type 0} (R : K → K → Ordering) (o : IsTotalOrder R) where
-  -- what is below one key is above from the other side
+  -- an order is antisymmetric: less one way is greater the other way
   pub above : (x y : K) → R x y ≡ Less → R y x ≡ Greater
   above x y h = o.antisymm y x ∙ ap ordering_reverse h
 
   ties : (x y : K) → x ≡ y → R y x ≡ Equal
   ties x y h = subst (λ z. R z x ≡ Equal) h (tied_itself o x)
 
-  -- the test that passes all keys but one
+  -- the test that is true for all keys but one
   abbrev others : K → K → Bool
   others k x = not (eq_by_cmp R k x)
 
   module _ {X : Type 0} where
-    -- an entry put at its place
+    -- an entry inserted at its position
     pub insert_is_put : (es : List (K × X)) (k : K) (v : X) (i : ℕ) → WouldBeAt R es k i → insert es i (k, v) ≡ put R k v es
     insert_is_put [] k v zero h = refl
     insert_is_put [] k v (suc i) h = absurd h
@@ -72,7 +72,7 @@ module _ {K : Type 0} (R : K → K → Ordering) (o : IsTotalOrder R) where
     absent (e ∷ es) k zero h sorted = rw h (missing k e.0 es h (first _ _ sorted))
     absent (e ∷ es) k (suc i) h sorted = rw (above e.0 k h.0) (absent es k i h.1 (second _ _ sorted))
 
-    -- a key further on is greater
+    -- a later key is greater
     below_at : (l k : K) (es : List (K × X)) (i : ℕ) → IsAt es k i → T (below_all R l es) → R l k ≡ Less
     below_at l k [] i h below = absurd h
     below_at l k (e ∷ es) zero h below = subst (λ x. R l x ≡ Less) h (is_less _ (first _ _ below))
@@ -83,7 +83,7 @@ module _ {K : Type 0} (R : K → K → Ordering) (o : IsTotalOrder R) where
     present (e ∷ es) k zero d h sorted = rw (ties e.0 k h) refl
     present (e ∷ es) k (suc i) d h sorted = rw (above e.0 k (below_at e.0 k es i h (first _ _ sorted))) (present es k i d h (second _ _ sorted))
 
-    -- an entry written over
+    -- an entry overwritten
     pub set_is_put : (es : List (K × X)) (k : K) (v : X) (i : ℕ) → IsAt es k i → T (is_sorted R es) → set es i (k, v) ≡ put R k v es
     set_is_put [] k v i h sorted = absurd h
     set_is_put (e ∷ es) k v zero h sorted = rw (ties e.0 k h) (ap (λ x. (x, v) ∷ es) (sym h))
@@ -98,7 +98,7 @@ module _ {K : Type 0} (R : K → K → Ordering) (o : IsTotalOrder R) where
         let rest = all_kept k es (second _ _ below) in
         rw (less, rest) refl
 
-    -- an entry taken out
+    -- an entry removed
     pub remove_is_where_key : (es : List (K × X)) (k : K) (i : ℕ) → IsAt es k i → T (is_sorted R es) → remove es i ≡ where_key R (others k) es
     remove_is_where_key [] k i h sorted = absurd h
     remove_is_where_key (e ∷ es) k zero h sorted = rw (ties e.0 k h) (sym (all_kept k es (subst (λ x. T (below_all R x es)) h (first _ _ sorted))))
@@ -138,6 +138,6 @@ module _ {K : Type 0} (R : K → K → Ordering) (o : IsTotalOrder R) where
     missing_at m k q none true e = rw e (get_tied o m k q (tied_back o q k (is_equal (R q k) (subst T (sym e) tt))) ∙ none)
     missing_at m k q none false e = rw e refl
 
-    -- where a map has not the key, nothing is taken out
+    -- removing a key that a map does not have changes nothing
     pub map_kept : IsAntisymmetric R → (m : map.FinMap R X) (k : K) → map.get m k ≡ None → m ≡ map.remove m k
     map_kept same m k none = same_map o same m (map.remove m k) (λ q. missing_at m k q none (eq_by_cmp R q k) refl ∙ sym (get-remove o m k q))

@@ -1,4 +1,4 @@
--- Where a search finds a key, part by part.
+-- Finds a key chunk by chunk.
 use Rattle.camp_share.proofs.Words.{◌≡◌, ℕ, zero, suc, ◌+◌, ◌<◌, ◌≤◌, T, List, [], ◌∷◌, ◌++◌, length, get_or, false, append-nil, ap, subst, ◌∙◌, Ok, Err, Result, IfOk, IfErr, arith, Ordering, Less, Equal, Greater, ordering_index, ordering_reverse, is_lt, IsTotalOrder, IsAntisymmetric, is_sorted, below_all, IsAt, WouldBeAt, IsAbove}
 use Rattle.std.specs.List.Sorted.{IsSearchInRange, IsBinarySearchResult, IsNonDecreasingBy}
 use Rattle.std.proofs.lemmas.List.Sorted.{searchable_from_sorted}
@@ -21,13 +21,13 @@ module _ {K X : Type 0} (R : K → K → Ordering) where
   below_next k [] ys y h = is_less _ (first _ _ h)
   below_next k (x ∷ xs) ys y h = below_next k xs ys y (second _ _ h)
 
-  -- a key above those behind is above those before them too
+  -- a key above the last entries of a sorted list is above all of them
   pub above_behind : IsTotalOrder R → (k : K) (xs ys : List (K × X)) → 0 < length ys → T (is_sorted R (xs ++ ys)) → IsAbove R ys k → IsAbove R (xs ++ ys) k
   above_behind o k xs [] some h all = absurd (omega arith)
   above_behind o k [] (y ∷ ys) some h all = all
   above_behind o k (x ∷ xs) (y ∷ ys) some h all = (o.trans x.0 y.0 k (below_next x.0 xs ys y (first _ _ h)) all.0, above_behind o k xs (y ∷ ys) some (second _ _ h) all)
 
-  -- a key above two lists of entries is above them one behind the other
+  -- a key above two lists of entries is above the joined list
   pub above_both : (k : K) (xs ys : List (K × X)) → IsAbove R xs k → IsAbove R ys k → IsAbove R (xs ++ ys) k
   above_both k [] ys h all = all
   above_both k (x ∷ xs) ys h all = (h.0, above_both k xs ys h.1 all)
@@ -61,7 +61,7 @@ module _ {K X : Type 0} where
   at_front k (x ∷ xs) ys (suc i) h = at_front k xs ys i h
 
 module _ {K X : Type 0} (R : K → K → Ordering) (o : IsTotalOrder R) (same : IsAntisymmetric R) where
-  -- each key is below the next
+  -- each key is less than the next
   neighbours : (es : List (K × X)) → T (is_sorted R es) → (k : ℕ) (d : K × X) → suc k < length es → R (get_or es k d).0 (get_or es (suc k) d).0 ≡ Less
   neighbours [] sorted k d within = absurd (omega arith)
   neighbours (e ∷ []) sorted k d within = absurd (omega arith)
@@ -85,7 +85,7 @@ module _ {K X : Type 0} (R : K → K → Ordering) (o : IsTotalOrder R) (same : 
   between (e ∷ es) key zero within low high = o.antisymm key e.0 ∙ ap ordering_reverse (high e (omega arith))
   between (e ∷ es) key (suc i) within low high = (low 0 e (omega arith), between es key i (omega arith) (λ j d l. low (suc j) d (omega arith)) (λ d l. high d (omega arith)))
 
-  -- what a binary search among entries in order finds
+  -- the result of a binary search among sorted entries
   pub searched : (es : List (K × X)) → T (is_sorted R es) → (key : K) (r : Result ℕ ℕ) → IsSearchInRange r (length es) → IsBinarySearchResult (λ e. R e.0 key) es r → IfOk r (IsAt es key) × IfErr r (WouldBeAt R es key)
   searched es sorted key (Ok i) bound equal = (at_equal es key i bound equal, tt)
   searched es sorted key (Err i) bound parts =

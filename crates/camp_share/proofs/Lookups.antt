@@ -1,4 +1,4 @@
--- What the part that is found for a key tells of the key.
+-- From the chunk found for a key to the result of the lookup.
 use Rattle.camp_share.proofs.Words.{◌≡◌, ℕ, ◌+◌, ◌<◌, ◌≤◌, T, List, None, Option, Some, length, get_or, ap, subst, sym, ◌∙◌, arith, add-zero, Ordering, Vec, IsTotalOrder, is_sorted, find, joined, IsAt, WouldBeAt}
 use Rattle.camp_share.proofs.Entries.{at_within, would_be_within}
 use Rattle.camp_share.proofs.PartLemmas.{read_twice, place_inside, place_at_end}
@@ -11,7 +11,7 @@ module _ {K X Z : Type 0} (R : K → K → Ordering) (o : IsTotalOrder R) (parts
   found : IsPartFor R parts key index found_part
   found = subst (λ n. IsPartFor R parts key n found_part) (sym same) told
 
-  -- where there is no part, the key would stand behind all
+  -- if no chunk is found, the key is above all entries
   pub behind_all : found_part ≡ None → WouldBeInPart R parts key index 0
   behind_all none =
       let past : length parts ≤ index = elim (slice_get_cases parts index).1 [ inl w ↦ absurd (none-some w.0 (sym none ∙ found.read ∙ w.2)) | inr w ↦ w.0 ] in
@@ -27,19 +27,19 @@ module _ {K X Z : Type 0} (R : K → K → Ordering) (o : IsTotalOrder R) (parts
     pub entries_sorted : T (is_sorted R entries)
     entries_sorted = subst (λ es. T (is_sorted R es)) (sym is) (part_sorted R o parts sorted key index part within read)
 
-    -- a key that is not in the part is in none
+    -- a key that is not in the chunk is not in the map
     pub gap_found : (place : ℕ) → WouldBeAt R entries key place → WouldBeInPart R parts key index place
     gap_found place would =
         let gap = subst (λ es. WouldBeAt R es key place) is would in
         (place_inside parts index part within read place (would_be_within R part.items key place gap), gap_in_part R o parts sorted key index part within read place found.before (found.reached within) gap)
 
-    -- a key that is in the part
+    -- a key that is in the chunk
     pub entry_found : (place : ℕ) → IsAt entries key place → IsInPart parts key index place
     entry_found place there =
         let here = subst (λ es. IsAt es key place) is there in
         let inside = at_within part.items key place here in
         (within, λ other again. subst (λ (p : Vec (K × X) Z). IsAt p.items key place) (read_twice parts index part other within read again) here, at_in_part R o parts sorted key index part within read place here, place_inside parts index part within read (place + 1) (omega (arith, inside)))
 
-    -- its value in the part is that in the map
+    -- its value in the chunk is its value in the map
     pub value_is : find R key entries ≡ find R key (joined parts)
     value_is = ap (find R key) is ∙ value_in_part R o parts sorted key index part within read found.before (found.reached within)

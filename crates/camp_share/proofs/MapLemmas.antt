@@ -1,4 +1,4 @@
--- What the maps of entries in order are, and what edits of the entries do to them.
+-- The finite maps of sorted entries, and how edits of the entries change them.
 use Rattle.camp_share.proofs.Words.{◌≡◌, ℕ, T, None, List, length, set, sym, ap, subst, ◌∙◌, insert, remove, Ordering, IsTotalOrder, IsAntisymmetric, entries-from_sorted, get-from_sorted, len-entries, is_sorted, find, map_of, IsAt, WouldBeAt}
 use Rattle.std.specs.FinMap as map
 use Rattle.camp_share.proofs.Entries.{map_inserted, map_replaced, map_removed, map_kept, absent}
@@ -16,7 +16,7 @@ module _ {K X : Type 0} (R : K → K → Ordering) (o : IsTotalOrder R) (inside 
   pub get_is : (key : K) → map.get (map_of R now) key ≡ find R key inside
   get_is key = get-from_sorted R now key in_order ∙ ap (find R key) (sym is)
 
-  -- what an edit of the entries makes of their map
+  -- the map of edited entries
   edited : (edit : map.FinMap R X → map.FinMap R X) (done after : List (K × X)) → after ≡ done → T (is_sorted R done) × (map_of R done ≡ edit (map_of R inside)) → T (is_sorted R after) × (map_of R after ≡ edit (map_of R now))
   edited edit done after becomes made = subst (λ es. T (is_sorted R es) × (map_of R es ≡ edit (map_of R now))) (sym becomes) (made.0, made.1 ∙ ap (λ es. edit (map_of R es)) is)
 
@@ -29,7 +29,7 @@ module _ {K X : Type 0} (R : K → K → Ordering) (o : IsTotalOrder R) (inside 
   pub removal : IsAntisymmetric R → (key : K) (place : ℕ) (after : List (K × X)) → IsAt inside key place → after ≡ remove inside place → T (is_sorted R after) × (map_of R after ≡ map.remove (map_of R now) key)
   removal same key place after here becomes = edited (λ m. map.remove m key) _ after becomes (map_removed R o same inside key place here sorted)
 
-  -- a key that is not there
+  -- a key that is not in the map
   pub missing : (key : K) (place : ℕ) → WouldBeAt R inside key place → map.get (map_of R now) key ≡ None
   missing key place gap = get_is key ∙ absent R o inside key place gap sorted
 

@@ -1,4 +1,4 @@
--- A key's place among entries in parts, from its place in one part.
+-- A key's position among entries in chunks, from its position in one chunk.
 use Rattle.camp_share.proofs.Words.{◌≡◌, ◌↔◌, ℕ, zero, suc, ◌+◌, ◌-◌, ◌<◌, ◌≤◌, Bool, true, false, true≢false, T, List, [], ◌∷◌, ◌++◌, length, get_or, slice_get, take, drop, IsTrue, Some, sym, ap, subst, ◌∙◌, refl, arith, length-append, length-drop, append-nil, drop_at, get_or-drop, take-append-drop, take_all, get_or_append_left, get_or_default, flat_map-append}
 use Rattle.camp_share.proofs.Words.{All, Bor, Ordering, Less, Equal, Greater, ordering_reverse, Vec, is_lt, IsTotalOrder, is_sorted, find, joined, IsPart, IsAt, WouldBeAt, IsAbove}
 use Rattle.camp_share.proofs.Entries.{first, second, is_less, above, missing}
@@ -14,7 +14,7 @@ less_told Less = (λ h. refl, λ h. refl)
 less_told Equal = (λ h. is_less Equal (subst T (sym h) tt), λ h. ap is_lt h)
 less_told Greater = (λ h. is_less Greater (subst T (sym h) tt), λ h. ap is_lt h)
 
--- the last key of the last part is below a key
+-- the last key of the last chunk is less than a key
 abbrev pub last_ends_below : {K X Z : Type 0} → (K → K → Ordering) → List (Vec (K × X) Z) → K → Bool
 last_ends_below order parts key = passes (λ part. ends_below order part.items key) (slice_get parts (length parts - 1))
 
@@ -29,7 +29,7 @@ from_first : (P : ℕ → Type 0) (n : ℕ) → P 0 → ((m : ℕ) → n ≡ m +
 from_first P zero none some = none
 from_first P (suc m) none some = subst P {x = m + 1} {y = suc m} (omega arith) (some m (omega arith))
 
--- a border of what a closure answers is one of the test that it computes
+-- a border of a closure's results is a border of the test that the closure computes
 pub border_of : {F A : Type 0} (g : Shared F (Bor A × Unit {0}) Bool) (f : F) (test : A → Bool) (xs : List A) (n : ℕ) → ((y : Bor A) (b : Bool) → g.post f (y, tt) b → b ≡ test y.now)
     → IsBorder (λ x. FnReturnsAt g f x true) (λ x. FnReturnsAt g f x false) xs n n → IsBorder (λ x. test x ≡ true) (λ x. test x ≡ false) xs n n
 border_of {F} {A} g f test xs n computes border =
@@ -38,7 +38,7 @@ border_of {F} {A} g f test xs n computes border =
     (λ x some read. told x true (border.0 x some read), λ x more read. told x false (border.1 x more read))
 
 module _ {K X : Type 0} (R : K → K → Ordering) (o : IsTotalOrder R) where
-  -- the last key of entries in order tells whether a key is above them all
+  -- a key is above sorted entries exactly if it is above the last of them
   by_last : (es : List (K × X)) (key : K) → T (is_sorted R es) → 0 < length es → IsTrue (ends_below R es key) ↔ IsAbove R es key
   by_last [] key sorted some = absurd (omega arith)
   by_last (e ∷ []) key sorted some = (λ yes. ((less_told _).0 yes, tt), λ all. (less_told _).1 all.0)
@@ -47,7 +47,7 @@ module _ {K X : Type 0} (R : K → K → Ordering) (o : IsTotalOrder R) where
       let rest = by_last (f ∷ es) key (second _ _ sorted) (omega arith) in
       (λ yes. let all = rest.0 (sym same ∙ yes) in (o.trans e.0 f.0 key (is_less _ (first _ _ (first _ _ sorted))) all.0, all), λ all. same ∙ rest.1 all.1)
 
-  -- what a search by halves finds, where a test tells of each item whether a key is above the parts up to its end
+  -- the result of a binary search by a test of each item: is the key above the chunks up to the item's end?
   pub by_halves : {A Z : Type 0} (parts : List (Vec (K × X) Z)) (key : K) (start : ℕ → ℕ) → IsAbove R (joined (take (start 0) parts)) key → (xs : List A) (test : A → Bool)
       → ((i : ℕ) (x : A) → i < length xs → x ≡ get_or xs i x → IsTrue (test x) ↔ IsAbove R (joined (take (start (i + 1)) parts)) key)
       → (n : ℕ) → n ≤ length xs → IsBorder (λ y. test y ≡ true) (λ y. test y ≡ false) xs n n
@@ -60,7 +60,7 @@ module _ {K X : Type 0} (R : K → K → Ordering) (o : IsTotalOrder R) where
         λ inside all. let x = item n inside in true≢false (sym ((told n x.0 inside x.1).1 all) ∙ border.1 x.0 inside x.1),
       )
 
-  -- behind entries that a key is above its value is the same
+  -- if a key is above the first entries, its value is that in the rest
   find_behind : (key : K) (front rest : List (K × X)) → IsAbove R front key → find R key (front ++ rest) ≡ find R key rest
   find_behind key [] rest before = refl
   find_behind key (e ∷ es) rest before = rw (above R o e.0 key before.0) (find_behind key es rest before.1)
@@ -71,7 +71,7 @@ module _ {K X : Type 0} (R : K → K → Ordering) (o : IsTotalOrder R) where
   find_at Equal key e es rest is sorted reached further = rw is refl
   find_at Greater key e es rest is sorted reached further = rw is (further (λ all. reached (o.antisymm e.0 key ∙ ap ordering_reverse is, all)))
 
-  -- a key that is not above all of some entries has no value behind them
+  -- if a key is not above the first entries, it has no value in the rest
   find_front : (key : K) (es rest : List (K × X)) → T (is_sorted R (es ++ rest)) → ¬ (IsAbove R es key) → find R key (es ++ rest) ≡ find R key es
   find_front key [] rest sorted reached = absurd (reached tt)
   find_front key (e ∷ es) rest sorted reached = find_at (R key e.0) key e es rest refl sorted reached (find_front key es rest (second _ _ sorted))
@@ -99,7 +99,7 @@ module _ {K X : Type 0} (R : K → K → Ordering) (o : IsTotalOrder R) where
           subst (λ xs. IsAbove R xs key) (sym grown)
           (above_behind R o key (joined (take index parts)) part.items some (subst (λ xs. T (is_sorted R xs)) grown sorted_one_further) all)
 
-      -- the last key of a part tells whether a key is above all up to its end
+      -- a key is above all entries up to the end of a chunk exactly if it is above the chunk's last key
       pub tells : IsPart part → IsTrue (ends_below R part.items key) ↔ IsAbove R (joined (take (index + 1) parts)) key
       tells is =
           let last = by_last part.items key part_sorted is.0 in (
@@ -117,7 +117,7 @@ module _ {K X : Type 0} (R : K → K → Ordering) (o : IsTotalOrder R) where
           subst (λ xs. WouldBeAt R xs key (length (joined (take index parts)) + place)) (sym divided)
           (would_behind R key (joined (take index parts)) (part.items ++ joined (drop (index + 1) parts)) place _ refl before (would_front R key part.items (joined (drop (index + 1) parts)) place (λ all. reached (subst (λ xs. IsAbove R xs key) (sym (up_to_here parts index part within read)) (above_both R key _ part.items before all))) here))
 
-      -- the value of a key in the part is its value in the map
+      -- the value of a key in the chunk is its value in the map
       pub value_in_part : IsAbove R (joined (take index parts)) key → ¬ (IsAbove R (joined (take (index + 1) parts)) key) → find R key part.items ≡ find R key (joined parts)
       value_in_part before reached =
           let front = joined (take index parts) in
@@ -132,7 +132,7 @@ module _ {K X : Type 0} (R : K → K → Ordering) (o : IsTotalOrder R) where
         let all : joined (take index parts) ≡ joined parts = ap joined (take_all index parts past) in
         subst (λ xs. WouldBeAt R xs key (length (joined (take index parts)))) all (above_would R key (joined (take index parts)) _ refl before)
 
-  -- some parts behind those that are passed, where a key is looked for among them alone
+  -- the chunks after those that were skipped, to which the search is limited
   pub record Stands {Z : Type 0} (parts : List (Vec (K × X) Z)) (key : K) (passed : ℕ) (some : List (Vec (K × X) Z)) : Type 0 where
     pub rest : List (Vec (K × X) Z)
     pub stand : drop passed parts ≡ some ++ rest
@@ -141,7 +141,7 @@ module _ {K X : Type 0} (R : K → K → Ordering) (o : IsTotalOrder R) where
     pub ends : passed + length some < length parts → ¬ (IsAbove R (joined (take (passed + length some) parts)) key)
 
   module _ {Z : Type 0} (parts : List (Vec (K × X) Z)) (sorted : T (is_sorted R (joined parts))) (all : All IsPart parts) (key : K) where
-    -- the last key of a part that stands behind others tells whether a key is above all up to its end
+    -- a key is above all entries up to the end of a chunk exactly if it is above its last key, in chunks after others
     tells_behind : (some rest : List (Vec (K × X) Z)) (passed : ℕ) → drop passed parts ≡ some ++ rest → (i : ℕ) (part : Vec (K × X) Z) → i < length some → part ≡ get_or some i part → IsTrue (ends_below R part.items key) ↔ IsAbove R (joined (take (passed + i + 1) parts)) key
     tells_behind some rest passed stand i part within read =
         let inside : passed + i < length parts = omega (arith, length-drop passed parts, ap length stand ∙ length-append some rest) in
@@ -149,11 +149,12 @@ module _ {K X : Type 0} (R : K → K → Ordering) (o : IsTotalOrder R) where
         tells parts sorted key (passed + i) part inside got (part_is parts (passed + i) part inside got all)
 
     module _ {W : Type 0} (closed : List (Vec (Vec (K × X) Z) W)) (last : List (Vec (K × X) Z)) (whole : joined closed ++ last ≡ parts) where
-      -- the parts from a closed one on
+      -- the chunks from a sealed one on
       behind : (i : ℕ) → drop (length (joined (take i closed))) parts ≡ joined (drop i closed) ++ last
       behind i = ap (drop (length (joined (take i closed)))) (sym whole ∙ divided_before closed last i) ∙ drop_at (joined (take i closed)) (joined (drop i closed) ++ last) (length (joined (take i closed))) refl
 
-      -- the last key of a closed part's last part tells whether a key is above all up to its end
+      -- a key is above all entries up to the end of a sealed group exactly if it is above the last key of its last
+      -- chunk
       tells_group : All IsPart closed → (i : ℕ) (group : Vec (Vec (K × X) Z) W) → i < length closed → group ≡ get_or closed i group → IsTrue (last_ends_below R group.items key) ↔ IsAbove R (joined (take (length (joined (take (i + 1) closed))) parts)) key
       tells_group groups i group within read =
           let some = (part_is closed i group within read groups).0 in
@@ -190,7 +191,7 @@ module _ {K X : Type 0} (R : K → K → Ordering) (o : IsTotalOrder R) where
           ends = λ more. absurd (omega (arith, ap length whole, length-append (joined closed) last, ap (λ ps. length (joined ps)) (take_all i closed past)));
         }
 
-    -- the part that is found among them
+    -- the chunk that is found among them
     module _ (some : List (Vec (K × X) Z)) (passed : ℕ) (s : Stands parts key passed some) (found : ℕ) (within : found ≤ length some) where
       found_within : passed + found ≤ length parts
       found_within = omega (arith, s.inside, length-drop passed parts, ap length s.stand ∙ length-append some s.rest)
@@ -210,7 +211,7 @@ module _ {K X : Type 0} (R : K → K → Ordering) (o : IsTotalOrder R) where
                 (omega arith),
           )
 
-      -- what stands among them at the place that is found is the part there, or there is none in either
+      -- the found chunk among them is the found chunk of the whole list, or neither exists
       pub found_part : IsBorder (λ part. ends_below R part.items key ≡ true) (λ part. ends_below R part.items key ≡ false) some found found → slice_get some found ≡ slice_get parts (passed + found)
       found_part border = elim (slice_get_cases some found).1 [
         | inl here ↦

@@ -2,7 +2,7 @@
 pub use Rattle.std.proofs.Common.{All, Bool, Bor, Equal, Err, Greater, IfErr, IfOk, IsTrue, Less, List, None, Ok, Option, Ordering, Result, Some, T, Vec, [], add-zero, ap, append-nil, append_assoc, arith, cond, drop, drop-drop, drop_at, false, get_or, get_or-append-add, get_or-drop, insert, is_eq, is_lt, length, length-append, length-drop, not, option_copied, refl, remove, rules, set, slice_get}
 pub use Rattle.std.proofs.Common.{slice_range, subst, suc, sym, take, take-append-drop, take_all, true, true≢false, vec_len, zero, ℕ, ◌&&◌, ◌++◌, ◌+◌, ◌-◌, ◌<◌, ◌↔◌, ◌∙◌, ◌∷◌, ◌≡◌, ◌≤◌}
 pub use Rattle.std.proofs.Math.Seq.{drop-append-add, take-append-add, take-nil}
--- goals that `search` fails at and `grind` proves have `grind` as their answer where the search takes long
+-- where a search is slow, goals that only `grind` proves are given to `grind` directly
 pub use Rattle.std.proofs.lemmas.Grind.{common_steps, elements, flat_map-append}
 pub use Rattle.std.proofs.lemmas.List.{drop-append-le, drop_all, drop_more, get_or_append_left, get_or_default, set_split, take-append-le, take_more}
 pub use Rattle.std.proofs.lemmas.List.Elements.{All-append, All-drop, All-tail, All-take, recursion_from_All}

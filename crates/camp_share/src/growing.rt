@@ -316,7 +316,7 @@ pub(crate) fn append_copies<T: Share + Drop>(
     Ok(())
 }
 
-// Reserves exactly the capacity of a whole chunk once the vector is more than half of one, in place of
+// Reserves exactly the capacity of a whole chunk once the vector is more than half of one, instead of
 // doubling past it.
 fn make_room<T>(items: &mut Vec<T>) -> Result<(), AllocError>
     requires { length items.old.items < longest_part }

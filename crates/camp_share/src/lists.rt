@@ -156,7 +156,7 @@ impl<T: Share + Drop> SharedList<T> {
         self.with_one(index, index, item)
     }
 
-    // Returns the list with one element in place of `from..to`.
+    // Returns the list with the elements `from..to` replaced by one.
     fn with_one(&self, from: usize, to: usize, item: T) -> Result<SharedList<T>, AllocError>
         requires range { from ≤ to }
         requires within { to ≤ length self.now }
@@ -183,7 +183,7 @@ impl<T: Share + Drop> SharedList<T> {
         })
     }
 
-    /// Returns the list with copies of `items` in place of the elements `from..to`.
+    /// Returns the list with the elements `from..to` replaced by copies of `items`.
     pub fn spliced(&self, from: usize, to: usize, items: &[T]) -> Result<SharedList<T>, AllocError>
         requires range { from ≤ to }
         requires within { to ≤ length self.now }

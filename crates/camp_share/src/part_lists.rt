@@ -146,7 +146,7 @@ impl<T: Share + Drop> PartList<T> {
         Ok(items)
     }
 
-    // Returns the list with copies of `items` in place of the elements `from..to`.
+    // Returns the list with the elements `from..to` replaced by copies of `items`.
     pub(crate) fn spliced(
         &self,
         from: usize,

@@ -68,7 +68,7 @@ impl<T: Drop> Front<T> {
 }
 
 impl<T: Share + Drop> Front<T> {
-    // Returns the elements with copies of `items` in place of `from..to`.
+    // Returns the elements with `from..to` replaced by copies of `items`.
     pub(crate) fn spliced(
         &self,
         alloc: Global,
@@ -147,7 +147,7 @@ impl<T: Drop> OnePart<T> {
 }
 
 impl<T: Share + Drop> OnePart<T> {
-    // Returns the elements with one in place of `from..to`.
+    // Returns the elements with `from..to` replaced by one.
     pub(crate) fn with_one(
         &self,
         alloc: Global,
@@ -167,7 +167,7 @@ impl<T: Share + Drop> OnePart<T> {
         OnePart::of(items)
     }
 
-    // Returns the elements with copies of `new` in place of `from..to`.
+    // Returns the elements with `from..to` replaced by copies of `new`.
     pub(crate) fn spliced(
         &self,
         alloc: Global,
@@ -270,8 +270,8 @@ fn both<A: Drop, B: Drop>(
     Ok((first, second))
 }
 
-// True if the last chunk can take `new` elements in place of `gone` of its own: up to 24 in all if nothing is
-// before it, else up to 12.
+// True if the last chunk can take `new` elements for `gone` of its own: up to 24 in all if nothing is before
+// it, else up to 12.
 pub(crate) fn has_room<T>(border: usize, last: &OnePart<T>, gone: usize, new: usize) -> bool {
     let most = if border == 0 { MAX_PART_LENGTH } else { FEW };
     let kept = last.items().len().saturating_sub(gone);

@@ -9,7 +9,7 @@ use Rattle.camp_catch.specs.Merging.{JoinsWhere}
 use Rattle.camp_catch.specs.declared.catches.Catch.{Catch}
 use Rattle.camp_catch.specs.declared.catches.Conflictor.{Conflictor}
 
--- r | s -> s2 | r2: two effects merge behind what they have in common, each in normal order
+-- r | s -> s2 | r2: two effects merge after their common part, each in normal order
 pub record EffectsMerge (r s s2 r2 : List Named) : Type 0 where
   pub merged : List Named
   pub left : List Named

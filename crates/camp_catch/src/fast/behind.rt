@@ -19,7 +19,7 @@ use camp_ctx::Contexted;
 use camp_share::{Share, Shared};
 use std::alloc::{AllocError, Global};
 
-/// Merges one catch with a list to what it is after the list. What the list becomes is not made.
+/// Merges one catch with a list to what it is after the list. Does not make what the list becomes.
 pub(crate) fn merge_behind_all(
     alloc: Global,
     q: &[Gaining],

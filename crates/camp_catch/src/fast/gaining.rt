@@ -17,7 +17,7 @@ use camp_share::{Share, Shared};
 use std::alloc::{AllocError, Global};
 use std::marker::Model;
 
-/// A catch, and the conflicts that it has gained since its set was made. The set is made anew once for all of
+/// A catch, and the conflicts that it has gained since its set was made. The set is rebuilt once for all of
 /// them.
 #[derive(Drop)]
 pub(crate) struct Gaining {

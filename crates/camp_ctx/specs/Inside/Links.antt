@@ -1,4 +1,4 @@
--- Primitives that are added by inserting them before a context as they stand.
+-- Primitives that are added by inserting them before a context unchanged.
 use Rattle.std.specs.Prelude.{◌≢◌, ℕ, ◌<◌, ◌≤◌, List, [], ◌∷◌, ◌++◌, length, drop}
 use Rattle.camp_prim.specs.Effect.{inverse_of}
 use Rattle.camp_prim.specs.Labels.{label_of}

@@ -66,7 +66,7 @@ fn greatest_in_order(items: &[Named]) -> Option<&Named>
     Some(greatest)
 }
 
-/// Returns the element with the greatest label, one more element included, if that stays after the others;
+/// Returns the element with the greatest label among those so far and `x`, if `x` stays after the others;
 /// else `None`.
 fn greatest_with<'a>(greatest: &'a Named, last: &Named, x: &'a Named) -> Option<&'a Named>
     ensures { IfSome result (λ more. StaysLast (label_of greatest.now) last.now x.now (label_of more.now)) }

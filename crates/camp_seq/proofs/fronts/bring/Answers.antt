@@ -4,7 +4,7 @@ use Rattle.camp_seq.proofs.ListSteps.{turned_right}
 use Rattle.camp_seq.proofs.fronts.bring.Goals as goal
 use Rattle.camp_seq.proofs.fronts.bring.Goals.{After-precede}
 
--- the parts, and the first element with the label at the front of the second one
+-- the parts of the list, and the first element with the label at the front of the second part
 cut : (c : After-precede) → (c.split_at_mut-before.result.0.now ≡ c.in-Some.ensures.before) × (c.split_at_mut-before.result.1.now ≡ c.in-Some.ensures.first ∷ c.in-Some.ensures.after)
 cut c =
     let w = c.in-Some.ensures in

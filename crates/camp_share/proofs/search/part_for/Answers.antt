@@ -7,7 +7,7 @@ use Rattle.camp_share.proofs.search.part_for.Given.{Over}
 use Rattle.camp_share.proofs.search.part_for.Goals as goal
 use Rattle.camp_share.proofs.search.part_for.Goals.{Joined-at-closed, then-at-closed, else-at-closed}
 
--- the parts among which the key is looked for stand behind those that are passed
+-- the chunks in which the key is searched come after those that were skipped
 among : (g : Over) (c : Joined-at-closed g) → Stands g.K.Ord.cmp g.met.K.Ord.total c.args.parts.now c.args.key.now (length (joined (take c.by_halves-at.result c.divided.result.0.now))) c.if-at-closed.among.now
 among g c =
     let found = c.by_halves-at.ensures in

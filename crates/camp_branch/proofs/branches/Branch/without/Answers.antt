@@ -23,7 +23,7 @@ with_end-requires-clause-within c =
 stays : (c : After-deref) (n : List ℕ) → contains_key (map_of (slice_cmp nat_cmp) c.in_ok-staying.staying) n ≡ (has_patch c.args.self.now n && not (is_among (names_in c.args.names.now) n))
 stays c = stays_by (map_of (slice_cmp nat_cmp) c.self.inside.names) _ c.self.inside.catches c.args.self.now (names_in c.args.names.now) c.self.invariant.named c.self.view_is c.in_ok-staying.ensures
 
--- what stands behind the front
+-- the catches after the unchanged prefix
 front : (c : After-deref) → StaysInFront c.args.self.now (names_in c.args.names.now) (map_of (slice_cmp nat_cmp) c.in_ok-staying.staying) c.front_before-start.result c.deref.result.now
 front c = record {
   stays = stays c;
