@@ -1,7 +1,6 @@
-//! `camp`: reads a script of calls from standard input, runs it, and writes its answers to standard
-//! output. The exit status is 0 where the script was run, 1 where it has a fault, 2 where the
-//! command line is refused, and 3 where memory ran out or input or output failed; standard error
-//! says why.
+//! `camp`: reads a script of calls from standard input, runs it, and writes its answers to standard output.
+//! The exit status is 0 if the script was run, 1 if it has a fault, 2 if the command line is rejected, and 3
+//! if memory ran out or input or output failed; standard error says why.
 #![tactic(auto)]
 
 ghost use Rattle.std.specs.Prelude.{IfOk, ◌≤◌};
@@ -30,7 +29,7 @@ fn main(rt: HostRuntime) -> ExitCode {
     }
 }
 
-// What the command line asks for.
+// Executes what the command line asks for.
 fn asked<R: Env + AllocGlobal>(rt: &R) -> Result<Options, WordsFault>
     ensures { IfOk result (λ options. (1 ≤ options.tries) × (options.tries ≤ most_tries)) }
 {

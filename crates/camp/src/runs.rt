@@ -1,3 +1,4 @@
+//! Running a script as the options say.
 ghost use Rattle.std.specs.Prelude.{◌≡◌, ◌≤◌, false, true};
 ghost use Rattle.camp_clients.specs.Runs.{IsShared};
 ghost use Rattle.camp_clients.specs.Sections.{most_tries};
@@ -12,7 +13,7 @@ use std::io::{Read, Write};
 use std::sync::Wait;
 use std::thread::Threads;
 
-/// Runs the script that a reader gives in the way that the options ask for.
+/// Runs the script of a reader in the way that the options ask for.
 pub(crate) fn run<T: Threads + Wait + Sync, R: Read, W: Write>(
     rt: &T,
     alloc: Global,

@@ -1,17 +1,18 @@
+//! Why the program ends without having written its answers.
 use camp_options::{WordsFault, tell_fault};
 use camp_run::RunFault;
 
 /// Why the program ends without having written the answers to a script.
 #[derive(Debug, Drop)]
 pub(crate) enum Stop {
-    /// The command line asks for no run, or there was no memory for it.
+    /// The command line does not ask for a run, or memory ran out while it was parsed.
     Words(WordsFault),
     /// The run failed.
     Run(RunFault),
 }
 
 impl Stop {
-    /// Says why, and gives the exit status.
+    /// Reports why, and returns the exit status.
     pub(crate) fn tell<R: Print + Eprint>(&self, rt: &R) -> u8 {
         match self {
             Stop::Words(fault) => fault.tell(rt, "camp"),

@@ -11,4 +11,4 @@ pub use Rattle.clap.specs.Words.{Row, fault_of, is_simple, is_simple_and_free, m
 pub use Rattle.clap.specs.declared.builder.arg.Arg.{Arg}
 pub use Rattle.clap.specs.declared.builder.command.Command.{Command}
 pub use Rattle.clap.specs.declared.parser.matches.ArgMatches.{ArgMatches}
-pub use Rattle.camp_options.specs.Options.{Given, WritesNumber, program, tries}
+pub use Rattle.camp_options.specs.Options.{Given, WritesNumber, program, tries, with_version}

@@ -25,7 +25,7 @@ pub record Filled (a : Arg) : Type 0 where
   pub delimiter : a.val_delim ≡ None
   pub least : 1 ≤ least_values a
 
--- the value of an argument, read as its parser says, is what is found, and it passed the parser
+-- the value of an argument, parsed, is what is found, and it passed the parser
 abbrev pub HasValue : ArgMatches → Arg → ValueParser → Type 0
 HasValue m a q = (value : List ℕ) × (one_text (found_of m) a.id.now ≡ Some (read_as (reading_of q) value)) × Accepts a.ignore_case q value
 
@@ -67,7 +67,7 @@ module _ (old : Command) (m : ArgMatches) (p : IsParsedFrom old m) (globals : (o
   read_so : (r : Reading) → HasReading p.built a.id.now r → r ≡ reading_of q
   read_so r any = sym any.4.1 ∙ ap reading_of (same_parser any.1 (same_rules any.0 any.1 any.2 any.3 any.4.0))
 
-  -- what the entry of the argument gives
+  -- the value of the argument's entry
   of_entry : (x : MatchedArg) → matched_of (found_of m) a.id.now ≡ Some x → (e : Entry) → e.1 ≡ x → e.0.now ≡ a.id.now → EntryPasses p.built e → HasValue m a q
   of_entry x found e is key pass = finish (first_of (λ v. PassesArg p.built a.id.now v.now) x.reading x.vals.items has_one all) (ap (λ (y : MatchedArg). y.reading) (sym is) ∙ how)
     where

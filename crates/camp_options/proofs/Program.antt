@@ -42,7 +42,7 @@ only_tries (suc zero) r lt same = refl
 only_tries (suc (suc zero)) r lt same = absurd (differ (codes "history") (codes "tries") refl ((bytes_eq-Decides _ _).0 same))
 only_tries (suc (suc (suc j))) r lt same = absurd (omega arith)
 
--- what a getter of numbers reads of the tries
+-- the value that a getter of numbers returns for the tries
 pub record TriesOf (m : ArgMatches) (read : Option ℕ) : Type 0 where
   pub number : ℕ
   pub is : read ≡ Some number

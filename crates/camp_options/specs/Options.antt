@@ -1,4 +1,4 @@
--- What a command line asks for, by clap's meaning of its words.
+-- The meaning of a command line, by clap's reading of its words.
 use Rattle.std.specs.Prelude.{◌≡◌, ◌↔◌, true, ℕ, List, [], ◌∷◌, Some, codes, pos}
 use Rattle.std.specs.Str.Parse.{IsNumeral, digits_value, without_leading_plus}
 use Rattle.clap.specs.Words.{App, Row, Rule, new_app, new_rule, one_of, with_rule}
@@ -28,15 +28,19 @@ tries = record (new_rule (codes "tries")) {
   defaults = codes "100" ∷ [];
 }
 
--- the program's command line: `--serial`, `--tries N` and `--history`
+-- a program that tells its version
+abbrev pub with_version : App → App
+with_version app = record { top = record app.top { has_version = true }; subs = app.subs }
+
+-- the program's command line: `--serial`, `--tries N` and `--history`; and `--version`
 abbrev pub program : App
-program = with_rule (with_rule (with_rule (new_app (codes "camp")) (flag (codes "serial"))) tries) (flag (codes "history"))
+program = with_rule (with_rule (with_rule (with_version (new_app (codes "camp"))) (flag (codes "serial"))) tries) (flag (codes "history"))
 
 -- the option is set
 abbrev pub IsSet : List ℕ → List Row → Type 0
 IsSet name rows = one_of name rows ≡ Some (codes "true")
 
--- the option's value is a numeral, behind a plus or not, and writes the number
+-- the value of the option is a numeral for the number, perhaps with a plus before it
 abbrev pub WritesNumber : List ℕ → ℕ → List Row → Type 0
 WritesNumber name number rows = (text : List ℕ) × (one_of name rows ≡ Some text) × IsNumeral 10 (without_leading_plus text)
     × (number ≡ digits_value 10 (without_leading_plus text))

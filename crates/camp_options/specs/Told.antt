@@ -1,19 +1,29 @@
--- The exit status that tells of the words of a command line.
+-- The exit status for a rejected command line.
 use Rattle.std.specs.Prelude.{◌≡◌, ◌≢◌, ◌⊎◌, ℕ}
+use Rattle.std.specs.declared.io.ErrorKind as io
+use Rattle.std.specs.declared.io.ErrorKind.TheVariants.{BrokenPipe}
 use Rattle.clap.specs.Words.{kind_of}
 use Rattle.clap.specs.declared.error.ErrorKind.{ErrorKind}
 use Rattle.clap.specs.declared.error.ErrorKind.TheVariants.{DisplayHelp, DisplayVersion}
 use Rattle.camp_options.specs.declared.faults.WordsFault.{WordsFault}
 use Rattle.camp_options.specs.declared.faults.WordsFault.TheVariants.{NotText, Refused, Memory}
 
--- the words ask for a text, the help or the version
+-- the words ask for a text: the help or the version
 abbrev pub AsksForText : ErrorKind → Type 0
 AsksForText kind = (kind ≡ DisplayHelp) ⊎ (kind ≡ DisplayVersion)
 
--- 2 where the words are refused; 0 or 3 where a text was asked for; 3 where memory ran out
+-- output could not be written: 141, as of a program that SIGPIPE ends, where nobody reads it any more, and else 3
+abbrev pub TellsUnwritten : io.ErrorKind → ℕ → Type 0
+TellsUnwritten kind status = ((kind ≡ BrokenPipe) × (status ≡ 141)) ⊎ ((kind ≢ BrokenPipe) × (status ≡ 3))
+
+-- a text was printed, or could not be
+abbrev pub IsPrinted : ℕ → Type 0
+IsPrinted status = (status ≡ 0) ⊎ (status ≡ 3) ⊎ (status ≡ 141)
+
+-- 2 where the words are refused; 0, 3 or 141 where a text was asked for; 3 where memory ran out
 abbrev pub TellsBy : WordsFault → ℕ → Type 0
 TellsBy NotText status = status ≡ 2
 TellsBy (Refused error) status =
-    (AsksForText (kind_of error) → (status ≡ 0) ⊎ (status ≡ 3))
+    (AsksForText (kind_of error) → IsPrinted status)
     × (kind_of error ≢ DisplayHelp → kind_of error ≢ DisplayVersion → status ≡ 2)
 TellsBy Memory status = status ≡ 3

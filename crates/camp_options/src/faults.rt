@@ -1,7 +1,8 @@
 //! What is told where the words of a command line ask for nothing.
-ghost use Rattle.std.specs.Prelude.{◌≡◌, ◌≢◌, ◌⊎◌};
+ghost use Rattle.std.specs.Prelude.{◌≡◌, ◌≢◌};
+ghost use Rattle.std.specs.IoError.{error_kind};
 ghost use Rattle.clap.specs.Words.{kind_of};
-ghost use Rattle.camp_options.specs.Told.{AsksForText, TellsBy};
+ghost use Rattle.camp_options.specs.Told.{AsksForText, IsPrinted, TellsBy, TellsUnwritten};
 
 use clap::Error;
 use clap::error::ErrorKind;
@@ -10,18 +11,21 @@ use std::env::{self, Env};
 use std::fmt::Display;
 use std::io;
 
+// The status that a shell gives a program that writes to a pipe without a reader, and is ended by that: 128 and SIGPIPE.
+const CLOSED_PIPE: u8 = 141;
+
 /// Why the words of a command line ask for nothing that a program can do.
 #[derive(Debug, Drop)]
 pub enum WordsFault {
     /// A word is not UTF-8.
     NotText,
-    /// They are refused, or ask for the help text.
+    /// They are rejected, or ask for the help text.
     Refused(Error),
-    /// There was no memory for them.
+    /// Memory ran out while they were parsed.
     Memory,
 }
 
-/// The words of the command line, of which the first is the program's name.
+/// Returns the words of the command line, of which the first is the program's name.
 pub fn command_line<R: Env + AllocGlobal>(rt: &R) -> Result<Vec<String>, WordsFault> {
     match env::args(rt) {
         Ok(words) => Ok(words.collect(rt.alloc())?),
@@ -31,7 +35,7 @@ pub fn command_line<R: Env + AllocGlobal>(rt: &R) -> Result<Vec<String>, WordsFa
 }
 
 impl WordsFault {
-    /// Tells the user of a program, and gives the exit status.
+    /// Reports to the user of a program, and returns the exit status.
     pub fn tell<R: Print + Eprint>(&self, rt: &R, program: &str) -> u8
         ensures status { TellsBy self.now result }
     {
@@ -46,9 +50,9 @@ impl WordsFault {
     }
 }
 
-// Tells what a command line asks for, or what is wrong with it.
+// Writes the requested text, or what is wrong with the command line.
 fn tell_error<R: Print + Eprint>(rt: &R, program: &str, error: &Error) -> u8
-    ensures text { AsksForText (kind_of error.now) → (result ≡ 0) ⊎ (result ≡ 3) }
+    ensures text { AsksForText (kind_of error.now) → IsPrinted result }
     ensures mistake { kind_of error.now ≢ ErrorKind.DisplayHelp → kind_of error.now ≢ ErrorKind.DisplayVersion → result ≡ 2 }
 {
     let printed = error.print(rt);
@@ -57,8 +61,24 @@ fn tell_error<R: Print + Eprint>(rt: &R, program: &str, error: &Error) -> u8
     }
     match printed {
         Ok(()) => 0,
-        Err(_) => tell_fault(rt, program, &"cannot write output", 3),
+        Err(error) => tell_unwritten(rt, program, &error),
     }
+}
+
+/// Tells the user of a program that its output could not be written, unless nobody reads it any more, and gives the
+/// exit status.
+pub fn tell_unwritten<R: Eprint>(rt: &R, program: &str, error: &io::Error) -> u8
+    ensures status { TellsUnwritten (error_kind error.now) result }
+{
+    if error.kind() == io::ErrorKind::BrokenPipe {
+        return CLOSED_PIPE;
+    }
+    tell_fault(
+        rt,
+        program,
+        &format_args!("cannot write output: {error}"),
+        3,
+    )
 }
 
 /// Tells the user of a program why it ends, and gives the exit status back.

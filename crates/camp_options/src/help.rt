@@ -1,4 +1,10 @@
-//! What `--help` says behind the usage and the options.
+//! What `--help` and `--version` say.
+
+/// The version of camp, as `--version` of both programs prints it.
+pub const VERSION: &str = "0.1.0";
+
+pub(crate) const SUMMARY: &str =
+    "A script comes on standard input, and its answers go to standard output. --help has the language.";
 
 pub(crate) const USAGE: &str = "camp [OPTIONS] < SCRIPT";
 

@@ -1,4 +1,5 @@
-/// What a command line asks for.
+//! The ways to run a script.
+/// The way to run a script that a command line asks for.
 #[derive(Clone, Copy, PartialEq, Eq, Debug)]
 pub struct Options {
     /// The clients run one after the other, in one thread.

@@ -1,4 +1,4 @@
-//! The words of a command line, read with `clap`, and what is told where they ask for nothing.
+//! The words of a command line, parsed with `clap`, and the report if they are rejected.
 #![tactic(auto)]
 
 mod faults;
@@ -6,6 +6,7 @@ mod help;
 mod kinds;
 mod words;
 
-pub use faults::{WordsFault, command_line, tell_fault};
+pub use faults::{WordsFault, command_line, tell_fault, tell_unwritten};
+pub use help::VERSION;
 pub use kinds::Options;
 pub use words::options;

@@ -1,15 +1,16 @@
+//! Parsing a command line.
 ghost use Rattle.std.specs.Prelude.{◌≡◌, ◌↔◌, IfOk, false, true, map, ◌≤◌};
 ghost use Rattle.clap.specs.Words.{FailsBy, app_of, fault_of, found_of, matches_of, rows_of, rule_of};
 ghost use Rattle.camp_options.specs.Options.{Given, IsSet, flag, most_tries, program, tries};
 
-use crate::help::{REFERENCE, USAGE};
+use crate::help::{REFERENCE, SUMMARY, USAGE, VERSION};
 use crate::kinds::Options;
 use clap::{Arg, ArgAction, ArgMatches, Command, Error, value_parser};
 use std::alloc::{AllocError, Global};
 use std::convert::AsStr;
 
 /// Reads the words of a command line, of which the first is the program's name. The fault is a
-/// mistake in the words, a request for the help text, or want of memory; it shows as the text for
+/// mistake in the words, a request for the help text or the version, or want of memory; it shows as the text for
 /// the user.
 pub fn options<'a, S: AsStr>(alloc: Global, words: &'a [S]) -> Result<Options, Error>
     ensures given { IfOk result (Given (matches_of program (map S.text words.entry.now))) }
@@ -24,7 +25,7 @@ pub fn options<'a, S: AsStr>(alloc: Global, words: &'a [S]) -> Result<Options, E
     })
 }
 
-// Whether an option without a value is set.
+// True if an option without a value is set.
 fn is_set(matches: &ArgMatches, name: &str) -> bool
     ensures exact { (result ≡ true) ↔ IsSet name.now (rows_of (found_of matches.now)) }
 {
@@ -36,7 +37,9 @@ fn command<'a>(alloc: Global) -> Result<Command<'a>, AllocError>
 {
     Command::new(alloc, "camp")
         .override_usage(USAGE)
-        .after_help(REFERENCE)
+        .after_help(SUMMARY)
+        .after_long_help(REFERENCE)
+        .version(VERSION)
         .arg(flag(
             alloc,
             "serial",

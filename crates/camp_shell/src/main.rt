@@ -5,7 +5,8 @@
 //! The exit status is 0 at the end of the input, 1 where a command of a file was answered by a fault or a
 //! refusal, the input is no requests in frames, or the branch can't be written for git, 2 where the command line
 //! is refused, 3 where memory ran out, but for a command that is answered `memory`, or input, output or a store
-//! failed, and 4 where a line has no number, to which no conversation comes; standard error says why.
+//! failed, and 4 where a line has no number, to which no conversation comes; standard error says why. Where nobody reads
+//! the output any more it is 141, and nothing is said.
 #![tactic(auto)]
 
 mod prompts;
@@ -32,7 +33,7 @@ fn main(rt: HostRuntime) -> ExitCode {
     }
 }
 
-// Says why the program ends.
+// Reports why the program ends.
 fn exit_code(rt: &HostRuntime, ended: Result<(), Stop<'_>>) -> ExitCode {
     match ended {
         Ok(()) => ExitCode::SUCCESS,
@@ -40,7 +41,7 @@ fn exit_code(rt: &HostRuntime, ended: Result<(), Stop<'_>>) -> ExitCode {
     }
 }
 
-// Does what the words of a command line ask for.
+// Executes what the command line asks for.
 fn hold<'a>(rt: &HostRuntime, words: &'a [String]) -> Result<(), Stop<'a>> {
     let wish = wish_of(rt.alloc(), words).map_err(WordsFault::from)?;
     if let Some(store) = wish.checked {
@@ -56,7 +57,7 @@ fn hold<'a>(rt: &HostRuntime, words: &'a [String]) -> Result<(), Stop<'a>> {
     }
 }
 
-// A new repository with what the commands of these files do.
+// Makes a new repository and executes the commands of these files.
 fn loaded<'a>(rt: &HostRuntime, files: &[&'a str]) -> Result<Book<State>, Stop<'a>> {
     let mut book = Book::new(rt.alloc())?;
     for file in files {
@@ -89,7 +90,7 @@ fn talk_in_frames(rt: &HostRuntime, book: Book<State>) -> Result<(), FrameFault>
     talk(&mut FramedConversation::new(rt.alloc(), book, reader, rt.stdout()))
 }
 
-// At a terminal lines are asked for by prompts.
+// At a terminal, prompts ask for the lines.
 fn form_at(rt: &HostRuntime, wished: Form) -> Form {
     match wished {
         Form::Lines if rt.stdin().is_terminal() && rt.stdout().is_terminal() => Form::Prompts,

@@ -1,11 +1,11 @@
-//! A conversation with a person, who is asked for each line by a prompt.
+//! A conversation with a person: a prompt asks for each line.
 ghost use Rattle.std.specs.Prelude.{◌-◌, ◌^◌};
 
 use camp_talk::{Account, Book, Dialogue, State, TalkFault, turn};
 use std::alloc::Global;
 use std::io::{self, BufRead, Read, Write};
 
-/// What stands before the first prompt.
+/// Text before the first prompt.
 const GREETING: &[u8] =
     b"camp holds branches of named patches. help tells the commands, why what was wrong; end ends a body, done a group, quit all.\n";
 
@@ -14,16 +14,16 @@ const GREETING: &[u8] =
 pub(crate) struct Prompted<R, W> {
     alloc: Global,
     book: Book<State>,
-    /// How many lines were read.
+    /// The number of lines that were read.
     lines: u64,
-    /// What is kept of the last fault or refusal.
+    /// The diagnostic of the last fault or refusal.
     cause: Account,
     reader: Prompting<R, W>,
     writer: W,
 }
 
 impl<R: BufRead, W: Write> Prompted<R, W> {
-    /// Before the first command. Prompts and answers go to writers of one output.
+    /// Starts before the first command. Prompts and answers go to writers of one output.
     pub(crate) fn new(alloc: Global, book: Book<State>, reader: R, prompts: W, writer: W) -> Self {
         Prompted {
             alloc,
@@ -56,24 +56,24 @@ impl<R: BufRead, W: Write> Dialogue for Prompted<R, W> {
     }
 }
 
-/// What is to be read next.
+/// The line that is read next.
 #[derive(Clone, Copy, Drop)]
 enum Place {
     /// The first line of a command.
     Command,
     /// A further line of a body or a group.
     Inside,
-    /// Nothing, behind a line without an LF.
+    /// None, after a line without a line feed.
     End,
 }
 
-/// A reader of lines, each of which is asked for by a prompt.
+/// A reader of lines, each of which a prompt asks for.
 #[derive(Drop)]
 pub(crate) struct Prompting<R, W> {
     reader: R,
     prompts: W,
     place: Place,
-    /// What is left of the line that was read last, with its LF; without one where the input ends behind it.
+    /// The rest of the line that was read last, with its line feed; without one if the input ends after it.
     line: Vec<u8>,
 }
 
@@ -89,12 +89,12 @@ impl<R: BufRead, W: Write> Prompting<R, W> {
         prompting
     }
 
-    /// A command is to begin.
+    /// Starts a command.
     pub(crate) fn begin(&mut self) {
         self.place = Place::Command;
     }
 
-    // Shows a text. What can't be shown here is told where the next answer can't be written.
+    // Shows a text. If this fails, the fault is reported when the next answer can't be written.
     fn show(&mut self, text: &[u8]) {
         if self.prompts.write_all(text).is_ok() {
             let _ = self.prompts.flush();

@@ -1,6 +1,7 @@
+//! Why the program ends before its input does, and what it says of that.
 use camp_git::Unexported;
 use camp_kept_talk::KeptFault;
-use camp_options::{WordsFault, tell_fault};
+use camp_options::{WordsFault, tell_fault, tell_unwritten};
 use camp_talk::{FrameFault, LoadFault, TalkFault};
 use std::alloc::AllocError;
 use std::io;
@@ -8,13 +9,13 @@ use std::io;
 /// Why the program ends before its input does.
 #[derive(Debug, Drop)]
 pub(crate) enum Stop<'a> {
-    /// The command line asks for no conversation, or there was no memory for it.
+    /// The command line does not ask for a conversation, or memory ran out while it was parsed.
     Words(WordsFault),
-    /// A file could not be opened, or not be read to be checked.
+    /// A file could not be opened, or could not be read for a check.
     Open(&'a str, io::Error),
     /// The commands of a file could not be loaded.
     Load(&'a str, LoadFault),
-    /// The conversation could not go on, what is told of a file could not be written, or memory ran out.
+    /// The conversation could not continue, the report on a file could not be written, or memory ran out.
     Talk(TalkFault),
     /// No more requests could be served.
     Frame(FrameFault),
@@ -22,18 +23,19 @@ pub(crate) enum Stop<'a> {
     NoName(&'a str),
     /// A branch was not written for git.
     Export(Unexported),
-    /// A store was not opened, or its calls were not kept.
+    /// A store was not opened, or its calls were not persisted.
     Store(&'a str, KeptFault),
     /// Another process has the store.
     InUse(&'a str),
-    /// What should be a store is a folder, a device or a pipe; or a file with several names, which only a check takes.
+    /// The path of the store is a folder, a device or a pipe; or a file with several hard links, which only a
+    /// check accepts.
     NotPlain(&'a str),
 }
 
 const PROGRAM: &str = "camp_shell";
 
 impl Stop<'_> {
-    /// Says why, and gives the exit status.
+    /// Reports why, and returns the exit status.
     pub(crate) fn tell<R: Print + Eprint>(&self, rt: &R) -> u8 {
         match self {
             Stop::Words(fault) => fault.tell(rt, PROGRAM),
@@ -71,22 +73,22 @@ impl Stop<'_> {
             Stop::NoName(branch) => {
                 tell_fault(rt, PROGRAM, &format_args!("refused 4 {branch}"), 1)
             }
+            Stop::Export(Unexported::Write(error)) => tell_unwritten(rt, PROGRAM, error),
             Stop::Export(fault) => tell_fault(rt, PROGRAM, fault, export_status(fault)),
         }
     }
 }
 
-// Says why a conversation could not go on, and the error of its reader or its writer.
+// Returns why a conversation could not continue, and the error of its reader or its writer.
 fn tell_talk<R: Print + Eprint>(rt: &R, fault: &TalkFault) -> u8 {
     match fault {
-        TalkFault::Read(error) | TalkFault::Write(error) => {
-            tell_fault(
-                rt,
-                PROGRAM,
-                &format_args!("{fault}: {error}"),
-                fault.status(),
-            )
-        }
+        TalkFault::Write(error) => tell_unwritten(rt, PROGRAM, error),
+        TalkFault::Read(error) => tell_fault(
+            rt,
+            PROGRAM,
+            &format_args!("{fault}: {error}"),
+            fault.status(),
+        ),
         TalkFault::Memory | TalkFault::Internal => {
             tell_fault(rt, PROGRAM, fault, fault.status())
         }

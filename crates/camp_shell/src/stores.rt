@@ -1,4 +1,4 @@
-//! Repositories that are kept in files.
+//! Repositories that are persisted in files.
 ghost use Rattle.std.specs.Prelude.{◌-◌, ◌^◌};
 
 use crate::prompts::Prompting;
@@ -14,7 +14,8 @@ use std::alloc::{AllocError, Global};
 use std::fs;
 use std::io::{self, BufRead, ErrorKind, Read, Write};
 
-/// Opens a store, or makes it, loads files into it, and then holds a conversation over it, or writes a branch for git.
+/// Opens a store, or creates it, loads files into it, and then holds a conversation over it, or writes a
+/// branch for git.
 pub(crate) fn hold_stored<'a>(
     rt: &HostRuntime,
     store: &'a str,
@@ -39,7 +40,7 @@ pub(crate) fn hold_stored<'a>(
     }
 }
 
-// Holds a conversation over what is kept.
+// Holds a conversation over a durable repository.
 fn converse(rt: &HostRuntime, kept: Kept<File>, form: Form) -> Result<(), StoredFault> {
     match form_at(rt, form) {
         Form::Lines => talk_in_lines(rt, kept),
@@ -70,7 +71,7 @@ fn talk_in_frames(rt: &HostRuntime, kept: Kept<File>) -> Result<(), StoredFault>
     talk(&mut FramedStore::new(rt.alloc(), kept, reader, rt.stdout()))
 }
 
-// A conversation over what is kept, with prompts.
+// Holds a conversation over a durable repository, with prompts.
 #[derive(Drop)]
 struct PromptedStore<D: Disk, R, W> {
     alloc: Global,
@@ -100,8 +101,8 @@ impl<D: Disk, R: BufRead, W: Write> Dialogue for PromptedStore<D, R, W> {
     }
 }
 
-// Opens a store, and tells of bytes that count for nothing. A log beside a file that is no store is a stranger's, and stays,
-// unless it was not there before.
+// Opens a store, and reports bytes that do not count. A log next to a file that is not a store belongs to
+// somebody else, and is left, unless it was not there before.
 fn open_store<'a>(rt: &HostRuntime, store: &'a str) -> Result<Kept<File>, Stop<'a>> {
     let has_log = has_log(rt, store)?;
     let kept = match Kept::open(rt.alloc(), open_file(rt, store)?) {
@@ -123,7 +124,8 @@ fn open_store<'a>(rt: &HostRuntime, store: &'a str) -> Result<Kept<File>, Stop<'
     Ok(kept)
 }
 
-// The file of a store, locked. The kit puts a log beside it, as SQLite does beside a database; it stays empty.
+// Locks the file of a store. The kit puts a log next to it, as SQLite does next to a database; it stays
+// empty.
 fn open_file<'a>(rt: &HostRuntime, store: &'a str) -> Result<File, Stop<'a>> {
     match open(rt, store, Unknown) {
         Ok(files) => Ok(files.db),
@@ -137,13 +139,13 @@ fn open_file<'a>(rt: &HostRuntime, store: &'a str) -> Result<File, Stop<'a>> {
     }
 }
 
-// Whether a log stands beside a file.
+// True if there is a log next to a file.
 fn has_log<'a>(rt: &HostRuntime, store: &'a str) -> Result<bool, Stop<'a>> {
     let log = log_beside(rt, store)?;
     Ok(fs::symlink_metadata(rt, log.as_str()).is_ok())
 }
 
-// Removes the log beside a file where it has no bytes.
+// Removes the log next to a file if it is empty.
 fn remove_empty_log<'a>(rt: &HostRuntime, store: &'a str) -> Result<(), Stop<'a>> {
     let log = log_beside(rt, store)?;
     if let Ok(found) = fs::symlink_metadata(rt, log.as_str()) {
@@ -154,7 +156,7 @@ fn remove_empty_log<'a>(rt: &HostRuntime, store: &'a str) -> Result<(), Stop<'a>
     Ok(())
 }
 
-// The path of the log beside a file. Where the file is a link, it is beside the file that this leads to.
+// Returns the path of the log of a file. If the file is a link, the log is next to its target.
 fn log_beside(rt: &HostRuntime, store: &str) -> Result<String, AllocError> {
     match fs::canonicalize(rt, store) {
         Ok(real) => format!(in rt.alloc(); "{}-wal", real.as_str()),
@@ -162,7 +164,7 @@ fn log_beside(rt: &HostRuntime, store: &str) -> Result<String, AllocError> {
     }
 }
 
-/// Tells what a file keeps. It changes nothing.
+/// Reports the content of a file. Changes nothing.
 pub(crate) fn check_store<'a>(rt: &HostRuntime, store: &'a str) -> Result<(), Stop<'a>> {
     check_plain(rt, store)?;
     let bytes = match read_whole(rt, store) {
@@ -190,7 +192,7 @@ pub(crate) fn check_store<'a>(rt: &HostRuntime, store: &'a str) -> Result<(), St
     }
 }
 
-// A folder, a device or a pipe keeps nothing, and may have no end.
+// Rejects a folder, a device or a pipe: it persists nothing, and may have no end.
 fn check_plain<'a>(rt: &HostRuntime, file: &'a str) -> Result<(), Stop<'a>> {
     match fs::metadata(rt, file) {
         Ok(found) if found.is_file() => Ok(()),

@@ -1,18 +1,19 @@
 //! The words of the command line.
+use camp_options::VERSION;
 use clap::{Arg, ArgAction, Command, Error};
 use std::alloc::{AllocError, Global};
 use std::convert::AsStr;
 
-/// What the words of a command line wish for.
+/// The parsed command line.
 #[derive(Debug, Drop)]
 pub(crate) struct Wish<'a> {
     /// The files that are loaded first.
     pub(crate) files: Vec<&'a str>,
-    /// The branch that is written for git, in place of a conversation.
+    /// The branch that is written for git, instead of a conversation.
     pub(crate) export: Option<&'a str>,
-    /// The file in which the repository is kept.
+    /// The file in which the repository is persisted.
     pub(crate) store: Option<&'a str>,
-    /// The file that is checked, and nothing else is done.
+    /// The file that is checked, and then nothing else is done.
     pub(crate) checked: Option<&'a str>,
     pub(crate) form: Form,
 }
@@ -22,13 +23,17 @@ pub(crate) struct Wish<'a> {
 pub(crate) enum Form {
     /// Line by line.
     Lines,
-    /// Line by line, each asked for by a prompt.
+    /// Line by line, with a prompt for each.
     Prompts,
-    /// In frames, each of which says how many bytes it has.
+    /// In frames, each of which begins with its number of bytes.
     Frames,
 }
 
 const USAGE: &str = "camp_shell [OPTIONS]";
+
+const SUMMARY: &str =
+    "Commands come on standard input, and each is answered on standard output. --help has more; the command
+help lists the commands.";
 
 const REFERENCE: &str =
     "Commands come on standard input, as in a script of camp. Each is answered on standard output as soon
@@ -79,13 +84,14 @@ Exit status:
   3  memory ran out for the lines of a command or for a command of a file, or a file, input or output
      failed; standard error says which
   4  a line has no number below 2^64: no conversation comes to that
+  141  nobody reads the output any more; standard error says nothing
 
 More: camp --help has the commands of scripts and their answers, docs/conversation.md a conversation,
 docs/tools.md how a program drives camp_shell, docs/git.md the way to git, and docs/questions.md the
 questions.";
 
 /// Reads the words of a command line, of which the first is the program's name. The fault is a mistake in the
-/// words, a request for the help text, or want of memory; it shows as the text for the user.
+/// words, a request for the help text or the version, or want of memory; it shows as the text for the user.
 pub(crate) fn wish_of<'a, S: AsStr>(alloc: Global, words: &'a [S]) -> Result<Wish<'a>, Error> {
     let matches = command(alloc)?.try_get_matches_from(words)?;
     let files = match matches.get_strs("load") {
@@ -113,7 +119,9 @@ fn command<'a>(alloc: Global) -> Result<Command<'a>, AllocError> {
     let options = options(alloc)?;
     Command::new(alloc, "camp_shell")
         .override_usage(USAGE)
-        .after_help(REFERENCE)
+        .after_help(SUMMARY)
+        .after_long_help(REFERENCE)
+        .version(VERSION)
         .args(options)
 }
 
