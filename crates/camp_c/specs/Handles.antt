@@ -1,4 +1,4 @@
--- What each export makes of a handle, by what the handle stands for: nothing, a repository or a view. The codes are 0,
+-- The effect of each export on a handle, by the value of the handle: none, a repository or a view. The codes are 0,
 -- done; 1, a handle is closed or of the other kind, or the one to be opened is open; 2, out of memory.
 use Rattle.std.specs.Prelude.{◌≡◌, ◌⊎◌, ℕ, ℤ, pos, List, [], Option, Some, None, Result, Ok, Err}
 use Rattle.camp_session.specs.Sessions.{Asks, Repository, Sees, Snapshot, Views}
@@ -6,25 +6,25 @@ use Rattle.camp_talk.specs.declared.faults.TalkFault.{TalkFault}
 use Rattle.camp_c.specs.declared.kept.Kept.{Kept}
 use Rattle.camp_c.specs.declared.kept.Kept.TheVariants.{Session, View}
 
--- what a handle stands for
+-- the value of a handle
 abbrev pub Stand : Type 0
 Stand = Option Kept
 
--- a repository that is new: no call was accepted, and nothing was asked
+-- a new repository: no call was accepted, and nothing was asked
 abbrev pub new_repository : Repository
 new_repository = record { history = []; answer = [] }
 
--- nothing is done, and the handle stands for what it did
+-- nothing is done, and the value of the handle is unchanged
 abbrev pub IsRefused : Stand → ℤ → Stand → Type 0
 IsRefused old code now = (code ≡ pos 1) × (now ≡ old)
 
--- a closed handle is opened on a new repository, or there was no memory for that
+-- a closed handle is opened on a new repository, or memory ran out
 abbrev pub OpensRepository : Stand → ℤ → Stand → Type 0
 OpensRepository None code now =
     ((code ≡ pos 0) × (now ≡ Some (Session new_repository))) ⊎ ((code ≡ pos 2) × (now ≡ None))
 OpensRepository old code now = IsRefused old code now
 
--- the code that tells how far a text was asked
+-- the code for how much of a text was executed
 abbrev pub code_of : Result (Unit {0}) TalkFault → ℤ
 code_of (Ok done) = pos 0
 code_of (Err why) = pos 2
@@ -37,7 +37,7 @@ pub record AsksOne (old : Repository) (text : List ℕ) (code : ℤ) (now : Stan
   pub tells : code ≡ code_of outcome
   pub stands : now ≡ Some (Session new)
 
--- the repository of a handle is asked a text; a handle that stands for none stays as it is
+-- the repository of a handle is asked a text; a handle without one is unchanged
 abbrev pub AsksRepository : Stand → List ℕ → ℤ → Stand → Type 0
 AsksRepository (Some (Session old)) text code now = AsksOne old text code now
 AsksRepository old text code now = IsRefused old code now
@@ -50,22 +50,22 @@ pub record SeesOne (old : Snapshot) (text : List ℕ) (code : ℤ) (now : Stand)
   pub tells : code ≡ code_of outcome
   pub stands : now ≡ Some (View new)
 
--- the view of a handle is asked a text; a handle that stands for none stays as it is
+-- the view of a handle is asked a text; a handle without one is unchanged
 abbrev pub AsksView : Stand → List ℕ → ℤ → Stand → Type 0
 AsksView (Some (View old)) text code now = SeesOne old text code now
 AsksView old text code now = IsRefused old code now
 
--- the answer to the text that a repository was asked last
+-- the answer to the last text of a repository
 abbrev pub answer_of : Stand → List ℕ
 answer_of (Some (Session repository)) = repository.answer
 answer_of other = []
 
--- the answer to the text that a view was asked last
+-- the answer to the last text of a view
 abbrev pub answer_of_view : Stand → List ℕ
 answer_of_view (Some (View view)) = view.answer
 answer_of_view other = []
 
--- a view was made of a repository, or there was no memory for that
+-- a view was made of a repository, or memory ran out
 abbrev pub OpensOne : Repository → ℤ → Stand → Type 0
 OpensOne repository code now =
     ((code ≡ pos 0) × (view : Snapshot) × Views repository view × (now ≡ Some (View view)))
@@ -76,7 +76,7 @@ abbrev pub OpensView : Stand → Stand → ℤ → Stand → Type 0
 OpensView (Some (Session repository)) None code now = OpensOne repository code now
 OpensView other old code now = IsRefused old code now
 
--- the same state once more, and nothing asked
+-- the same state, and nothing asked
 abbrev pub again : Snapshot → Snapshot
 again view = record { state = view.state; answer = [] }
 

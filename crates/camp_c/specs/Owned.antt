@@ -1,4 +1,4 @@
--- What a keeper owns: nothing, or the same as a box of what a handle stands for.
+-- What a keeper owns: nothing, or a box with the value of a handle.
 use Rattle.std.specs.Prelude.{Option, Some, None}
 use Rattle.std.specs.Coded.{coded_option}
 use base.Fml.{Fml, ftrue}
@@ -9,11 +9,11 @@ use Rattle.std.specs.Global.{Global}
 use Rattle.std_heap.specs.contracts.GlobalAllocator.TheImpl.{ghosts}
 use Rattle.camp_c.specs.contracts.kept.Kept.{the_row}
 
--- what a handle stands for while it is open
+-- the value of an open handle
 abbrev pub Held : Type 0
 Held = the_row.Denot
 
--- what lies at a pointer that is kept: a box, or nothing
+-- what a keeper's pointer owns: a box, or nothing
 abbrev pub keeper_owns : Global → Ptr → Option Held → Fml
 keeper_owns alloc at (Some held) = box_owns (ghosts.dealloc_token alloc) the_row at held
 keeper_owns alloc at None = ftrue

@@ -1,4 +1,4 @@
-//! What a call came to, as C is told it.
+//! The result codes for C.
 
 /// It was done.
 pub(crate) const DONE: i32 = 0;
@@ -6,5 +6,5 @@ pub(crate) const DONE: i32 = 0;
 /// The handle is closed or of the other kind, or the one to be opened is open.
 pub(crate) const CLOSED: i32 = 1;
 
-/// There was not enough memory.
+/// Out of memory.
 pub(crate) const MEMORY: i32 = 2;

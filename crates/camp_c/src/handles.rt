@@ -1,4 +1,4 @@
-//! What C holds: a pointer to a box, or to nothing.
+//! Handles of C: a pointer to a box, or null.
 ghost use Rattle.std.specs.Prelude.{◌≡◌, Option, Some, None, IsSome, MatchOption, is_some};
 ghost use Rattle.camp_c.specs.Owned.{Held, held_coded, keeper_owns};
 
@@ -8,8 +8,8 @@ use std::alloc::Global;
 use std::marker::Model;
 use std::mem;
 
-/// A pointer to the box of what a handle stands for, or to nothing. It can't be let go: what it owns has to
-/// be taken out of it.
+/// A pointer to the box with the value of a handle, or null. It can't be dropped: what it owns has to be
+/// taken out of it.
 #[repr(C)]
 pub struct Keeper {
     at: *mut u8,
@@ -52,7 +52,7 @@ impl Keeper {
         }
     }
 
-    // Lets a keeper of nothing go.
+    // Drops a keeper that owns nothing.
     fn discard(self)
         requires { self.held ≡ None }
     {
@@ -62,8 +62,8 @@ impl Keeper {
 
 unsafe impl Send for Keeper {}
 
-/// What C holds of a repository or a view. One that is all zeros is closed. What it stands for is `held` of
-/// its keeper.
+/// A handle of C on a repository or a view. One that is all zeros is closed. Its value is `held` of its
+/// keeper.
 #[repr(C)]
 pub struct Handle {
     pub is_open: bool,
@@ -78,7 +78,7 @@ impl Handle {
         self.is_open
     }
 
-    /// Takes out what a handle stands for. It is closed then.
+    /// Takes out the value of a handle, which is then closed.
     pub(crate) fn take(&mut self, alloc: Global) -> Option<Box<Kept>>
         ensures closed { self.new.keeper.held ≡ None }
         ensures kept { MatchOption result (self.old.keeper.held ≡ None) (λ kept. self.old.keeper.held ≡ Some kept.value) }
@@ -91,7 +91,7 @@ impl Handle {
         None
     }
 
-    /// Opens a closed handle on what stands in a box.
+    /// Opens a closed handle on the value in a box.
     pub(crate) fn put(&mut self, kept: Box<Kept>)
         requires { self.old.keeper.held ≡ None }
         ensures { self.new.keeper.held ≡ Some kept.value }

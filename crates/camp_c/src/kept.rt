@@ -1,4 +1,4 @@
-//! What a handle stands for while it is open.
+//! The value of an open handle.
 ghost use Rattle.std.specs.Prelude.{◌≡◌, Some};
 ghost use Rattle.camp_c.specs.Handles.{AsksRepository, AsksView, answer_of, answer_of_view};
 
@@ -6,7 +6,7 @@ use crate::codes::{CLOSED, DONE, MEMORY};
 use camp_session::{Session, View};
 use std::alloc::Global;
 
-/// What a handle stands for while it is open.
+/// The value of an open handle.
 #[derive(Drop)]
 pub enum Kept {
     Session(Session),
@@ -40,7 +40,7 @@ impl Kept {
         }
     }
 
-    /// The answer of a repository.
+    /// Returns the answer of a repository.
     pub(crate) fn answer(&self) -> &[u8]
         ensures { result.now ≡ answer_of (Some self.now) }
     {
@@ -50,7 +50,7 @@ impl Kept {
         }
     }
 
-    /// The answer of a view.
+    /// Returns the answer of a view.
     pub(crate) fn answer_of_view(&self) -> &[u8]
         ensures { result.now ≡ answer_of_view (Some self.now) }
     {

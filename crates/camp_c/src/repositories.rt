@@ -1,4 +1,4 @@
-//! Repositories: each is opened, asked and closed.
+//! Repositories: opened, asked and closed.
 ghost use Rattle.std.specs.Prelude.{◌≡◌, ◌++◌, None, Some, length, take, drop, min, IfOk};
 ghost use Rattle.camp_c.specs.Handles.{AsksRepository, OpensRepository, answer_of, new_repository};
 ghost use Rattle.camp_c.specs.declared.kept.Kept.TheVariants.{Session as OfSession};
@@ -36,7 +36,7 @@ fn begin(alloc: Global) -> Result<Box<Kept>, AllocError>
     Ok(Box::new(alloc, Kept::Session(session))?)
 }
 
-/// Asks the commands of a text, which is a conversation of its own.
+/// Executes the commands of a text, which is a conversation of its own.
 #[unsafe(no_mangle)]
 pub extern "C" fn camp_ask(alloc: Global, handle: &mut Handle, text: &[u8]) -> i32
     ensures { AsksRepository handle.old.keeper.held text.now result handle.new.keeper.held }
@@ -49,7 +49,7 @@ pub extern "C" fn camp_ask(alloc: Global, handle: &mut Handle, text: &[u8]) -> i
     code
 }
 
-/// How many bytes the answer to the last text has.
+/// Returns the number of bytes of the answer to the last text.
 #[unsafe(no_mangle)]
 pub extern "C" fn camp_answer_length(alloc: Global, handle: &mut Handle) -> usize
     ensures same { handle.new.keeper.held ≡ handle.old.keeper.held }
@@ -63,7 +63,8 @@ pub extern "C" fn camp_answer_length(alloc: Global, handle: &mut Handle) -> usiz
     length
 }
 
-/// Writes as much of the answer to the last text as a buffer takes, and tells how many bytes that is.
+/// Writes as much of the answer to the last text as fits in a buffer, and returns the number of bytes
+/// written.
 #[unsafe(no_mangle)]
 pub extern "C" fn camp_answer(alloc: Global, handle: &mut Handle, buffer: &mut [u8]) -> usize
     ensures same { handle.new.keeper.held ≡ handle.old.keeper.held }
@@ -78,7 +79,7 @@ pub extern "C" fn camp_answer(alloc: Global, handle: &mut Handle, buffer: &mut [
     count
 }
 
-/// Writes as much of some bytes as a buffer takes.
+/// Writes as many bytes as fit in a buffer.
 pub(crate) fn copy_front(from: &[u8], to: &mut [u8]) -> usize
     ensures count { result ≡ min (length to.old) (length from.now) }
     ensures bytes { to.new ≡ take result from.now ++ drop result to.old }

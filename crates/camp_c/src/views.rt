@@ -1,4 +1,4 @@
-//! Views: each shows a repository as it was at one moment, and is asked questions alone.
+//! Views: each shows a repository as it was at one moment, and answers questions only.
 ghost use Rattle.std.specs.Prelude.{◌≡◌, ◌++◌, None, Some, length, take, drop, min, IfOk, IsOkAnd};
 ghost use Rattle.camp_c.specs.Handles.{AsksView, OpensView, OpensViewAgain, answer_of_view};
 ghost use Rattle.camp_c.specs.Inside.{Shows};
@@ -58,7 +58,7 @@ fn boxed(alloc: Global, view: Result<View, AllocError>) -> Result<Box<Kept>, All
     Ok(Box::new(alloc, Kept::View(view))?)
 }
 
-/// Asks questions of a view. Nothing changes but its answer.
+/// Asks questions of a view. Nothing but its answer changes.
 #[unsafe(no_mangle)]
 pub extern "C" fn camp_view_ask(alloc: Global, view: &mut Handle, text: &[u8]) -> i32
     ensures { AsksView view.old.keeper.held text.now result view.new.keeper.held }
@@ -71,7 +71,7 @@ pub extern "C" fn camp_view_ask(alloc: Global, view: &mut Handle, text: &[u8]) -
     code
 }
 
-/// How many bytes the answer to the last text has.
+/// Returns the number of bytes of the answer to the last text.
 #[unsafe(no_mangle)]
 pub extern "C" fn camp_view_answer_length(alloc: Global, view: &mut Handle) -> usize
     ensures same { view.new.keeper.held ≡ view.old.keeper.held }
@@ -85,7 +85,8 @@ pub extern "C" fn camp_view_answer_length(alloc: Global, view: &mut Handle) -> u
     length
 }
 
-/// Writes as much of the answer to the last text as a buffer takes, and tells how many bytes that is.
+/// Writes as much of the answer to the last text as fits in a buffer, and returns the number of bytes
+/// written.
 #[unsafe(no_mangle)]
 pub extern "C" fn camp_view_answer(alloc: Global, view: &mut Handle, buffer: &mut [u8]) -> usize
     ensures same { view.new.keeper.held ≡ view.old.keeper.held }
@@ -100,7 +101,7 @@ pub extern "C" fn camp_view_answer(alloc: Global, view: &mut Handle, buffer: &mu
     count
 }
 
-/// Opens a closed handle on one more view of what a view shows.
+/// Opens a closed handle on one more view of the state of a view.
 #[unsafe(no_mangle)]
 pub extern "C" fn camp_view_again(alloc: Global, view: &mut Handle, other: &mut Handle) -> i32
     ensures same { view.new.keeper.held ≡ view.old.keeper.held }

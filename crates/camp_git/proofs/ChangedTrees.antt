@@ -1,4 +1,4 @@
--- What the changes of a commit make of a tree that git has.
+-- The tree of git after the changes of a commit.
 use Rattle.camp_git.proofs.Words.{◌≡◌, ◌⊎◌, ◌++◌, ◌∷◌, [], ◌||◌, ◌&&◌, ◌∙◌, ℕ, not, Bool, List, Option, None, Some, true, false, true≢false, cond, refl, sym, ap, inl, inr, bytes_eq, contains_key, get, is_some, none-some, Files, Lines}
 use Rattle.std.specs.Cmp.{first_so}
 use Rattle.std.proofs.lemmas.Bool.{cases_Bool}
@@ -16,14 +16,14 @@ use Rattle.std.specs.Prelude.{option_map}
 abbrev pub IsWithin : GitTree → Files → Type 0
 IsWithin git files = (path : List ℕ) (content : List ℕ) → git path ≡ Some content → contains_key files path ≡ true
 
--- in a tree that git holds no file lies in another
+-- in a tree that git holds no file is in the folder of another
 pub not_inside : (files : Files) (folder path : List ℕ) → CanHold files → contains_key files folder ≡ true → contains_key files path ≡ true → is_inside folder path ≡ false
 not_inside files folder path held has there = elim (cases_Bool (is_inside folder path)) [
   | inl inside ↦ absurd (held folder has (inr (path, there, inside)))
   | inr apart ↦ apart
 ]
 
--- what stands at a path is some content, or nothing
+-- a path has some content, or none
 some_or_none : (o : Option (List ℕ)) → ((content : List ℕ) × (o ≡ Some content)) ⊎ (o ≡ None)
 some_or_none None = inr refl
 some_or_none (Some content) = inl (content, refl)
@@ -32,7 +32,7 @@ none_anyway : (b : Bool) (o : Option (List ℕ)) → o ≡ None → cond b None 
 none_anyway true o e = sym e
 none_anyway false o e = refl
 
--- a file of a held tree goes alone
+-- only a file of a held tree is deleted
 pub deleted_alone : (git : GitTree) (files : Files) (path other : List ℕ) → CanHold files → IsWithin git files → contains_key files path ≡ true → changed git (FileDelete path) other ≡ cond (bytes_eq other path) None (git other)
 deleted_alone git files path other held within has = elim (some_or_none (git other)) [
   | inl (content, is) ↦ ap (λ b. cond b None (git other)) (ap (λ b. bytes_eq other path || b) (not_inside files path other held has (within other content is)) ∙ or_none (bytes_eq other path))
@@ -59,7 +59,7 @@ passed true false false v x none = refl
 passed true a true v x none = absurd (true≢false (none refl))
 passed false a d v x none = refl
 
--- what a path that stays or goes has, where another goes
+-- a path whose file stays or is deleted keeps its content when another is deleted
 kept_within : (b : Bool) (o : Option (List ℕ)) (content : List ℕ) → cond b None o ≡ Some content → o ≡ Some content
 kept_within true o content e = absurd (none-some content e)
 kept_within false o content e = e
@@ -85,7 +85,7 @@ module _ (old new : Files) (held : CanHold old) where
   deleted (path ∷ paths) git other within =
       delete_next path paths git other (goes old new path) refl within (λ next inside. deleted paths next other inside)
 
--- what a file of a tree has
+-- the content of a file of a tree
 abbrev pub content_at : Files → List ℕ → Option (List ℕ)
 content_at files path = option_map content_of (get files path)
 
@@ -128,7 +128,7 @@ module _ (old new : Files) (was : CanHold old) (held : CanHold new) (paths : Lis
   gone : (path : List ℕ) → changed_by git (flat_map (deletion_of old new) paths) path ≡ cond (is_among paths path && goes old new path) None (git path)
   gone path = deleted old new was paths git path within_old
 
-  -- of the files that stand there then each is in the new tree
+  -- each of the files that remain is in the new tree
   within_new : IsWithin (changed_by git (flat_map (deletion_of old new) paths)) new
   within_new path content e = elim (cases_Bool (is_among paths path)) [
     | inl listed ↦ stays_there (contains_key old path) (contains_key new path) (within_old path content (kept_within _ (git path) content (sym (gone path) ∙ e))) (sym (gone path ∙ ap (λ b. cond (b && goes old new path) None (git path)) listed) ∙ e)
@@ -146,7 +146,7 @@ module _ (old new : Files) (was : CanHold old) (held : CanHold new) (paths : Lis
   told path true is None e None f = refl
   told path false is now e before f = ap (option_map content_of) (sym f ∙ sym (stays path is) ∙ e)
 
-  -- behind the changes git has the new tree
+  -- after the changes git has the new tree
   pub shows_new : Shows (changed_by git (flat_map (deletion_of old new) paths ++ flat_map (modification_of new) paths)) new
   shows_new path =
       ap (λ (t : GitTree). t path) (changed_by-append git (flat_map (deletion_of old new) paths) (flat_map (modification_of new) paths))

@@ -1,4 +1,4 @@
--- The files of a tree stand in the order of their paths, so those that lie in a folder follow it at once.
+-- The files of a tree are sorted by path, so those in a folder are adjacent.
 use Rattle.camp_git.proofs.Words.{Bool, List, None, Option, Some, T, [], ap, arith, bytes_eq, drop, get_or, false, length, map, refl, subst, suc, sym, take, true, true≢false, zero, ℕ, ◌++◌, ◌+◌, ◌<◌, ◌∙◌, ◌∷◌, ◌≡◌, ◌≢◌, inl, inr, Ordering, Less, Equal, Greater, nat_cmp, none-some, same_Some, bytes_eq-Decides, nat_list_cmp_total, slice_cmp, contains_key, contains_key-keys, entries, entries_sorted, list_any, slice_get, is_lt, ordering_then, eq_by_cmp, Files, Lines}
 use Rattle.std.specs.FinMap.{is_sorted, len, len-entries, nat_cmp-IsAntisymmetric}
 use Rattle.std.specs.Cmp.{tied_itself}
@@ -45,7 +45,7 @@ entry_of (x ∷ es) path is =
     ]
 
 module _ (tree : Files) where
-  -- a path with a file stands among the entries
+  -- a path with a file is among the entries
   pub place_of_file : (path : List ℕ) → contains_key tree path ≡ true → (i : ℕ) × (e : List ℕ × Lines) × (slice_get (entries tree) i ≡ Some e) × (e.0 ≡ path)
   place_of_file path is = entry_of (entries tree) path (sym (contains_key-keys tree path) ∙ is)
 
@@ -63,7 +63,7 @@ then-is o p e = ap (λ r. ordering_then r p) e
 other_way : (a b : ℕ) (o : Ordering) → nat_cmp b a ≡ o → nat_cmp a b ≡ ordering_reverse o
 other_way a b o e = nat_cmp_total.antisymm a b ∙ ap ordering_reverse e
 
--- what is not before some bytes, and not behind a text that begins with them, begins with them
+-- a path that is not less than some bytes, but not greater than a path that begins with them, begins with them
 abbrev Begins : List ℕ → List ℕ → List ℕ → Type 0
 Begins bytes rest other =
     ¬ (slice_cmp nat_cmp other bytes ≡ Less) → ¬ (slice_cmp nat_cmp (bytes ++ rest) other ≡ Less) → take (length bytes) other ≡ bytes
@@ -82,7 +82,7 @@ between (a ∷ bytes) rest [] low high = absurd (low refl)
 between (a ∷ bytes) rest (b ∷ other) low high =
     begins_more a b bytes rest other (nat_cmp b a) refl (between bytes rest other) low high
 
--- what begins with some bytes is not before them
+-- a path that begins with some bytes is not less than them
 not_before : (bytes rest : List ℕ) → ¬ (slice_cmp nat_cmp (bytes ++ rest) bytes ≡ Less)
 not_before [] [] e = less≢equal (sym e)
   where
@@ -99,7 +99,7 @@ not_both a b less back =
     true≢false (ap is_lt (sym less ∙ nat_list_cmp_total.antisymm a b ∙ ap ordering_reverse back))
 
 module _ (tree : Files) (bytes : List ℕ) (place : ℕ) (is : IsPlaceOf tree bytes place) where
-  -- the first file that is not before some bytes begins with them, if any does
+  -- the first file that is not less than some bytes begins with them, if any does
   pub starts_here : (other : List ℕ) → contains_key tree other ≡ true → take (length bytes) other ≡ bytes → (e : List ℕ × Lines) × (slice_get (entries tree) place ≡ Some e) × (take (length bytes) e.0 ≡ bytes)
   starts_here other has begins = by (place_of_file tree other has)
     where
@@ -118,7 +118,7 @@ module _ (tree : Files) (bytes : List ℕ) (place : ℕ) (is : IsPlaceOf tree by
         ]
       ]
 
-  -- and it has just these, if a file has
+  -- and it has exactly these, if a file has
   pub stands_here : contains_key tree bytes ≡ true → (e : List ℕ × Lines) × (slice_get (entries tree) place ≡ Some e) × (e.0 ≡ bytes)
   stands_here has = by (place_of_file tree bytes has)
     where
@@ -139,7 +139,7 @@ module _ (tree : Files) where
       let within = slice_get_within (entries tree) n file is in
       absurd (omega (arith, within, e, len-entries tree))
 
-  -- what is before the bytes where the file at a place is
+  -- the paths less than the bytes, if the file at an index is
   pub all_before : (bytes : List ℕ) (m : ℕ) → ((e : List ℕ × Lines) → slice_get (entries tree) m ≡ Some e → slice_cmp nat_cmp e.0 bytes ≡ Less) → m < len tree → (k : ℕ) (file : List ℕ × Lines) → k < m + 1 → slice_get (entries tree) k ≡ Some file → slice_cmp nat_cmp file.0 bytes ≡ Less
   all_before bytes m there within k file l is = elim (cases_order k m) [
     | inl same ↦ there file (subst (λ n. slice_get (entries tree) n ≡ Some file) same is)
@@ -151,7 +151,7 @@ module _ (tree : Files) where
     ]
   ]
 
--- a path lies in a folder where it is the folder's, a slash and more
+-- a path is in a folder if it is the folder's path, a slash and more
 pub inside_begins : (folder path : List ℕ) → is_inside folder path ≡ true → take (length (folder ++ 47 ∷ [])) path ≡ folder ++ 47 ∷ []
 inside_begins folder path e =
     sym ((bytes_eq-Decides (folder ++ 47 ∷ []) (take (length (folder ++ 47 ∷ [])) path)).0 e)
@@ -177,7 +177,7 @@ at_slash (a ∷ folder) (b ∷ path) e =
     let rest = at_slash folder path (ap (drop 1) e) in
     (ap (λ n. n ∷ take (length folder) path) (ap (λ l. get_or l 0 0) e) ∙ ap (λ l. a ∷ l) rest.0, rest.1)
 
--- a path lies in the folder up to a slash, and in no other one that is as long
+-- a path is in the folder up to a slash, and in no other one of the same length
 pub inside_at : (path : List ℕ) (at : ℕ) → at < length path → get_or path at 0 ≡ 47 → is_inside (take at path) path ≡ true
 inside_at path at within is =
     let long : length (take at path ++ 47 ∷ []) ≡ at + 1 = omega (arith, within, length-append (take at path) (47 ∷ []), length-take at path) in

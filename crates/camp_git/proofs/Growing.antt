@@ -23,13 +23,13 @@ grows_not text = (sym (append-nil text), tt)
 pub grows_by_one : (old new : List ℕ) (change : FileChange) → new ≡ old ++ change_text change → HasGoodPath change → GrowsBy old (change ∷ []) new
 grows_by_one old new change is good = (is ∙ ap (λ t. old ++ t) (sym (append-nil (change_text change))), (good, tt))
 
--- a file with its content, part by part
+-- a file with its content, piece by piece
 pub grows_by_file : (old word named ended new path content : List ℕ) → word ≡ old ++ codes "M 100644 inline " → named ≡ word ++ path_text path → ended ≡ named ++ newline ∷ [] → CanBeNamed path → new ≡ ended ++ data_text content → GrowsBy old (FileModify path content ∷ []) new
 grows_by_file old word named ended new path content first second third good fourth =
     let told = ap (λ t. t ++ newline ∷ []) (second ∙ ap (λ t. t ++ path_text path) first ∙ append_assoc old (codes "M 100644 inline ") (path_text path)) ∙ append_assoc old (codes "M 100644 inline " ++ path_text path) (newline ∷ []) in
     grows_by_one old new (FileModify path content) (fourth ∙ ap (λ t. t ++ data_text content) (third ∙ told) ∙ append_assoc old (line (codes "M 100644 inline " ++ path_text path)) (data_text content)) good
 
--- a text that goes on with the changes at the rest of the paths has grown by those at all of them
+-- a text that grows by the changes at the rest of the paths has grown by those at all of them
 abbrev pub GoesOn : (List ℕ → List FileChange) → List (List ℕ) → List ℕ → List ℕ → List (List ℕ × Unit {0}) → Type 0
 GoesOn f all first text rest =
     (final : List ℕ) → GrowsBy text (flat_map f (map (λ entry. entry.0) rest)) final → GrowsBy first (flat_map f all) final

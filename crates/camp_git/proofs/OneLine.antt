@@ -1,4 +1,4 @@
--- Names and paths stand in one line.
+-- Names and paths have no line feed.
 use Rattle.camp_git.proofs.Words.{◌≡◌, ◌∙◌, ◌∷◌, [], ◌||◌, ◌==◌, length, not, ℕ, Bool, true, false, true≢false, List, refl, sym, ap, list_any}
 use Rattle.std.specs.Prelude.{codes, nat_le, slice_index}
 use Rattle.std.specs.Cmp.{second_so}

@@ -1,4 +1,4 @@
--- Where the patches of a branch end, by the labels of its catches.
+-- The ends of the patches of a branch, by the labels of its catches.
 use Rattle.camp_git.proofs.Words.{◌≡◌, ◌∙◌, ◌∷◌, [], ◌++◌, ◌+◌, ◌<◌, ◌≤◌, ℕ, zero, suc, List, drop, take, get_or, length, refl, sym, ap, cond, arith}
 use Rattle.std.proofs.Math.Nat.{add-zero, suc-add, zero-add}
 use Rattle.std.proofs.lemmas.Bool.{ne_eqb}
@@ -15,7 +15,7 @@ use Rattle.camp_git.specs.Inside.Steps.{led_by}
 keys_behind : (at n : ℕ) (list : List Catch) → keys_of (drop (at + n) list) ≡ drop n (keys_of (drop at list))
 keys_behind at n list = ap keys_of (sym (drop-drop n at list)) ∙ sym (drop-map catch_key n (drop at list))
 
--- no label of a place from 2 on ends what leads
+-- a label with a place from 2 on does not begin a patch
 led_from : (name : List ℕ) (place n : ℕ) (rest : List Key) → 2 ≤ place → led_by (labels_from name place n ++ rest) ≡ n + led_by rest
 led_from name place zero rest l = sym (zero-add (led_by rest))
 led_from name place (suc n) rest l =
@@ -36,7 +36,7 @@ led_in name (suc n) rest l none =
     let e : led_by (labels_from name 2 n ++ rest) ≡ n = led_from name 2 n rest (omega arith) ∙ ap (λ m. n + m) none ∙ add-zero n in
     omega (arith, e)
 
--- a patch ends where the next label of place 1 stands
+-- a patch ends before the next label with place 1
 pub patch_ends : (list : List Catch) (at : ℕ) (patch : Patch) (rest : List Patch) → keys_of (drop at list) ≡ labels_of (patch ∷ rest) → IsSized patch → AllByRecursion IsSized rest → at + 1 + led_by (keys_of (drop (at + 1) list)) ≡ at + patch.changes
 patch_ends list at patch rest labels size sized =
     let led = ap led_by (keys_behind at 1 list ∙ ap (drop 1) labels) in
@@ -48,12 +48,12 @@ drop_labels : (name : List ℕ) (place n : ℕ) (rest : List Key) → drop n (la
 drop_labels name place zero rest = refl
 drop_labels name place (suc n) rest = drop_labels name (place + 1) n rest
 
--- and behind it stand the labels of the next
+-- and after it come the labels of the next
 pub labels_behind : (list : List Catch) (at : ℕ) (patch : Patch) (rest : List Patch) → keys_of (drop at list) ≡ labels_of (patch ∷ rest) → keys_of (drop (at + patch.changes) list) ≡ labels_of rest
 labels_behind list at patch rest labels =
     keys_behind at patch.changes list ∙ ap (drop patch.changes) labels ∙ drop_labels patch.name 1 patch.changes (labels_of rest)
 
--- the labels of a patch stand within those of its branch
+-- the labels of a patch are within those of its branch
 pub ends_within : (list : List Catch) (at : ℕ) (patch : Patch) (rest : List Patch) → keys_of (drop at list) ≡ labels_of (patch ∷ rest) → 1 ≤ patch.changes → at + patch.changes ≤ length list
 ends_within list at patch rest labels some =
     let long = sym (length-map (drop at list) catch_key) ∙ ap length labels ∙ length-append (labels_from patch.name 1 patch.changes) (labels_of rest) in
@@ -70,14 +70,14 @@ first_name list (suc n) zero d name rest labels some more = absurd (omega (arith
 first_name [] (suc n) (suc m) d name rest labels some more = absurd (omega (arith, ap length labels))
 first_name (k ∷ list) (suc n) (suc m) d name rest labels some more = ap name_at_front labels
 
--- where a catch stands, a patch does
+-- if there is a catch, there is a patch
 pub some_patch : (list : List Catch) (at : ℕ) (rest : List Patch) → keys_of (drop at list) ≡ labels_of rest → at < length list → (patch : Patch) × (more : List Patch) × (rest ≡ patch ∷ more)
 some_patch list at [] labels within =
     let none = sym (length-map (drop at list) catch_key) ∙ ap length labels in
     absurd (omega (arith, none, within, length-drop at list))
 some_patch list at (patch ∷ more) labels within = (patch, more, refl)
 
--- and where none does, no patch
+-- and if there is none, there is no patch
 pub no_patch : (list : List Catch) (at : ℕ) (rest : List Patch) → keys_of (drop at list) ≡ labels_of rest → AllByRecursion IsSized rest → length list ≤ at → rest ≡ []
 no_patch list at [] labels sized end = refl
 no_patch list at (patch ∷ more) labels sized end =

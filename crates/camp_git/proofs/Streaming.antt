@@ -1,4 +1,4 @@
--- The stream of a branch, as it grows commit by commit.
+-- The stream of a branch, growing commit by commit.
 use Rattle.camp_git.proofs.Words.{◌≡◌, ◌∙◌, ◌∷◌, [], ◌++◌, ◌+◌, ◌-◌, ◌<◌, ◌≤◌, ◌==◌, inl, inr, ℕ, true, cond, zero, suc, List, Option, None, Some, is_some, drop, take, get_or, length, refl, sym, ap, subst, arith, append_assoc, append-nil, true≢false, contains_key, get, Files, nat_cmp, slice_cmp}
 use Rattle.std.specs.FinMap.{empty, get-empty}
 use Rattle.std.specs.List.{AllByRecursion, flat_map}
@@ -22,7 +22,7 @@ use Rattle.camp_git.specs.Inside.Steps.{led_by}
 use Rattle.camp_git.specs.Inside.Streams.{AddsCommit}
 use Rattle.camp_git.specs.declared.commits.Place.{Place}
 
--- the commit that was kept last
+-- the commit that was stored last
 abbrev pub newest_of : List Kept → Option Kept
 newest_of [] = None
 newest_of (kept ∷ older) = Some kept
@@ -32,7 +32,7 @@ abbrev pub IsNewest : List Kept → ℕ → Files → Type 0
 IsNewest [] mark files = (mark ≡ 0) × (files ≡ empty)
 IsNewest (kept ∷ older) mark files = (0 < mark) × (kept.mark ≡ mark) × Shows kept.tree files
 
--- how far the stream of a branch has come: it tells the patches up to a place, and the rest stands behind
+-- the progress of the stream of a branch: it represents the patches up to an index, and the rest comes after
 pub record Progress (name : List ℕ) (branch : List Catch) (at : ℕ) (text : List ℕ) (tree : Files) : Type 0 where
   pub patches : List Patch
   pub has : HasPatches branch patches
@@ -76,7 +76,7 @@ nothing_told name branch lawful = record {
   first = λ patch path bad. bad;
 }
 
--- what a commit is from is the one that was kept last
+-- the parent of a commit is the one that was stored last
 from_newest : (kept : List Kept) (at : ℕ) (files : Files) (commit : Commit) → IsNewest kept at files → parent_of kept commit (from_of at) ≡ newest_of kept
 from_newest [] zero files commit newest = refl
 from_newest [] (suc at) files commit newest = absurd (omega (arith, newest.0))
@@ -84,7 +84,7 @@ from_newest (k ∷ older) zero files commit newest = absurd (omega (arith, newes
 from_newest (k ∷ older) (suc at) files commit newest =
     ap (λ b. cond b (Some k) (marked older (suc at))) (ap (λ m. m == suc at) newest.1 ∙ eq-eqb (suc at) (suc at) refl)
 
--- a later mark is above that of the one that was kept last
+-- a later mark is greater than that of the one that was stored last
 rises_newest : (kept : List Kept) (at more : ℕ) (files : Files) → IsNewest kept at files → 0 < more → IsAbove (mark_of (newest_of kept)) (at + more)
 rises_newest [] at more files newest some = omega (arith, some)
 rises_newest (k ∷ older) at more files newest some = omega (arith, newest.1, some)
@@ -108,7 +108,7 @@ module _ (name : List ℕ) (branch : List Catch) (at : ℕ) (text : List ℕ) (t
   pub next_sized : AllByRecursion IsSized (patch ∷ more)
   next_sized = subst (AllByRecursion IsSized) next s.sized
 
-  -- the catches of the patch lead somewhere
+  -- the catches of the patch lead to a tree
   pub next_fits : (after : Files) × FitsAll (take patch.changes (drop at branch)) tree after × FitsAll (drop (at + patch.changes) branch) after s.aim
   next_fits = let w = second_fits (take patch.changes (drop at branch)) (drop (at + patch.changes) branch) tree s.aim (subst (λ l. FitsAll l tree s.aim) (drop_on at patch.changes branch) s.fits) in
       (w.0, w.1, w.2)

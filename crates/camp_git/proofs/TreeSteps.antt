@@ -1,4 +1,4 @@
--- What the primitives of a patch leave as it is.
+-- What the primitives of a patch leave unchanged.
 use Rattle.camp_git.proofs.Words.{◌≡◌, ◌∙◌, ◌∷◌, [], ◌||◌, ℕ, false, cond, List, Some, None, refl, sym, ap, bytes_eq, contains_key, eq_by_cmp, get, nat_cmp, nat_list_cmp_total, slice_cmp, map_of, list_any, Files}
 use Rattle.std.specs.FinMap.{contains_key-keys, get-insert, get-remove, insert}
 use Rattle.std.proofs.lemmas.Bool.{or_parts}
@@ -25,7 +25,7 @@ stays_elsewhere (Remove own) old new path w other =
 stays_elsewhere (Hunk hunk) old new path w other =
     ap (λ (f : Files). get f path) w.becomes ∙ get-insert nat_list_cmp_total old hunk.path w.changed path ∙ ap (λ b. cond b (Some w.changed) (get old path)) (apart path hunk.path other)
 
--- sets of paths, one with the path of a primitive more
+-- sets of paths, with the path of one more primitive
 pub one_stays : (fewer paths more : Paths) (p : Primitive) (own : List ℕ) (first old new : Files) → own ≡ path_of p → more ≡ insert paths own tt → Applies p old new → ((path : List ℕ) → contains_key paths path ≡ false → (contains_key fewer path ≡ false) × (get old path ≡ get first path)) → (path : List ℕ) → contains_key more path ≡ false → (contains_key fewer path ≡ false) × (get new path ≡ get first path)
 one_stays fewer paths more p own first old new is grown w before path lacks =
     let both = or_parts (contains_key paths path) (bytes_eq path own) (sym (ap (λ m. contains_key m path) grown ∙ contains_more paths own path) ∙ lacks) in

@@ -1,4 +1,4 @@
--- What an export of a branch says.
+-- The meaning of an export of a branch.
 use Rattle.std.specs.Prelude.{◌≡◌, ℕ, ◌+◌, ◌<◌, List, [], ◌∷◌, ◌++◌, codes, option_map, take, Option, None, Some, true, ◌⊎◌}
 use Rattle.std.specs.FinMap.{contains_key, get}
 use Rattle.std.specs.List.{flat_map}
@@ -8,11 +8,11 @@ use Rattle.camp_catch.specs.declared.catches.Catch.{Catch}
 use Rattle.camp_git.specs.FastImport.{Commit, GitTree, Kept, Reads, keep_all, line}
 use Rattle.camp_git.specs.Holding.{CanHold, CannotHold}
 
--- the content of a file: its lines, LF behind each
+-- the content of a file: its lines, each with a line feed at its end
 abbrev pub content_of : Lines → List ℕ
 content_of lines = flat_map line lines
 
--- git has just the files of a tree
+-- git has exactly the files of a tree
 abbrev pub Shows : GitTree → Files → Type 0
 Shows git files = (path : List ℕ) → git path ≡ option_map content_of (get files path)
 
@@ -20,13 +20,14 @@ Shows git files = (path : List ℕ) → git path ≡ option_map content_of (get 
 abbrev pub reference_of : List ℕ → List ℕ
 reference_of branch = codes "refs/heads/" ++ branch
 
--- a mark is above 0 and above that of the parent: so no two commits that stand behind each other have one mark
+-- a mark is above 0 and above that of the parent: so no two commits of one history have the same mark
 abbrev pub IsAbove : Option ℕ → ℕ → Type 0
 IsAbove None mark = 0 < mark
 IsAbove (Some parent) mark = parent < mark
 
--- a commit tells a patch up to which a branch has these catches: it is of this branch of git and behind this parent,
--- with a mark above it; its message is the name of the patch and LF, and its tree is the one that the catches lead to, which git can hold
+-- a commit represents a patch up to which a branch has these catches: it is of this branch of git and has this
+-- parent, with a greater mark; its message is the name of the patch and a line feed, and its tree is the one that the
+-- catches lead to, which git can hold
 pub record Tells (reference : List ℕ) (parent : Option ℕ) (upto : List Catch) (name : List ℕ) (commit : Kept) : Type 0 where
   pub on : commit.reference ≡ reference
   pub behind : commit.parent ≡ parent
@@ -37,7 +38,7 @@ pub record Tells (reference : List ℕ) (parent : Option ℕ) (upto : List Catch
   pub held : CanHold files
   pub tree : Shows commit.tree files
 
--- commits tell the patches of a branch that stand behind so many of its catches, each commit behind the one before it
+-- commits represent the patches of a branch after its first catches, each commit the child of the one before it
 abbrev pub TellEach : List ℕ → List Catch → ℕ → Option ℕ → List Patch → List Kept → Type 0
 TellEach reference branch count parent [] [] = Unit {0}
 TellEach reference branch count parent [] (commit ∷ commits) = ⊥
@@ -46,7 +47,7 @@ TellEach reference branch count parent (patch ∷ patches) (commit ∷ commits) 
     Tells reference parent (take (count + patch.changes) branch) patch.name commit
     × TellEach reference branch (count + patch.changes) (Some commit.mark) patches commits
 
--- a text is an export of a branch: it reads as commits that tell its patches, in their order, one for each
+-- a text is an export of a branch: it reads as commits that represent its patches, in order, one for each
 pub record IsExport (name : List ℕ) (branch : List Catch) (text : List ℕ) : Type 0 where
   pub patches : List Patch
   pub has : HasPatches branch patches
@@ -67,8 +68,8 @@ pub record IsHeld (upto : List Catch) : Type 0 where
   pub leads : LeadsTo upto files
   pub held : CanHold files
 
--- of the patches of a branch that stand behind so many of its catches, this is the first up to which git can't hold the
--- tree of the branch, for the file of this path
+-- of the patches of a branch after its first catches, this is the first up to which git can't hold the tree of the
+-- branch, because of the file of this path
 abbrev pub IsFirstBad : List Catch → ℕ → List Patch → List ℕ → List ℕ → Type 0
 IsFirstBad branch count [] name path = ⊥
 IsFirstBad branch count (patch ∷ patches) name path =

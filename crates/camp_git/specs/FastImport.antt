@@ -1,18 +1,18 @@
--- The part of the language of `git fast-import` that an export is written in, as the manual of that command defines it.
+-- The part of the language of `git fast-import` in which an export is written, as the manual of that command defines
+-- it.
 use Rattle.std.specs.Prelude.{◌≡◌, ℕ, Bool, true, false, ◌||◌, ◌==◌, ◌<◌, if◌then◌else◌, List, [], ◌∷◌, ◌++◌, length, codes, bytes_eq, nat_eq, Option, None, Some, is_some}
 use Rattle.std.specs.List.{AllByRecursion, flat_map, list_all, list_any, starts_with}
 use Rattle.std.specs.Fmt.{decimal}
 use Rattle.camp_base.specs.Bytes.{is_path_part, path_parts}
 use Rattle.camp_base.specs.Signs.{backslash, newline, quote, slash}
 
--- a change to the files of a commit: a file gets this content, a file or a folder goes, or all goes
+-- a change to the files of a commit: a file gets this content, a file or a folder is deleted, or everything is
 pub data FileChange : Type 0 where
   FileModify : (path content : List ℕ) → FileChange
   FileDelete : (path : List ℕ) → FileChange
   FileDeleteAll : FileChange
 
--- a commit: the branch that it is for, its mark, its message, the mark of the commit that it is from, where one is
--- told, and its changes
+-- a commit: its branch, its mark, its message, the mark of its parent if one is given, and its changes
 pub record Commit : Type 0 where
   pub reference : List ℕ
   pub mark : ℕ
@@ -28,30 +28,30 @@ line text = text ++ newline ∷ []
 abbrev pub data_text : List ℕ → List ℕ
 data_text bytes = line (codes "data " ++ decimal (length bytes)) ++ line bytes
 
--- a byte between quotes as C has it: a backslash stands before a quote and before a backslash
+-- a byte in quotes as in C: a backslash comes before a quote and before a backslash
 abbrev pub escaped_byte : ℕ → List ℕ
 escaped_byte byte = if byte == quote || byte == backslash then backslash ∷ byte ∷ [] else byte ∷ []
 
--- bytes between quotes as C has them
+-- bytes in quotes as in C
 abbrev pub escaped : List ℕ → List ℕ
 escaped bytes = flat_map escaped_byte bytes
 
--- whether a path begins with a quote
+-- a path begins with a quote
 abbrev pub begins_with_quote : List ℕ → Bool
 begins_with_quote [] = false
 begins_with_quote (byte ∷ bytes) = byte == quote
 
--- a path: as it is, or, where it begins with a quote, between quotes
+-- a path: as it is or, if it begins with a quote, in quotes
 abbrev pub path_text : List ℕ → List ℕ
 path_text path = if begins_with_quote path then quote ∷ escaped path ++ quote ∷ [] else path
 
--- a change as a command; a file that gets its content is a plain one that can't be run, and its data follow at once
+-- a change as a command; a file that gets its content is a plain one that is not executable, and its data follow
 abbrev pub change_text : FileChange → List ℕ
 change_text (FileModify path content) = line (codes "M 100644 inline " ++ path_text path) ++ data_text content
 change_text (FileDelete path) = line (codes "D " ++ path_text path)
 change_text FileDeleteAll = line (codes "deleteall")
 
--- the commit that a commit is from, by its mark
+-- the parent of a commit, by its mark
 abbrev pub from_text : Option ℕ → List ℕ
 from_text None = []
 from_text (Some mark) = line (codes "from :" ++ decimal mark)
@@ -66,11 +66,11 @@ head_text commit =
 abbrev pub commit_text : Commit → List ℕ
 commit_text commit = head_text commit ++ flat_map change_text commit.changes
 
--- no byte of a text is LF
+-- no byte of a text is a line feed
 abbrev pub IsOneLine : List ℕ → Type 0
 IsOneLine text = list_any (λ byte. byte == newline) text ≡ false
 
--- a path that a command can name: none of its parts between slashes is empty, `.` or `..`, and no byte is LF
+-- a path that a command can name: none of its parts between slashes is empty, `.` or `..`, and no byte is a line feed
 abbrev pub CanBeNamed : List ℕ → Type 0
 CanBeNamed path = (list_all is_path_part (path_parts path) ≡ true) × IsOneLine path
 
@@ -86,7 +86,7 @@ pub record IsGood (commit : Commit) : Type 0 where
   pub mark : 0 < commit.mark
   pub paths : AllByRecursion HasGoodPath commit.changes
 
--- what git keeps of a tree: the content of each path that is a file
+-- what git stores of a tree: the content of each path that is a file
 abbrev pub GitTree : Type 0
 GitTree = List ℕ → Option (List ℕ)
 
@@ -94,12 +94,12 @@ GitTree = List ℕ → Option (List ℕ)
 abbrev pub no_files : GitTree
 no_files path = None
 
--- whether a path lies in a folder, at any depth
+-- a path is in a folder, at any depth
 abbrev pub is_inside : List ℕ → List ℕ → Bool
 is_inside folder path = starts_with nat_eq path (folder ++ slash ∷ [])
 
--- the tree behind a change. A file takes the place of a folder of its path, and of a file that is a folder of its
--- path; what is deleted goes with all that lies in it
+-- the tree after a change. A file replaces the folder of its path, and any file that is a folder of its path; what is
+-- deleted goes with all that is in it
 abbrev pub changed : GitTree → FileChange → GitTree
 changed tree (FileModify path content) other =
     if bytes_eq other path then Some content
@@ -107,12 +107,12 @@ changed tree (FileModify path content) other =
 changed tree (FileDelete path) other = if bytes_eq other path || is_inside path other then None else tree other
 changed tree FileDeleteAll other = None
 
--- the tree behind changes, one after the other
+-- the tree after changes, one after the other
 abbrev pub changed_by : GitTree → List FileChange → GitTree
 changed_by tree [] = tree
 changed_by tree (change ∷ changes) = changed_by (changed tree change) changes
 
--- a commit as git keeps it: its branch, its mark, its message, its parent by its mark, and its tree
+-- a commit as git stores it: its branch, its mark, its message, its parent by its mark, and its tree
 pub record Kept : Type 0 where
   pub reference : List ℕ
   pub mark : ℕ
@@ -120,7 +120,7 @@ pub record Kept : Type 0 where
   pub parent : Option ℕ
   pub tree : GitTree
 
--- the commit of a mark among those kept, the newest first
+-- the commit of a mark among those stored, the newest first
 abbrev pub marked : List Kept → ℕ → Option Kept
 marked [] mark = None
 marked (kept ∷ older) mark = if kept.mark == mark then Some kept else marked older mark
@@ -130,7 +130,7 @@ abbrev pub tip_of : List Kept → List ℕ → Option Kept
 tip_of [] reference = None
 tip_of (kept ∷ older) reference = if bytes_eq kept.reference reference then Some kept else tip_of older reference
 
--- the commit that a commit is from: that of the mark that it tells, and else the newest of its branch
+-- the parent of a commit: the one of the given mark, or else the newest of its branch
 abbrev pub parent_of : List Kept → Commit → Option ℕ → Option Kept
 parent_of kept commit None = tip_of kept commit.reference
 parent_of kept commit (Some mark) = marked kept mark
@@ -144,7 +144,7 @@ abbrev pub mark_of : Option Kept → Option ℕ
 mark_of None = None
 mark_of (Some kept) = Some kept.mark
 
--- a commit as git keeps it, behind those that it has kept
+-- a commit as git stores it, after those that it has stored
 abbrev pub keep : List Kept → Commit → Kept
 keep kept commit =
     let parent = parent_of kept commit commit.from in
@@ -156,12 +156,12 @@ keep kept commit =
       tree = changed_by (tree_of parent) commit.changes;
     }
 
--- what git keeps of commits, one after the other
+-- what git stores of commits, one after the other
 abbrev pub keep_all : List Kept → List Commit → List Kept
 keep_all kept [] = []
 keep_all kept (commit ∷ commits) = keep kept commit ∷ keep_all (keep kept commit ∷ kept) commits
 
--- the mark of the commit that a commit is from, where it tells one, is that of one before it
+-- the mark of the given parent, if there is one, is that of an earlier commit
 abbrev pub IsFromKnown : List Kept → Option ℕ → Type 0
 IsFromKnown kept None = Unit {0}
 IsFromKnown kept (Some mark) = is_some (marked kept mark) ≡ true
@@ -172,8 +172,7 @@ AreFromKnown kept [] = Unit {0}
 AreFromKnown kept (commit ∷ commits) =
     IsFromKnown kept commit.from × AreFromKnown (keep kept commit ∷ kept) commits
 
--- a text reads as these commits: it is their commands, one after the other, and each can be written, and is from one
--- before it
+-- a text reads as these commits: it is their commands, in order, and each can be written and has an earlier parent
 pub record Reads (text : List ℕ) (commits : List Commit) : Type 0 where
   pub is : text ≡ flat_map commit_text commits
   pub good : AllByRecursion IsGood commits

@@ -7,15 +7,15 @@ use Rattle.camp_base.specs.Bytes.{path_parts}
 use Rattle.camp_base.specs.Trees.{Files}
 use Rattle.camp_git.specs.FastImport.{is_inside}
 
--- whether a part of a path is `.git`, in capitals or not
+-- a part of a path is `.git`, in capitals or not
 abbrev pub is_git_part : List ℕ → Bool
 is_git_part part = bytes_eq (map to_ascii_lowercase part) (codes ".git")
 
--- whether a path has such a part
+-- a path has such a part
 abbrev pub has_git_part : List ℕ → Bool
 has_git_part path = list_any is_git_part (path_parts path)
 
--- git can't hold the file of a path: it has a part `.git`, or it is a folder of another file too
+-- git can't hold the file of a path: the path has a part `.git`, or is a folder of another file too
 abbrev pub CannotHold : Files → List ℕ → Type 0
 CannotHold files path =
     (has_git_part path ≡ true)

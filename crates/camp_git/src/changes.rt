@@ -11,8 +11,8 @@ use camp_base::{Line, Path, Tree};
 use camp_share::{SharedList, SharedMap};
 use std::alloc::AllocError;
 
-/// Appends what makes one tree of another that is the same but at these paths. The files that go stand
-/// in front, since one that comes may have the path of a folder that they lie in.
+/// Appends the changes from one tree to another that differs only at these paths. Deletions come first, since
+/// a new file may have the path of a folder that they are in.
 pub(crate) fn append_changes(
     text: &mut Vec<u8>,
     paths: &SharedMap<Path, ()>,
@@ -54,7 +54,7 @@ fn append_deletion(
     }
 }
 
-/// Whether the file of a path goes.
+/// True if the file of a path is deleted.
 fn goes(path: &Path, old: &Tree, new: &Tree) -> bool
     ensures { result ≡ (contains_key old.now path.now && not (contains_key new.now path.now)) }
 {

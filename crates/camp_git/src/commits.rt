@@ -10,8 +10,8 @@ use camp_base::{Name, Path, Tree};
 use camp_share::SharedMap;
 use std::alloc::AllocError;
 
-/// Where a commit stands: its branch, the name of its patch, its mark, which is how many catches the
-/// branch has up to and with the patch, and the mark of the commit that it is from, or 0.
+/// The place of a commit: its branch, the name of its patch, its mark, which is the number of catches of the
+/// branch up to and with the patch, and the mark of its parent, or 0.
 #[derive(Drop)]
 pub(crate) struct Place {
     pub(crate) branch: Name,
@@ -20,7 +20,7 @@ pub(crate) struct Place {
     pub(crate) from: u64,
 }
 
-/// Appends the commit that makes one tree of another, which is the same but at these paths.
+/// Appends the commit from one tree to another that differs only at these paths.
 pub(crate) fn append_commit(
     text: &mut Vec<u8>,
     place: &Place,
@@ -35,7 +35,7 @@ pub(crate) fn append_commit(
     append_changes(text, paths, old, new)
 }
 
-// A commit up to its changes.
+// Appends a commit up to its changes.
 fn append_head(text: &mut Vec<u8>, place: &Place) -> Result<(), AllocError>
     ensures text { OnOk result (text.new.items ≡ text.old.items ++ head_text (commit_at place.now [])) }
     ensures named { IfOk result (λ _. IsOneLine (reference_of place.now.branch)) }

@@ -14,7 +14,7 @@ use camp_base::{Path, Tree};
 use camp_share::SharedMap;
 use std::alloc::{AllocError, Global};
 
-/// A file of a tree that git can't hold, where the tree was made from one that it holds by changes at
+/// Returns a file of a tree that git can't hold, if the tree was made from one that it holds by changes at
 /// these paths.
 pub(crate) fn first_unheld(
     alloc: Global,
@@ -37,7 +37,7 @@ pub(crate) fn first_unheld(
     Ok(None)
 }
 
-/// The same of one path that may have come.
+/// The same for one path that may be new.
 fn unheld_if_new(
     alloc: Global,
     path: &Path,
@@ -54,7 +54,7 @@ fn unheld_if_new(
     unheld_at(alloc, path, new)
 }
 
-/// The file of a path where git can't hold it, or another that it can't hold for this one.
+/// Returns the file of a path if git can't hold it, or another that it can't hold because of this one.
 fn unheld_at(alloc: Global, path: &Path, tree: &Tree) -> Result<Option<Path>, AllocError>
     requires { map.contains_key tree.now path.now ≡ true }
     ensures { IfOk result (λ found. MatchOption found
@@ -67,7 +67,7 @@ fn unheld_at(alloc: Global, path: &Path, tree: &Tree) -> Result<Option<Path>, Al
     file_around(path, tree)
 }
 
-/// Whether a path has a part `.git`, in capitals or not.
+/// True if a path has a part `.git`, in capitals or not.
 fn has_git_part(path: &Path) -> bool
     ensures { result ≡ has_git_part path.now }
 {
@@ -82,7 +82,7 @@ fn is_git_part(part: &[u8]) -> bool
     part.eq_ignore_ascii_case(b".git")
 }
 
-/// Whether a file lies in the folder of a path.
+/// True if a file is in the folder of a path.
 fn has_file_inside(alloc: Global, path: &Path, tree: &Tree) -> Result<bool, AllocError>
     ensures { IfOk result (λ found. IsTrue found ↔ HasInside tree.now path.now) }
 {
@@ -91,7 +91,7 @@ fn has_file_inside(alloc: Global, path: &Path, tree: &Tree) -> Result<bool, Allo
     Ok(begins_some(tree, &folder))
 }
 
-/// Whether the path of some file begins with these bytes.
+/// True if the path of some file begins with these bytes.
 fn begins_some(tree: &Tree, bytes: &[u8]) -> bool
     ensures { IsTrue result ↔ IsBeginning tree.now bytes.now }
 {
@@ -101,7 +101,7 @@ fn begins_some(tree: &Tree, bytes: &[u8]) -> bool
     }
 }
 
-/// A file that is a folder of a path.
+/// Returns a file that is a folder of a path.
 fn file_around(path: &Path, tree: &Tree) -> Result<Option<Path>, AllocError>
     ensures { IfOk result (λ found. MatchOption found
         (IsNoneAround tree.now path.now)
@@ -116,7 +116,7 @@ fn file_around(path: &Path, tree: &Tree) -> Result<Option<Path>, AllocError>
     Ok(None)
 }
 
-/// The file that is the folder of a path up to a place.
+/// Returns the file that is the folder of a path up to an index.
 fn folder_to<'a>(path: &[u8], at: usize, tree: &'a Tree) -> Option<&'a Path>
     requires { at < length path.now }
     ensures { MatchOption result
@@ -130,7 +130,7 @@ fn folder_to<'a>(path: &[u8], at: usize, tree: &'a Tree) -> Option<&'a Path>
     }
 }
 
-/// The path of the file that these bytes spell.
+/// Returns the path of the file that these bytes spell.
 fn file_of<'a>(tree: &'a Tree, bytes: &[u8]) -> Option<&'a Path>
     ensures { MatchOption result
         (map.contains_key tree.now bytes.now ≡ false)
@@ -146,7 +146,7 @@ fn file_of<'a>(tree: &'a Tree, bytes: &[u8]) -> Option<&'a Path>
     }
 }
 
-/// The place of the first file whose path is not before these bytes.
+/// Returns the index of the first file whose path is not less than these bytes.
 fn place_of(tree: &Tree, bytes: &[u8]) -> usize
     ensures { IsPlaceOf tree.now bytes.now result }
 {
@@ -162,7 +162,7 @@ fn place_of(tree: &Tree, bytes: &[u8]) -> usize
     low
 }
 
-/// Whether the path of the file at a place is before these bytes.
+/// True if the path of the file at an index is less than these bytes.
 fn stands_before(tree: &Tree, place: usize, bytes: &[u8]) -> bool
     ensures { (file : List ℕ × Lines) → slice_get (map.entries tree.now) place ≡ Some file →
         IsTrue result ↔ (slice_cmp nat_cmp file.0 bytes.now ≡ Less) }

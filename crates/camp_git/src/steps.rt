@@ -12,14 +12,14 @@ use camp_prim::Named;
 use camp_share::{Shared, SharedList, SharedMap};
 use std::alloc::{AllocError, Global};
 
-/// The tree behind a patch, and paths outside which it is the tree in front of the patch.
+/// The tree after a patch, and paths outside which it is the tree before the patch.
 #[derive(Drop)]
 pub(crate) struct Step {
     pub(crate) tree: Tree,
     pub(crate) paths: SharedMap<Path, ()>,
 }
 
-/// Where the patch ends that has the catches in front of a place, at least one of them.
+/// Returns the index after the catches from `from` on that are of the patch before it.
 pub(crate) fn patch_end(catches: &SharedList<Shared<Catch>>, from: usize) -> usize
     requires { from ≤ length catches.now }
     ensures exact { result ≡ from + led_by (keys_of (drop from catches.now)) }
@@ -36,7 +36,7 @@ pub(crate) fn patch_end(catches: &SharedList<Shared<Catch>>, from: usize) -> usi
     last
 }
 
-/// The step from a tree over the catches of a patch.
+/// Makes the step from a tree over the catches of a patch.
 pub(crate) fn step_over(
     alloc: Global,
     tree: &Tree,
@@ -54,7 +54,7 @@ pub(crate) fn step_over(
     Ok(Step { tree: after, paths })
 }
 
-/// Makes the changes of an effect, each of which applies where it is made, and adds their paths to others.
+/// Applies the changes of an effect, which do apply, and adds their paths to others.
 fn run(effect: &[Named], tree: &mut Tree, paths: &mut SharedMap<Path, ()>) -> Result<(), AllocError>
     requires runs { (after : Files) × AppliesAll effect.now tree.old after }
     ensures runs { IfOk result (λ _. AppliesAll effect.now tree.old tree.new) }

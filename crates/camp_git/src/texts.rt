@@ -9,7 +9,7 @@ use camp_share::SharedList;
 use itoa::Buffer;
 use std::alloc::AllocError;
 
-/// Appends parts, one behind the other.
+/// Appends parts, one after the other.
 pub(crate) fn append_parts(text: &mut Vec<u8>, parts: &[&[u8]]) -> Result<(), AllocError>
     ensures { OnOk result (text.new.items ≡ text.old.items ++ flat_map (λ part. part.now) parts.now) }
 {
@@ -31,7 +31,7 @@ pub(crate) fn append_numbered(
     append_parts(text, &[word, digits.format(number).as_bytes(), b"\n"])
 }
 
-/// Appends the message of a commit: the name of the patch, and LF.
+/// Appends the message of a commit: the name of the patch and a line feed.
 pub(crate) fn append_message(text: &mut Vec<u8>, name: &Name) -> Result<(), AllocError>
     ensures { OnOk result (text.new.items ≡ text.old.items ++ data_text (line name.now)) }
 {
@@ -39,7 +39,7 @@ pub(crate) fn append_message(text: &mut Vec<u8>, name: &Name) -> Result<(), Allo
     append_parts(text, &[name.bytes(), b"\n\n"])
 }
 
-/// Appends the lines of a file as data, LF behind each.
+/// Appends the lines of a file as data, each with a line feed at its end.
 pub(crate) fn append_content(text: &mut Vec<u8>, lines: &SharedList<Line>) -> Result<(), AllocError>
     ensures { OnOk result (text.new.items ≡ text.old.items ++ data_text (content_of lines.now)) }
 {
@@ -51,7 +51,7 @@ pub(crate) fn append_content(text: &mut Vec<u8>, lines: &SharedList<Line>) -> Re
     append_parts(text, &[content.as_slice(), b"\n"])
 }
 
-/// Appends a path: as it is, or, where it begins with a quote, between quotes.
+/// Appends a path: as it is or, if it begins with a quote, in quotes.
 pub(crate) fn append_path(text: &mut Vec<u8>, path: &Path) -> Result<(), AllocError>
     ensures text { OnOk result (text.new.items ≡ text.old.items ++ path_text path.now) }
     ensures named { IfOk result (λ _. CanBeNamed path.now) }

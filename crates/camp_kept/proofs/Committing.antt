@@ -15,7 +15,7 @@ use Rattle.camp_store.specs.Blocks.{Stands}
 use Rattle.camp_store.specs.Logs.{IsBeforeOrAfter}
 use Rattle.camp_store.proofs.BlockLemmas.{kept_stands}
 
--- the calls behind the first
+-- the calls after the first ones
 pub rest_is : (calls all : List Call) (front : IsBeginning calls all) → drop (length calls) all ≡ front.rest
 rest_is calls all front = ap (λ (l : List Call). drop (length calls) l) (sym front.makes) ∙ drop_at calls front.rest (length calls) refl
 
@@ -26,11 +26,11 @@ texts_grow calls all front =
 some_texts : (calls : List Call) → store_texts calls ≡ [] → ⊥
 some_texts calls none = absurd (omega (arith, ap (λ (l : List (List ℕ)). length l) none))
 
--- a file that stands for the texts of calls tells them
+-- a file with the texts of calls decodes to them
 pub stands_told : (calls : List Call) (file : List ℕ) → Stands (store_texts calls) file → Tells calls file
 stands_told calls file stands = record { texts = store_texts calls; are = inl refl; stands = stands; short = λ none. absurd (some_texts calls none) }
 
--- what a crash leaves of a store that grows
+-- the files that a crash may leave of a store that grows
 pub is_either : (calls all : List Call) (new : List (List ℕ)) → AreAccepted calls → AreAccepted all → store_texts calls ++ new ≡ store_texts all
     → (c : List ℕ) → IsBeforeOrAfter (store_texts calls) new c → IsStoreOf calls c ⊎ IsStoreOf all c
 is_either calls all new one more grows c (inl before) = inl (record { stands = before; accepted = one })
@@ -42,7 +42,7 @@ pub call_texts-push : (history : List (ℕ × Call)) (entry : ℕ × Call) → c
 call_texts-push [] entry = refl
 call_texts-push (first ∷ history) entry = ap (λ (l : List (List ℕ)). call_text first.1 ∷ l) (call_texts-push history entry)
 
--- the calls that are to be kept, as a slice of a history has them
+-- the calls that are to be persisted, as a slice of a history
 pub slice_is : (history : List (ℕ × Call)) (calls : List Call) (front : IsBeginning calls (calls_of history)) (k : ℕ) → k ≡ length calls
     → calls_of (take (length history - k) (drop k history)) ≡ front.rest
 slice_is history calls front k is =
@@ -51,7 +51,7 @@ slice_is history calls front k is =
     ∙ ap (λ (n : ℕ). drop n (calls_of history)) is
     ∙ rest_is calls (calls_of history) front
 
--- the texts that a commit adds to those of the calls that are kept make those of all calls
+-- the texts of a commit, appended to those of the persisted calls, are those of all calls
 pub committed : (calls : List Call) (read book : List (ℕ × Call)) → read ≡ book → IsLegal repository book → (k : ℕ) → k ≡ length calls → AreAccepted calls → IsBeginning calls (calls_of book)
     → (new : List (List ℕ)) → new ≡ call_texts (calls_of (take (length read - k) (drop k read))) → AllByRecursion CanStand (calls_of (take (length read - k) (drop k read)))
     → AreAccepted (calls_of book) × (store_texts calls ++ new ≡ store_texts (calls_of book))

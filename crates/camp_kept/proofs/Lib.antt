@@ -1,5 +1,6 @@
 pub mod Committing
 mod Listing
+mod Numbering
 mod Opening
 mod Recalling
 mod Refusing

@@ -14,7 +14,7 @@ use Rattle.camp_repo.specs.Steps.{step}
 use Rattle.camp_script.specs.Canonical.{IsScriptCall}
 use Rattle.camp_script.specs.Keeping.{CanStand, ListsNames, calls_of}
 
--- a call that is accepted lists a name, where it lists names
+-- an accepted call that lists names lists at least one
 pub lists_names : (state : Contents) (c : Call) → next_of (step state c) ≢ None → ListsNames c
 lists_names state (call.Branch new from) some = tt
 lists_names state (call.Record branch name changes) some = tt
@@ -42,7 +42,7 @@ both [] [] can stand lists = tt
 both [] (c ∷ two) can stand lists = (stand.0 lists.0, both [] two tt stand.1 lists.1)
 both (c ∷ one) two can stand lists = (can.0, both one two can.1 stand lists.1)
 
--- the seats of calls decide nothing
+-- the seats of calls do not matter
 run_alone : (state : Option Contents) (history : List (ℕ × Call)) → run repository state history ≡ run repository state (alone (calls_of history))
 run_alone state [] = refl
 run_alone state (entry ∷ history) = run_alone (option_and_then (λ s. repository.after s entry.1) state) history
@@ -50,7 +50,7 @@ run_alone state (entry ∷ history) = run_alone (option_and_then (λ s. reposito
 pub legal_alone : (history : List (ℕ × Call)) → IsLegal repository history → IsLegal repository (alone (calls_of history))
 legal_alone history legal = subst (λ (o : Option Contents). IsSome o) (run_alone (Some repository.initial) history) legal
 
--- accepted calls that stand in scripts, and more
+-- accepted calls that a script can contain, and more
 pub accepted_more : (calls all : List Call) (front : IsBeginning calls all) → AllByRecursion IsScriptCall calls → AllByRecursion CanStand front.rest → IsLegal repository (alone all) → AreAccepted all
 accepted_more calls all front can stand legal = record {
   can = subst (λ (l : List Call). AllByRecursion IsScriptCall l) front.makes (both calls front.rest can stand (subst (λ (l : List Call). AllByRecursion ListsNames l) (sym front.makes) (all_list (Some repository.initial) all legal)));

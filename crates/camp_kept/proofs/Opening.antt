@@ -1,4 +1,4 @@
--- What a file tells that is opened.
+-- The calls of a file that is opened.
 use Rattle.std.proofs.Common.{◌≡◌, inl, inr, ℕ, List, [], ◌≤◌, length, refl, sym, ◌∙◌, ap, subst}
 use Rattle.camp_call.specs.declared.calls.Call.{Call}
 use Rattle.camp_kept.specs.Keeping.{AreTexts, Tells, most_unbegun, store_texts, title}
@@ -11,14 +11,14 @@ use Rattle.camp_store.specs.declared.logs.Log.{Log}
 use Rattle.camp_store.specs.declared.readings.Reading.{Reading}
 use Rattle.camp_store.proofs.BlockLemmas.{kept_stands, stands_once}
 
--- a file that stands for the same texts as one that tells calls tells them too
+-- a file with the same texts as one that decodes to calls decodes to them too
 pub tells_too : (texts : List (List ℕ)) (calls : List Call) (file : List ℕ) → Stands texts file → Tells calls file → (c : List ℕ) → Stands texts c
     → (texts ≡ [] → length c ≤ most_unbegun) → Tells calls c
 tells_too texts calls file stands told c now short =
     let same : told.texts ≡ texts = sym (stands_once texts told.texts file stands told.stands) in
     record { texts = texts; are = subst (λ (ts : List (List ℕ)). AreTexts ts calls) same told.are; stands = now; short = short }
 
--- a file of no texts that tells calls is short
+-- a file without texts that decodes to calls is short
 pub told_short : (texts : List (List ℕ)) (calls : List Call) (file : List ℕ) → Stands texts file → Tells calls file → texts ≡ [] → length file ≤ most_unbegun
 told_short texts calls file stands told none = told.short (sym (stands_once texts told.texts file stands told.stands) ∙ none)
 
@@ -33,7 +33,7 @@ pub no_calls : (calls : List Call) → AreTexts [] calls → calls ≡ []
 no_calls calls (inl are) = absurd (no_texts title _ (sym are))
 no_calls calls (inr none) = none.1
 
--- while a title is put
+-- while a title is appended
 pub titled_or_not : (c : List ℕ) → length c ≤ most_unbegun → IsBeforeOrAfter [] (store_texts []) c → Tells [] c
 titled_or_not c short (inl before) = record { texts = []; are = inr (refl, refl); stands = before; short = λ none. short }
 titled_or_not c short (inr after) = stands_told [] c after
@@ -45,7 +45,7 @@ still_begun seen may_leave log keeps short c now =
     titled_or_not c (subst (λ (f : List ℕ). length f ≤ most_unbegun) (sym (keeps.durable c now)) short)
     (inl (kept_stands seen may_leave [] (disk_of log) log.length log.digest keeps c now))
 
--- a file that has become a store tells what it told before
+-- a file that has become a store decodes to the same calls as before
 pub told_again : (texts : List (List ℕ)) (calls others : List Call) → AreTexts texts calls → AreTexts texts others → (c : List ℕ) → Stands (store_texts others) c → Tells calls c
 told_again texts calls others (inl are) (inl were) c stands =
     stands_told calls c (subst (λ (ts : List (List ℕ)). Stands ts c) (sym were ∙ are) stands)
@@ -54,6 +54,6 @@ told_again texts calls others (inr none) (inl were) c stands = absurd (no_texts 
 told_again texts calls others (inr none) (inr nor) c stands =
     stands_told calls c (subst (λ (l : List Call). Stands (store_texts l) c) (nor.1 ∙ sym none.1) stands)
 
--- the texts of what was told, as they were read
+-- the texts of the calls, as they were read
 pub as_read : (texts : List (List ℕ)) (calls : List Call) (file : List ℕ) → Stands texts file → Tells calls file → AreTexts texts calls
 as_read texts calls file stands told = subst (λ (ts : List (List ℕ)). AreTexts ts calls) (sym (stands_once texts told.texts file stands told.stands)) told.are

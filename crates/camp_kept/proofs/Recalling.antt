@@ -1,4 +1,4 @@
--- Calls by their texts, and what a file tells of them.
+-- Calls by their texts, and the calls of a file.
 use Rattle.std.proofs.Common.{◌≡◌, inl, inr, Bool, true, false, List, [], ◌∷◌, ◌++◌, length, map, refl, sym, ◌∙◌, ap, subst, arith, append_assoc, Result, Ok, Err, IsSome, IfSome, Option, None, Some, ◌≢◌, ℕ, Vec, Global, option_to_list}
 use Rattle.std.specs.List.{AllByRecursion}
 use Rattle.std.proofs.lemmas.List.{map-append}
@@ -42,7 +42,7 @@ other_texts (text ∷ texts) = texts
 pub no_texts : {A : Type 0} (x : A) (xs : List A) → x ∷ xs ≡ [] → ⊥
 no_texts x xs e = absurd (omega (arith, ap length e))
 
--- a call that stands behind others, by its text
+-- a call that comes after others, by its text
 pub record Behind (done calls : List Call) (text : List ℕ) : Type 0 where
   pub call : Call
   pub more : List Call
@@ -66,7 +66,7 @@ stands_behind (d ∷ done) (c ∷ calls) text rest can could e =
       text_is = behind.text_is;
     }
 
--- accepted calls that have the texts of others, and one more: the call of that one is accepted behind the others
+-- accepted calls that have the texts of others, and one more: the call of that one is accepted after the others
 pub accepted_behind : (done calls : List Call) (text : List ℕ) (rest : List (List ℕ)) → AllByRecursion IsScriptCall done → AreAccepted calls
     → call_texts calls ≡ call_texts done ++ text ∷ rest → (call : Call) × IsScriptCall call × (call_text call ≡ text) × IsAccepted repository (alone done) call
 accepted_behind done calls text rest can accepted e =
@@ -80,7 +80,7 @@ accepted_behind done calls text rest can accepted e =
     let legal : IsLegal repository (alone done ++ (0, c) ∷ []) = legal_front repository front accepted.legal in
     (c, behind.can, behind.text_is, subst (λ (o : Option Contents). IsSome o) (replay_more repository (alone done) (0, c)) legal)
 
--- calls that a file tells which has a title
+-- the calls of a file with a title
 pub told_texts : (texts : List (List ℕ)) (calls : List Call) (file : List ℕ) → Stands (title ∷ texts) file → Tells calls file → call_texts calls ≡ texts
 told_texts texts calls file stands told = from told.are where
   same : title ∷ texts ≡ told.texts
@@ -90,7 +90,7 @@ told_texts texts calls file stands told = from told.are where
   from (inl are) = sym (ap other_texts (same ∙ are))
   from (inr none) = absurd (no_texts title texts (same ∙ none.0))
 
--- a file that stands for texts of which the first is no title has none
+-- a file whose first text is not a title has no calls
 pub no_title : (text : List ℕ) (texts others : List (List ℕ)) (file : List ℕ) → Stands (text ∷ texts) file → Stands (title ∷ others) file → text ≡ title
 no_title text texts others file stands titled = ap first_text (stands_once (text ∷ texts) (title ∷ others) file stands titled)
 
@@ -110,7 +110,7 @@ abbrev sections_in : Result (List (List Call)) LineFault → List (List Call)
 sections_in (Ok sections) = sections
 sections_in (Err fault) = []
 
--- what a script reads of the text of a call that a script can ask
+-- reading the text of a call as a script
 read_alone : (text : List ℕ) (sections : List (List Call)) (call : Call) → script_of text ≡ Ok sections → IsScriptCall call → call_text call ≡ text → sections ≡ (call ∷ []) ∷ []
 read_alone text sections call reads can is = ap sections_in (sym reads ∙ ap script_of (sym is) ∙ text_reads call can)
 
@@ -126,12 +126,12 @@ is_only text sections (Some call) reads alone stand = (
 pub is_none : (text : List ℕ) → ((sections : List (List Call)) → script_of text ≢ Ok sections) → IsOnly text None
 is_none text none = λ call can is. none ((call ∷ []) ∷ []) (ap script_of (sym is) ∙ text_reads call can)
 
--- a call that was found by its text is asked
+-- a call that was found by its text is executed
 pub asks_again : (before after : List (ℕ × Call)) (text : List ℕ) (call : Call) (yes : Bool) → (call_text call ≡ text) × IsScriptCall call → AsksCall before call yes after → AsksAgain before text yes after
 asks_again before after text call true found asks = (call, found.1, found.0, asks)
 asks_again before after text call false found asks = λ other can is. subst (λ (c : Call). IsAccepted repository before c → ⊥) (one_call call other found.1 can (found.0 ∙ sym is)) asks
 
--- one call more is asked
+-- one more call is executed
 pub asked_more : (texts : List (List ℕ)) (text : List ℕ) (before after : List (ℕ × Call)) → AreAsked texts before → AsksAgain before text true after → AreAsked (texts ++ text ∷ []) after
 asked_more texts text before after asked (call, can, text_is, grows) = record {
   calls = asked.calls ++ call ∷ [];
@@ -142,7 +142,7 @@ asked_more texts text before after asked (call, can, text_is, grows) = record {
       ∙ sym (map-append call_text asked.calls (call ∷ []));
 }
 
--- what was asked, behind a title
+-- the calls that were executed, after a title
 pub recalled : (texts : List (List ℕ)) (history : List (ℕ × Call)) → AreAsked texts history → AreRecalled (title ∷ texts) history
 recalled texts history asked =
     let calls : calls_of history ≡ asked.calls = ap (λ (h : List (ℕ × Call)). calls_of h) asked.is ∙ calls_alone asked.calls in

@@ -2,7 +2,8 @@
 use Rattle.std.proofs.Common.{◌≡◌, ◌≢◌, ◌≤◌, ◌+◌, inl, inr, ℕ, zero, suc, Bool, false, List, [], ◌∷◌, ◌++◌, length, Result, Ok, Err, IfErr, IsErrAnd, IsTrue, sym, ◌∙◌, ap, subst, arith, length-append, true≢false}
 use Rattle.camp_call.specs.declared.calls.Call.{Call}
 use Rattle.camp_kept.specs.Faults.{IsOfContents, IsRefusal, IsUnopened, IsUntitled, ReportsDisk, fault_of}
-use Rattle.camp_kept.specs.Keeping.{LeavesKept, call_texts, most_unbegun, store_texts, title}
+use Rattle.camp_kept.specs.Accepting.{AreAccepted}
+use Rattle.camp_kept.specs.Keeping.{LeavesKept, Tells, call_texts, most_unbegun, store_texts, title}
 use Rattle.camp_kept.specs.Replaying.{AreAsked, AsksAgain}
 use Rattle.camp_kept.specs.declared.faults.KeptFault.{KeptFault}
 use Rattle.camp_kept.specs.declared.faults.KeptFault.TheVariants as kept
@@ -27,7 +28,19 @@ damage_is_refused (store.Damaged zero at) file of damage = record {
   untitled = λ texts stands. damage_is_no_store zero at file damage (title ∷ texts) stands;
   long = λ none. absurd (damage_is_no_store zero at file damage [] none);
 }
-damage_is_refused (store.Damaged (suc n) at) file of damage = λ calls accepted told. damage_is_no_store (suc n) at file damage told.texts told.stands
+damage_is_refused (store.Damaged (suc n) at) file of damage = (
+  record {
+    texts = damage.texts;
+    front = damage.front;
+    rest = damage.rest;
+    split = damage.split;
+    are = damage.are;
+    call_is = inl damage.count_is;
+    at_is = inl damage.at_is;
+    wrong = inl (record { no_end = damage.no_end; no_block = damage.no_block });
+  },
+  λ calls accepted told. damage_is_no_store (suc n) at file damage told.texts told.stands,
+)
 damage_is_refused store.Failed file of damage = absurd of
 
 -- a disk whose bytes are refused is not opened
@@ -46,7 +59,7 @@ unread_unopened usable (store.Damaged zero at) file of damage = damage_is_refuse
 unread_unopened usable (store.Damaged (suc n) at) file of damage = damage_is_refused (store.Damaged (suc n) at) file tt damage
 unread_unopened usable store.Failed file of damage = of
 
--- nor one behind whose texts no gate could be closed
+-- nor one after whose texts no mark could be closed
 pub unclosed_unopened : (usable now : Bool) (why : StoreFault) (file : List ℕ) → IsTrue now → IsOfClosing now why → IsUnopened usable (kept.Store why) file
 unclosed_unopened usable now store.Memory file may of = absurd of
 unclosed_unopened usable now (store.Disk error) file may of = tt
@@ -54,7 +67,7 @@ unclosed_unopened usable now store.TooLong file may of = absurd of
 unclosed_unopened usable now (store.Damaged count at) file may of = absurd of
 unclosed_unopened usable now store.Failed file may of = absurd (true≢false (sym may ∙ of))
 
--- nor one on which no title could be put
+-- nor one to which no title could be appended
 pub untitled_unopened : (usable : Bool) (why : KeptFault) (file : List ℕ) → IsUntitled why → IsUnopened usable why file
 untitled_unopened usable kept.Memory file untitled = tt
 untitled_unopened usable kept.NoStore file untitled = absurd untitled
@@ -65,7 +78,7 @@ untitled_unopened usable (kept.Store store.Memory) file untitled = absurd untitl
 untitled_unopened usable (kept.Store store.TooLong) file untitled = absurd untitled
 untitled_unopened usable (kept.Store (store.Damaged count at)) file untitled = absurd untitled
 
--- a title has a length, and there is room for it behind no texts
+-- a title has a length, and fits in a file without texts
 title_fits : AllFit (store_texts [])
 title_fits = (omega arith, tt)
 
@@ -75,7 +88,7 @@ short_title digest = omega (arith, length-append (body digest title) [], length-
 pub title_ends : {D : Type 0} (seen : D → List ℕ) (may_leave : D → List ℕ → Type 0) (log : Log D) → KeepsTexts seen may_leave [] log → end_with log (store_texts []) ≤ most_unbegun
 title_ends seen may_leave log keeps = omega (arith, short_title log.digest, keeps.length_is, ap (λ (l : List ℕ). length l) keeps.are)
 
--- why a title is not put on a log that may go on
+-- why a title is not appended to a log that has not failed
 pub title_is_unput : {D : Type 0} (seen : D → List ℕ) (may_leave : D → List ℕ → Type 0) (is_usable : D → Bool) (log : Log D) (why : StoreFault) → KeepsTexts seen may_leave [] log
     → IsOpen is_usable log → IsOfPutting is_usable log (store_texts []) why → IsUntitled (fault_of why)
 title_is_unput seen may_leave is_usable log store.Memory keeps open_ of = tt
@@ -96,14 +109,14 @@ another_title text texts other file stands = record {
 
 -- a file of texts, one of which is of no call that is accepted there
 pub not_accepted : (done : List (List ℕ)) (text : List ℕ) (rest : List (List ℕ)) (history after : List (ℕ × Call)) → AreAsked done history → AsksAgain history text false after
-    → (call at : ℕ) (file : List ℕ) → Stands (title ∷ (done ++ text ∷ rest)) file → IsRefusal (kept.Damaged call at) file
-not_accepted done text rest history after asked none call at file stands = λ calls accepted told.
+    → (file : List ℕ) → Stands (title ∷ (done ++ text ∷ rest)) file → (calls : List Call) → AreAccepted calls → Tells calls file → ⊥
+not_accepted done text rest history after asked none file stands calls accepted told =
     let e : call_texts calls ≡ call_texts asked.calls ++ text ∷ rest =
     told_texts (done ++ text ∷ rest) calls file stands told ∙ ap (λ (l : List (List ℕ)). l ++ text ∷ rest) asked.texts_are in
     let next = accepted_behind asked.calls calls text rest asked.can accepted e in
     subst (λ (h : List (ℕ × Call)). AsksAgain h text false after) asked.is none next.0 next.1 next.2 next.3
 
--- what a batch that is not put leaves of a repository
+-- what a batch that is not appended leaves of a repository
 leaves_kept : {D : Type 0} (why : StoreFault) (old : Kept D) (new : Log D) → LeavesAfter why old.log new → LeavesKept (fault_of why) old (record old { log = new })
 leaves_kept store.Memory old new leaves = ap (λ l. record old { log = l }) leaves
 leaves_kept (store.Disk error) old new leaves = leaves
@@ -122,17 +135,17 @@ leaves_so (Err fault) why old new is leaves =
 reports_from : (why : StoreFault) (old new : ℕ) → ReportsFault why old new → ReportsDisk (fault_of why) old new
 reports_from store.Memory old new reports = tt
 reports_from (store.Disk error) old new reports = reports
-reports_from store.TooLong old new reports = tt
+reports_from store.TooLong old new reports = reports
 reports_from (store.Damaged zero at) old new reports = tt
 reports_from (store.Damaged (suc n) at) old new reports = tt
-reports_from store.Failed old new reports = tt
+reports_from store.Failed old new reports = reports
 
 pub reports_so : {T : Type 0} (result : Result T KeptFault) (why : StoreFault) (old new : ℕ) → IsErrAnd result (λ fault. fault ≡ fault_of why)
     → ReportsFault why old new → IfErr result (λ fault. ReportsDisk fault old new)
 reports_so (Ok value) why old new is reports = tt
 reports_so (Err fault) why old new is reports = subst (λ (f : KeptFault). ReportsDisk f old new) (sym is) (reports_from why old new reports)
 
--- a batch that is not put is no file that is refused for its bytes
+-- a batch that is not appended does not mean that the file is refused because of its bytes
 pub unput_is_no_contents : {D : Type 0} (is_usable : D → Bool) (log : Log D) (texts : List (List ℕ)) (why : StoreFault) → IsOfPutting is_usable log texts why → ¬ (IsOfContents (fault_of why))
 unput_is_no_contents is_usable log texts store.Memory of contents = contents
 unput_is_no_contents is_usable log texts (store.Disk error) of contents = contents
@@ -141,7 +154,7 @@ unput_is_no_contents is_usable log texts (store.Damaged zero at) of contents = o
 unput_is_no_contents is_usable log texts (store.Damaged (suc n) at) of contents = of
 unput_is_no_contents is_usable log texts store.Failed of contents = contents
 
--- a fault that a damaged file was told with
+-- the fault with which a damaged file was reported
 pub refused_from : {T : Type 0} (Known : Type 0) (usable : Bool) (result : Result T KeptFault) (why : StoreFault) (file : List ℕ) → IsErrAnd result (λ fault. fault ≡ fault_of why)
     → IsOfReading usable why → (Known → IsDamage why file) → IfErr result (λ fault. Known → IsUnopened usable fault file)
 refused_from Known usable (Ok value) why file is of damage = tt

@@ -16,7 +16,7 @@ use Rattle.camp_store.specs.Blocks.{Stands}
 use Rattle.camp_store.specs.declared.faults.StoreFault.TheVariants as store
 use Rattle.camp_store.proofs.BlockLemmas.{stands_once}
 
--- calls that a script can ask are told by their texts
+-- calls that a script can contain are determined by their texts
 same_texts : (one two : List Call) → AllByRecursion IsScriptCall one → AllByRecursion IsScriptCall two → call_texts one ≡ call_texts two → one ≡ two
 same_texts [] [] can could same = refl
 same_texts [] (d ∷ two) can could same = absurd (no_texts (call_text d) (call_texts two) (sym same))
@@ -35,7 +35,7 @@ just_these calls found texts accepted more (inl is) (inr none) = absurd (no_text
 just_these calls found texts accepted more (inr none) (inl are) = absurd (no_texts title (call_texts found) (sym are ∙ none.0))
 just_these calls found texts accepted more (inr none) (inr nor) = nor.1 ∙ sym none.1
 
--- a file that tells calls is a store, or one that is being made
+-- a file that decodes to calls is a store, or one being created
 is_some_store : (calls : List Call) (file : List ℕ) (told : Tells calls file) → AreTexts told.texts calls → IsNoStore file → ⊥
 is_some_store calls file told (inl are) none = none.untitled (call_texts calls) (subst (λ (ts : List (List ℕ)). Stands ts file) are told.stands)
 is_some_store calls file told (inr no_calls) none =
@@ -44,7 +44,7 @@ is_some_store calls file told (inr no_calls) none =
 by_disk : (calls : List Call) (file : List ℕ) → AreAccepted calls → Tells calls file → (usable : Bool) (why : KeptFault) → IsUnopened usable why file → IsOfDisk usable why
 by_disk calls file accepted told usable kept.Memory refused = tt
 by_disk calls file accepted told usable kept.NoStore refused = absurd (is_some_store calls file told told.are refused)
-by_disk calls file accepted told usable (kept.Damaged call at) refused = absurd (refused calls accepted told)
+by_disk calls file accepted told usable (kept.Damaged call at) refused = absurd (refused.1 calls accepted told)
 by_disk calls file accepted told usable (kept.Store (store.Disk error)) refused = tt
 by_disk calls file accepted told usable (kept.Store store.Failed) refused = refused
 by_disk calls file accepted told usable (kept.Store store.Memory) refused = absurd refused

@@ -1,16 +1,16 @@
--- What stands behind the texts of a file.
+-- The end of a file after its texts.
 use Rattle.std.specs.Prelude.{◌≡◌, ◌≤◌, ℕ, ◌+◌, ◌==◌, List, [], ◌∷◌, ◌++◌, length, if◌then◌else◌}
 use Rattle.camp_call.specs.declared.calls.Call.{Call}
 use Rattle.camp_kept.specs.Keeping.{AreTexts, most_unbegun}
 use Rattle.camp_kept.specs.declared.inspections.Inspection.{Inspection}
 use Rattle.camp_store.specs.Blocks.{AreBlocks, IsEnd, chain, closed_gate, first_digest}
 
--- how many bytes of an end count for nothing: those behind a closed gate, or all
+-- the number of bytes of an end that do not count: those after a closed mark, or all
 abbrev pub uncounted : List ℕ → ℕ
 uncounted [] = 0
 uncounted (gate ∷ rest) = if gate == closed_gate then length rest else length rest + 1
 
--- the file is the blocks of these texts and an end, of which so many bytes count for nothing
+-- the file is the blocks of these texts and an end, of which this number of bytes do not count
 pub record LeavesOut (texts : List (List ℕ)) (file : List ℕ) (count : ℕ) : Type 0 where
   pub front : List ℕ
   pub end : List ℕ
@@ -18,11 +18,11 @@ pub record LeavesOut (texts : List (List ℕ)) (file : List ℕ) (count : ℕ) :
   pub are : AreBlocks first_digest texts front
   pub ends : IsEnd end
   pub count_is : count ≡ uncounted end
-  -- a file without a text is one of few bytes
+  -- a file without a text has few bytes
   pub short : texts ≡ [] → length file ≤ most_unbegun
 
--- what is told of a file: how many calls it tells, what the digests of their texts come to, and how many of its bytes
--- count for nothing
+-- the result of an inspection: the number of calls of the file, the digest of their texts, and the number of its
+-- bytes that do not count
 pub record IsInspection (file : List ℕ) (found : Inspection) : Type 0 where
   pub calls : List Call
   pub texts : List (List ℕ)

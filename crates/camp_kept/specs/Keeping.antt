@@ -1,4 +1,4 @@
--- What a store says of the accepted calls of a repository.
+-- The accepted calls of a repository, as a store has them.
 use Rattle.std.specs.Prelude.{◌≡◌, ◌⊎◌, ◌≤◌, ℕ, Bool, false, List, [], ◌∷◌, length, map, codes}
 use Rattle.camp_call.specs.declared.calls.Call.{Call}
 use Rattle.camp_kept.specs.Accepting.{AreAccepted}
@@ -16,11 +16,11 @@ use Rattle.camp_store.specs.declared.faults.StoreFault.TheVariants as store
 abbrev pub title : List ℕ
 title = codes "camp store 1\n"
 
--- the most bytes of a file without a text that is a store which is being made
+-- the most bytes of a file without a text that is a store being created
 abbrev pub most_unbegun : ℕ
 most_unbegun = 64
 
--- the texts of calls, each as a script has it
+-- the texts of calls, each in the form of a script
 abbrev pub call_texts : List Call → List (List ℕ)
 call_texts calls = map call_text calls
 
@@ -28,51 +28,52 @@ call_texts calls = map call_text calls
 abbrev pub store_texts : List Call → List (List ℕ)
 store_texts calls = title ∷ call_texts calls
 
--- these texts are a store of these calls; or there is none yet, and there are no calls
+-- these texts are a store of these calls; or there are no texts yet, and no calls
 abbrev pub AreTexts : List (List ℕ) → List Call → Type 0
 AreTexts texts calls = (texts ≡ store_texts calls) ⊎ ((texts ≡ []) × (calls ≡ []))
 
--- the file tells these calls: it stands for the texts of their store; or for no texts, with few bytes, and tells none
+-- the file decodes to these calls: it has the texts of their store; or no text and few bytes, and then no calls
 pub record Tells (calls : List Call) (file : List ℕ) : Type 0 where
   pub texts : List (List ℕ)
   pub are : AreTexts texts calls
   pub stands : Stands texts file
   pub short : texts ≡ [] → length file ≤ most_unbegun
 
--- the file is a store of these calls: it stands for its title and their texts, and each is accepted in its turn
+-- the file is a store of these calls: it has its title and their texts, and each is accepted after those before it
 pub record IsStoreOf (calls : List Call) (file : List ℕ) : Type 0 where
   pub stands : Stands (store_texts calls) file
   pub accepted : AreAccepted calls
 
--- by what a read of a disk returns, and what a crash may leave of it
+-- two properties of a disk: what a read returns, and what a crash may leave
 module _ {D : Type 0} (seen : D → List ℕ) (may_leave : D → List ℕ → Type 0) where
-  -- these calls, each accepted in its turn, are on the disk, behind the title, and so many are known to be
+  -- these calls, each accepted after those before it, are durable, after the title, and this number of them is known
+  -- to be
   pub record Holds (calls : List Call) (kept : Kept D) : Type 0 where
     pub accepted : AreAccepted calls
     pub keeps : KeepsTexts seen may_leave (store_texts calls) kept.log
     pub count_is : kept.count ≡ length calls
 
-  -- whatever a crash leaves tells these calls
+  -- whatever a crash leaves decodes to these calls
   abbrev pub LeavesTold : List Call → D → Type 0
   LeavesTold calls disk = (c : List ℕ) → may_leave disk c → Tells calls c
 
--- the disk of what is kept
+-- the disk of a durable repository
 abbrev pub disk_in : {D : Type 0} → Kept D → D
 disk_in kept = disk_of kept.log
 
--- the accepted calls of what is kept, on the disk or not
+-- the accepted calls of a durable repository, persisted or not
 abbrev pub calls_in : {D : Type 0} → Kept D → List Call
 calls_in kept = calls_of kept.book
 
--- how many bytes of the file counted for nothing when it was opened
+-- the number of bytes of the file that did not count when it was opened
 abbrev pub left_out_in : {D : Type 0} → Kept D → ℕ
 left_out_in kept = kept.left_out
 
--- the first calls of what is kept
+-- the first calls of a durable repository
 abbrev pub AreFirst : {D : Type 0} → List Call → Kept D → Type 0
 AreFirst calls kept = IsBeginning calls (calls_in kept)
 
--- how many of the accepted calls are known to be on the disk
+-- the number of accepted calls that are known to be durable
 abbrev pub known_in : {D : Type 0} → Kept D → ℕ
 known_in kept = kept.count
 
@@ -80,8 +81,8 @@ known_in kept = kept.count
 abbrev pub may_commit : {D : Type 0} → Kept D → Bool
 may_commit kept = may_go_on kept.log
 
--- what a commit that is not acknowledged leaves: all as it was; or, where the disk has failed, a repository that commits
--- no more
+-- what a commit that is not acknowledged leaves: the repository unchanged or, if the disk has failed, one that
+-- commits no more
 abbrev pub LeavesKept : {D : Type 0} → KeptFault → Kept D → Kept D → Type 0
 LeavesKept (fault.Store (store.Disk error)) old new = may_commit new ≡ false
 LeavesKept (fault.Store store.Memory) old new = new ≡ old
@@ -92,7 +93,7 @@ LeavesKept fault.Memory old new = new ≡ old
 LeavesKept fault.NoStore old new = new ≡ old
 LeavesKept (fault.Damaged call at) old new = new ≡ old
 
--- a disk on which nothing was written: a read returns what it returned, and a crash leaves what it might have left
+-- a disk on which nothing was written: a read returns the same, and a crash leaves one of the same files
 pub record IsUntouched {D : Type 0} (seen : D → List ℕ) (may_leave : D → List ℕ → Type 0) (old new : D) : Type 0 where
   pub same : seen new ≡ seen old
   pub no_more : (c : List ℕ) → may_leave new c → may_leave old c

@@ -1,3 +1,4 @@
+//! Why a repository is not opened, or its calls are not persisted.
 ghost use Rattle.std.specs.Prelude.{◌≡◌};
 ghost use Rattle.camp_kept.specs.Faults.{fault_of};
 ghost use Rattle.camp_kept.specs.declared.faults.KeptFault.TheVariants as fault;
@@ -6,18 +7,19 @@ use camp_store::StoreFault;
 use std::alloc::{AllocError, AllocFailed};
 use thiserror::Error;
 
-/// Why a repository is not opened, or its calls are not kept.
+/// Why a repository is not opened, or its calls are not persisted.
 #[derive(Clone, Copy, Debug, Error)]
 pub enum KeptFault {
     #[error("out of memory")]
     Memory,
-    /// The file is there, and is no store.
+    /// The file exists, and is not a store.
     #[error("no store of camp")]
     NoStore,
-    /// At this byte stands the block of no call that is accepted behind those before it; calls count from 1.
+    /// The block at this offset does not decode to a call that is accepted after those before it; calls count
+    /// from 1.
     #[error("damaged at call {call}, byte {at}")]
     Damaged { call: usize, at: usize },
-    /// What the file came to.
+    /// The fault of the file.
     #[error("{0}")]
     Store(StoreFault),
 }

@@ -1,3 +1,4 @@
+//! Inspecting the bytes of a file.
 ghost use Rattle.std.specs.Prelude.{IfErr, IfOk};
 ghost use Rattle.camp_kept.specs.Endings.{IsInspection};
 ghost use Rattle.camp_kept.specs.Faults.{IsRefusal};
@@ -7,14 +8,14 @@ use crate::openings::{left_out, recall};
 use camp_store::{Digest, decode};
 use std::alloc::Global;
 
-/// What the bytes of a file tell.
+/// The decoded content of a file.
 #[derive(Clone, Copy, Debug)]
 pub struct Inspection {
-    /// How many calls there are.
+    /// The number of calls.
     pub calls: usize,
-    /// What the digests of the texts come to.
+    /// The digest of their texts.
     pub digest: Digest,
-    /// How many bytes at the end count for nothing.
+    /// Bytes at the end that do not count.
     pub left_out: usize,
 }
 

@@ -1,4 +1,4 @@
-//! What is kept.
+//! The durable repository.
 ghost use Rattle.std.specs.Prelude.{◌≡◌, ◌⊎◌, ◌-◌, List, Err, false, length, IfErr, IfOk, IsTrue, MatchResult, OnOk, ℕ};
 ghost use Rattle.camp_call.specs.declared.calls.Call.{Call};
 ghost use Rattle.camp_kept.specs.Faults.{CountsDisk, IsOfContents, IsUnkept, IsUnopened, ReportsDisk};
@@ -13,10 +13,10 @@ use camp_repo::{Book, State};
 use camp_store::{Disk, Log, StoreFault};
 use std::alloc::Global;
 
-/// A book whose accepted calls are kept on a disk: all of them after each commit.
+/// A book whose accepted calls are persisted on a disk: all of them after each commit.
 #[derive(Drop)]
 pub struct Kept<D: Disk> {
-    /// The book, which may be asked, and is not to be exchanged for another.
+    /// The book, which may be asked, and must not be replaced by another.
     pub book: Book<State>,
     log: Log<D>,
     count: usize,
@@ -27,19 +27,20 @@ impl<D: Disk> Kept<D> {
     ghost use Rattle.camp_kept.specs.Endings.{LeavesOut};
     ghost use Rattle.camp_kept.specs.Keeping.{AreFirst, AreTexts, Holds, LeavesKept, calls_in, disk_in, known_in, left_out_in, may_commit};
 
-    /// Opens what a disk keeps, and writes the title of a store where there is none. It may crash too.
+    /// Opens the repository that a disk persists, and writes the title of a store if there is none. A crash
+    /// may come meanwhile too.
     pub fn open(alloc: Global, mut disk: D) -> Result<Kept<D>, (KeptFault, D)>
         ensures holds { IfOk result (λ kept. IsTrue (D.Disk.is_clean (disk_in kept)) → Holds D.Disk.seen D.Disk.may_leave (calls_in kept) kept) }
         ensures told { IfOk result (λ kept. IsTrue (D.Disk.is_clean (disk_in kept)) → (texts : List (List ℕ))
             × AreTexts texts (calls_in kept) × LeavesOut texts (D.Disk.seen disk) (left_out_in kept)) }
         ensures refused { IfErr result (λ e. IsTrue (D.Disk.is_clean e.1) → IsUnopened (D.Disk.is_usable disk) e.0 (D.Disk.seen disk)) }
-        // A file that is no store, or is damaged, stays as it was.
+        // A file that is not a store, or is damaged, is unchanged.
         ensures untouched { IfErr result (λ e. IsOfContents e.0 → IsUntouched D.Disk.seen D.Disk.may_leave disk e.1) }
         ensures known { IfOk result (λ kept. known_in kept ≡ length (calls_in kept)) }
         ensures open_to_commits { IfOk result (λ kept. IsTrue (may_commit kept)) }
         ensures faults { IfOk result (λ kept. D.Disk.faults (disk_in kept) ≡ D.Disk.faults disk) }
         ensures faults_err { IfErr result (λ e. ReportsDisk e.0 (D.Disk.faults disk) (D.Disk.faults e.1)) }
-        // A crash leaves what was told before.
+        // A crash leaves a file with the same calls.
         ensures crash { IfOk result (λ kept. (calls : List Call) → LeavesTold D.Disk.seen D.Disk.may_leave calls disk
             → IsTrue (D.Disk.is_clean (disk_in kept)) → LeavesTold D.Disk.seen D.Disk.may_leave calls (disk_in kept)) }
         ensures crash_err { IfErr result (λ e. (calls : List Call) → LeavesTold D.Disk.seen D.Disk.may_leave calls disk
@@ -64,14 +65,15 @@ impl<D: Disk> Kept<D> {
         }
     }
 
-    /// How many bytes at the end of the file counted for nothing when it was opened.
+    /// Returns the number of bytes at the end of the file that did not count when it was opened.
     pub fn left_out(&self) -> usize
         ensures { result ≡ left_out_in self.now }
     {
         self.left_out
     }
 
-    /// How many accepted calls are not known to be on the disk, also after a commit that has failed.
+    /// Returns the number of accepted calls that are not known to be durable, also after a commit that has
+    /// failed.
     pub fn waiting(&self) -> usize
         ensures known { result ≡ length (calls_in self.now) - known_in self.now }
         ensures held { (calls : List Call) → Holds D.Disk.seen D.Disk.may_leave calls self.now → result ≡ length (calls_in self.now) - length calls }
@@ -79,9 +81,9 @@ impl<D: Disk> Kept<D> {
         self.book.history().len().saturating_sub(self.count)
     }
 
-    /// Keeps all accepted calls of the book. At `Ok` they are on the disk: from then on each crash leaves a file that
-    /// tells them. After an `Err` a crash leaves those from before the call, or all of them. Where the disk has failed no
-    /// later commit asks anything of it: each answers `Failed` and changes nothing.
+    /// Persists all accepted calls of the book. After `Ok` they are durable: from then on each crash leaves a
+    /// file with them. After an `Err` a crash leaves those from before the call, or all of them. If the disk
+    /// has failed, no later commit uses it: each returns `Failed` and changes nothing.
     pub fn commit(&mut self, alloc: Global) -> Result<(), KeptFault>
         ensures acknowledged { (calls : List Call) → AreFirst calls self.old → Holds D.Disk.seen D.Disk.may_leave calls self.old
             → OnOk result (Holds D.Disk.seen D.Disk.may_leave (calls_in self.old) self.new) }

@@ -1,9 +1,9 @@
-//! What holds of files that are stores.
+//! The laws of files that are stores.
 ghost use Rattle.camp_kept.specs.Laws.{StoresAreOpened};
 
-/// A file that tells accepted calls is opened with just these calls, and only want of memory or the disk can stand in the
-/// way. A crash leaves such files, also of an opening: a store of calls, as behind
-/// [`Kept::commit`](crate::Kept::commit), or one that is being made.
+/// A file that decodes to accepted calls is opened with exactly these, and only out of memory or the disk can
+/// prevent it. A crash leaves such files, also during opening: a store of calls, as after
+/// [`Kept::commit`](crate::Kept::commit), or one being created.
 pub fn stores_are_opened()
     ensures law { StoresAreOpened }
 {}

@@ -1,4 +1,4 @@
-//! The repository whose accepted calls are kept in a file.
+//! The repository whose accepted calls are persisted in a file.
 #![tactic(auto)]
 
 mod faults;
@@ -16,5 +16,5 @@ pub use inspections::{Inspection, inspect};
 pub use kept::Kept;
 pub use laws::stores_are_opened;
 
-/// The most bytes of a file that has no title yet: more than a store has that is being made.
+/// The most bytes of a file that has no title yet: more than a store being created has.
 const MAX_UNBEGUN: usize = 64;

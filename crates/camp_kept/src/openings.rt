@@ -1,4 +1,4 @@
-//! What is done when a store is opened.
+//! Opening a store.
 ghost use Rattle.std.specs.Prelude.{◌≡◌, ◌≤◌, [], List, ℕ, length, IfErr, IfOk, IsTrue};
 ghost use Rattle.camp_call.specs.declared.calls.Call.{Call};
 ghost use Rattle.camp_kept.specs.Endings.{LeavesOut};
@@ -17,7 +17,7 @@ use camp_repo::{Book, State};
 use camp_store::{Disk, Log, Reading, read};
 use std::alloc::Global;
 
-/// Reads what a disk keeps, and asks the calls again.
+/// Reads what a disk persists, and replays the calls.
 pub(crate) fn recover<D: Disk>(
     alloc: Global,
     disk: &mut D,
@@ -38,7 +38,7 @@ pub(crate) fn recover<D: Disk>(
     Ok((reading, book))
 }
 
-/// Asks the calls again whose texts were read.
+/// Replays the calls whose texts were read.
 pub(crate) fn recall(alloc: Global, reading: &Reading) -> Result<Book<State>, KeptFault>
     ensures recalled { IfOk result (AreRecalled (texts_of reading.now.texts.items)) }
     ensures refused { IfErr result (λ why. (file : List ℕ) → IsReading file reading.now → IsRefusal why file) }
@@ -51,7 +51,7 @@ pub(crate) fn recall(alloc: Global, reading: &Reading) -> Result<Book<State>, Ke
     replay(alloc, &reading.texts)
 }
 
-/// How many bytes of a file count for nothing.
+/// Returns the number of bytes of a file that do not count.
 pub(crate) fn left_out(reading: &Reading) -> usize
     ensures { (file : List ℕ) → IsReading file reading.now → (texts_of reading.now.texts.items ≡ [] → reading.now.behind ≤ most_unbegun)
         → LeavesOut (texts_of reading.now.texts.items) file result }
@@ -63,7 +63,7 @@ pub(crate) fn left_out(reading: &Reading) -> usize
     }
 }
 
-/// Puts the title, where no text was read.
+/// Appends the title, if no text was read.
 pub(crate) fn begin<D: Disk>(
     alloc: Global,
     log: Log<D>,

@@ -1,4 +1,4 @@
-//! A book that is made of the texts of its calls.
+//! Replaying a book from the texts of its calls.
 ghost use Rattle.std.specs.Prelude.{◌≡◌, ◌↔◌, [], ◌∷◌, List, ℕ, IfErr, IfOk, IsTrue};
 ghost use Rattle.camp_kept.specs.Faults.{IsNotOfDisk, IsRefusal};
 ghost use Rattle.camp_kept.specs.Keeping.{title};
@@ -11,10 +11,10 @@ use crate::texts::{TITLE, call_of};
 use camp_repo::{Book, Call, Object, State};
 use std::alloc::{AllocError, Global};
 
-/// How many bytes stand before the text of a block: its gate and its head.
+/// Bytes of a block before its text: its mark and its head.
 const BEFORE_TEXT: usize = 27;
 
-/// The book of the calls whose texts these are, behind the title.
+/// Replays the book of the calls with these texts, which come after the title.
 pub(crate) fn replay(alloc: Global, texts: &[Vec<u8>]) -> Result<Book<State>, KeptFault>
     ensures recalled { IfOk result (AreRecalled (texts_of texts.now)) }
     ensures refused { IfErr result (λ why. (file : List ℕ) → Stands (texts_of texts.now) file → IsRefusal why file) }
@@ -35,7 +35,7 @@ fn is_title(text: &[u8]) -> bool
     text == TITLE
 }
 
-// The book of the calls whose texts these are.
+// Replays the book of the calls with these texts.
 fn ask_all(alloc: Global, texts: &[Vec<u8>]) -> Result<Book<State>, KeptFault>
     ensures texts { IfOk result (AreAsked (texts_of texts.now)) }
     ensures refused { IfErr result (λ why. (file : List ℕ) → Stands (title ∷ texts_of texts.now) file → IsRefusal why file) }
@@ -46,27 +46,26 @@ fn ask_all(alloc: Global, texts: &[Vec<u8>]) -> Result<Book<State>, KeptFault>
     Ok(book)
 }
 
-// Asks the calls whose texts these are of a new book.
+// Executes the calls with these texts on a new book.
 fn ask_each(alloc: Global, book: &mut Book<State>, texts: &[Vec<u8>]) -> Result<(), KeptFault>
     requires { book.old ≡ [] }
     ensures texts { IfOk result (λ _. AreAsked (texts_of texts.now) book.new) }
     ensures refused { IfErr result (λ why. (file : List ℕ) → Stands (title ∷ texts_of texts.now) file → IsRefusal why file) }
     ensures not_disk { IfErr result IsNotOfDisk }
 {
+    let mut call = 1usize;
     let mut at = BEFORE_TEXT + TITLE.len();
     for text in texts {
         if !ask_again(alloc, book, text)? {
-            return Err(KeptFault::Damaged {
-                call: book.history().len().saturating_add(1),
-                at,
-            });
+            return Err(KeptFault::Damaged { call, at });
         }
+        call = call.saturating_add(1);
         at = at.saturating_add(BEFORE_TEXT).saturating_add(text.len());
     }
     Ok(())
 }
 
-// Asks the call whose text this is. Whether it was accepted.
+// Executes the call with this text; true if it was accepted.
 fn ask_again(alloc: Global, book: &mut Book<State>, text: &[u8]) -> Result<bool, AllocError>
     ensures { IfOk result (λ yes. AsksAgain book.old text.now yes book.new) }
 {
@@ -76,7 +75,7 @@ fn ask_again(alloc: Global, book: &mut Book<State>, text: &[u8]) -> Result<bool,
     }
 }
 
-// Asks a call. Whether it was accepted.
+// Executes a call; true if it was accepted.
 fn accept(book: &mut Book<State>, call: &Call) -> Result<bool, AllocError>
     ensures { IfOk result (λ yes. AsksCall book.old call.now yes book.new) }
 {

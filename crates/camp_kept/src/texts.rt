@@ -16,7 +16,7 @@ use std::alloc::{AllocError, Global};
 /// The first text of a store.
 pub(crate) const TITLE: &[u8] = b"camp store 1\n";
 
-/// The texts of the calls of a history.
+/// Renders the calls of a history.
 pub(crate) fn texts_to_keep(
     alloc: Global,
     history: &[(u32, Call)],
@@ -31,7 +31,7 @@ pub(crate) fn texts_to_keep(
     Ok(texts)
 }
 
-/// The call whose text this is, if it is one that a script can ask.
+/// Parses the call of a text; `None` if it is none that a script can contain.
 pub(crate) fn call_of(alloc: Global, text: &[u8]) -> Result<Option<Call>, AllocError>
     ensures { IfOk result (λ found. MatchOption found
         ((call : Call) → IsScriptCall call → call_text call ≢ text.now)
@@ -47,7 +47,7 @@ pub(crate) fn call_of(alloc: Global, text: &[u8]) -> Result<Option<Call>, AllocE
     Ok(Some(call))
 }
 
-// The call that a script asks last.
+// Returns the last call of a script.
 fn only_call_of(alloc: Global, text: &[u8]) -> Result<Option<Call>, AllocError>
     ensures { IfOk result (λ found. IsOnly text.now found) }
 {
@@ -57,7 +57,7 @@ fn only_call_of(alloc: Global, text: &[u8]) -> Result<Option<Call>, AllocError>
     }
 }
 
-// The sections of a script, if it is one.
+// Reads the sections of a script, if the text is one.
 fn sections_of(alloc: Global, text: &[u8]) -> Result<Option<Vec<Vec<Call>>>, AllocError>
     ensures { IfOk result (λ found. MatchOption found
         ((sections : List (List Call)) → script_of text.now ≢ Ok sections)
@@ -70,7 +70,7 @@ fn sections_of(alloc: Global, text: &[u8]) -> Result<Option<Vec<Vec<Call>>>, All
     }
 }
 
-// The last call of the last section.
+// Returns the last call of the last section.
 fn last_of(mut sections: Vec<Vec<Call>>) -> Option<Call>
     ensures alone { (call : Call) → map (λ section. section.items) sections.items ≡ (call ∷ []) ∷ [] → result ≡ Some call }
     ensures can { IfSome result (λ call. AllByRecursion (AllByRecursion IsScriptCall) (map (λ section. section.items) sections.items) → IsScriptCall call) }

@@ -28,19 +28,19 @@ follow-append first middle last (said ∷ one) two (next, command, answered, fol
 pub appends_some : (old new : Option (List ℕ)) (text : List ℕ) → Appends old new text → AppendsSome old new text
 appends_some old new text writes = (text, [], sym (append-nil text), writes)
 
--- bytes that are held back are written, and no more
+-- buffered bytes are written, and no others
 pub keeps_behind : (now after : Option (List ℕ)) (held more : List ℕ) → more ≡ held → Appends now after more → Keeps (append_known now held) after
 keeps_behind None after held more is writes = tt
 keeps_behind (Some x) None held more is writes = absurd writes
 keeps_behind (Some x) (Some y) held more is writes = writes ∙ ap (λ (l : List ℕ). x ++ l) is
 
--- a reader that is at its end now is so for whoever had it before
+-- a reader that is at its end now is at its end for any earlier observer
 ended_too : (a b c : Option (List ℕ)) (bytes : List ℕ) → Consumes a b bytes → OnSome b (IsAtEnd c) → OnSome a (IsAtEnd c)
 ended_too None b c bytes reads ends = tt
 ended_too (Some x) None c bytes reads ends = absurd reads
 ended_too (Some x) (Some y) c bytes reads ends = ends
 
--- what a last command is
+-- the last command of an input
 abbrev pub IsLast : Type 0 → List ℕ → Type 0
 IsLast Ended command = IsCommand command ⊎ (IsLeft command × Ended)
 
@@ -57,7 +57,7 @@ pub last_read : (b c : Option (List ℕ)) (whole : Bool) (command : List ℕ) �
 last_read b c true command reads = inl reads.1
 last_read b c false command reads = inr (reads.1, reads.2)
 
--- conversations one behind the other, the second of which is written later
+-- successive conversations, the second of which is written later
 pub holds_trans : (a b c old now after : Option (List ℕ)) (held : List ℕ) (first middle last : Standing) → HoldsSo a b old now first middle
     → HoldsSo b c (Some []) (Some held) middle last → Appends now after held → HoldsSo a c old after first last
 holds_trans a b c old now after held first middle last one two grows = record {
@@ -82,7 +82,7 @@ told_of a b old now first last holds = record {
     alone : (part : Exchange → List ℕ) → flat_map part holds.said ≡ flat_map part (holds.said ++ [])
     alone part = ap (λ (l : List Exchange). flat_map part l) (sym (append-nil holds.said))
 
--- and where more is known of what was written, no more was
+-- if more is known of what was written, no more was
 pub holds_kept : (a b old now after : Option (List ℕ)) (first last : Standing) → HoldsSo a b old now first last → Keeps now after → HoldsSo a b old after first last
 holds_kept a b old now after first last holds keeps = record {
   said = holds.said;
@@ -112,7 +112,7 @@ some_of_both old now after one two held done rest writes parts is (front, behind
   Appends-trans old now after one front writes grows,
 )
 
--- and of what was held back a beginning is written
+-- and a prefix of the buffered bytes is written
 pub told_trans : (a b c old now after : Option (List ℕ)) (held : List ℕ) (first middle last : Standing) → HoldsSo a b old now first middle
     → Told b c (Some []) (Some held) middle last → AppendsSome now after held → Told a c old after first last
 told_trans a b c old now after held first middle last one two grows = record {
@@ -131,7 +131,7 @@ told_trans a b c old now after held first middle last one two grows = record {
         sym (flat_map-append part one.said (two.said ++ two.more))
         ∙ ap (λ (l : List Exchange). flat_map part l) (sym (append_assoc one.said two.said two.more))
 
--- one command more, whose answer is held back, perhaps in part
+-- one more command, whose answer is buffered, perhaps in part
 pub told_more : (b c d : Option (List ℕ)) (held more : List ℕ) (middle last next : Standing) (said : Exchange) → HoldsSo b c (Some []) (Some held) middle last
     → IsLast (OnSome c (IsAtEnd d)) said.command → Answers last said.command said.answer next → Consumes c d said.command
     → AppendsSome (Some held) (Some more) said.answer → Told b d (Some []) (Some more) middle next
@@ -156,7 +156,7 @@ told_more b c d held more middle last next said holds kind answers reads (done, 
         ap (λ (bytes : List ℕ). flat_map part holds.said ++ bytes) (sym (append-nil (part said)))
         ∙ sym (flat_map-append part holds.said (said ∷ []))
 
--- bytes that are held back, as if they were written
+-- buffered bytes, as if they were written
 pub appends_known : (now : Option (List ℕ)) (held : List ℕ) → Appends now (append_known now held) held
 appends_known None held = tt
 appends_known (Some x) held = refl

@@ -1,4 +1,4 @@
--- What settling and turns lead to.
+-- The results of flushing and of steps.
 use Rattle.std.proofs.Common.{◌≡◌, ◌⊎◌, inl, inr, ℕ, Bool, true, false, List, [], IsErrAnd, Option, Some, OnSome, Result, Ok, Err, MatchResult, refl, sym, ◌∙◌, ap, subst}
 use Rattle.std.proofs.KnownBytes.{Consumes-nil}
 use Rattle.std.specs.Io.KnownBytes.{Appends, Consumes, IsAtEnd, Keeps, append_known}
@@ -26,11 +26,11 @@ use Rattle.camp_talk.proofs.Firsts.{command_read}
 use Rattle.camp_talk.proofs.Growing.{answers_grow}
 use Rattle.camp_talk.proofs.Turns.{begins_so, holds_on}
 
--- where a conversation stands over a book
+-- the state of a conversation over a book
 abbrev pub at : Entries → ℕ → Account → Standing
 at history lines cause = record { history = history; lines = lines; cause = cause }
 
--- of a reader that was not asked no more was read
+-- a reader that was not asked has the same content
 reads_none : (b : Option (List ℕ)) → ReadsWithin b b
 reads_none b = record { some = []; reads = Consumes-nil b; is = tt }
 
@@ -65,7 +65,7 @@ module _ {D : Type 0} (seen : D → List ℕ) (may_leave : D → List ℕ → Ty
       is = refl;
     }
 
-    -- all is kept and written, and it goes on
+    -- everything is persisted and written, and the conversation continues
     pub settled : (new : Kept D) (after : Option (List ℕ)) (rest : List ℕ) → AllAreKept seen may_leave kept new → rest ≡ [] → Appends now after held → new.book ≡ kept.book
         → Goes seen may_leave a b old after rest first (at new.book lines cause) new
     settled new after rest keeps none grows same = record {
@@ -88,7 +88,7 @@ module _ {D : Type 0} (seen : D → List ℕ) (may_leave : D → List ℕ → Ty
         count_is = same_count ∙ goes.holds.count_is;
       }
 
-      -- a command was answered into what is held back
+      -- a command was answered into the buffer
       pub turned : (after : ℕ) (learnt : Account) → Turns b c (Some held) (Some more) (at kept.book lines cause) (Ok true) (at new.book after learnt)
           → Goes seen may_leave a c old now more first (at new.book after learnt) new
       turned after learnt turns = record {
@@ -148,7 +148,7 @@ module _ {D : Type 0} (seen : D → List ℕ) (may_leave : D → List ℕ → Ty
       ended after learnt turns =
           one_more turns.said (at new.book after learnt) (last_read b c false turns.said.command turns.reads) turns.answers turns.reads.0 (appends_some (Some held) (Some more) turns.said.answer turns.writes) refl
 
-      -- and once all is written, the conversation is one that was not held back
+      -- and once everything is written, the conversation is one without buffering
       ends_as : (after : ℕ) (learnt : Account) (then : Option (List ℕ)) (turn : Result Bool TalkFault) → Turns b c (append_known now held) then (at kept.book lines cause) turn (at new.book after learnt)
           → EndsSo a c old then first turn new.book
       ends_as after learnt then turn turns = record {
@@ -192,13 +192,13 @@ module _ {D : Type 0} (seen : D → List ℕ) (may_leave : D → List ℕ → Ty
     within_book : IsBeginning stays.calls (calls_in kept)
     within_book = subst (λ (h : Entries). IsBeginning stays.calls (calls_of h)) stays.is stays.within
 
-    -- all accepted calls are on the disk
+    -- all accepted calls are durable
     pub holds_all : (new : Kept D) → new.book ≡ kept.book → AllAreKept seen may_leave kept new → Holds seen may_leave (calls_in new) new
     holds_all new same keeps =
         subst (λ (h : Entries). Holds seen may_leave (calls_of h) new) (sym same) (keeps stays.calls within_book stays.holds)
 
     module _ (new : Kept D) (after : Option (List ℕ)) (same : new.book ≡ kept.book) where
-      -- all calls are kept, and a beginning of what was held back is written
+      -- all calls are persisted, and a prefix of the buffered answers is written
       promised_all : AllAreKept seen may_leave kept new → AppendsSome now after held → Promises seen may_leave a old after first new
       promised_all keeps grows =
           let all : Holds seen may_leave (calls_in kept) new = keeps stays.calls within_book stays.holds in
@@ -214,7 +214,7 @@ module _ {D : Type 0} (seen : D → List ℕ) (may_leave : D → List ℕ → Ty
             );
           }
 
-      -- whether they are kept is not known, and nothing is written
+      -- it is not known whether they are persisted, and nothing is written
       promised_some : MayBeKept seen may_leave kept new → Keeps now after → Promises seen may_leave a old after first new
       promised_some may keeps = record {
         left = stays.left;
@@ -241,7 +241,7 @@ module _ {D : Type 0} (seen : D → List ℕ) (may_leave : D → List ℕ → Ty
       last_is : stays.last.history ≡ new.book
       last_is = stays.is ∙ sym same
 
-      -- where the writer fails
+      -- if the writer fails
       unwritten : AllAreKept seen may_leave kept new → AppendsSome now after held → StopsUnwritten seen may_leave a come old after first new
       unwritten keeps grows = record {
         last = stays.last;
@@ -252,7 +252,7 @@ module _ {D : Type 0} (seen : D → List ℕ) (may_leave : D → List ℕ → Ty
         holds = holds_all new same keeps;
       }
 
-      -- where the calls can't be kept
+      -- if the calls can't be persisted
       unkept : MayBeKept seen may_leave kept new → Keeps now after → StopsUnkept seen may_leave a come old after first new
       unkept may keeps = record {
         middle = stays.middle;
@@ -269,12 +269,12 @@ module _ {D : Type 0} (seen : D → List ℕ) (may_leave : D → List ℕ → Ty
         crash = λ c left. subst (λ (h : Entries). IsStoreOf stays.calls c ⊎ IsStoreOf (calls_of h) c) (sym same) (may stays.calls within_book stays.holds c left);
       }
 
-      -- where all is settled
+      -- if everything is flushed
       pub promised : (done : Unit {0}) (rest : List ℕ) → Settles seen may_leave kept held now (Ok done) new rest after
           → Promises seen may_leave a old after first new × Holds seen may_leave (calls_in new) new
       promised done rest settles = (promised_all settles.0 (appends_some now after held settles.2), holds_all new same settles.0)
 
-      -- where settling stops
+      -- if flushing fails
       pub stops_so : (why : StoredFault) (rest : List ℕ) → Settles seen may_leave kept held now (Err why) new rest after
           → StopsSo seen may_leave a come old after first why new
       stops_so (fault.Kept why) rest settles = (promised_some settles.0 settles.1, unkept settles.0 settles.1)
@@ -282,7 +282,7 @@ module _ {D : Type 0} (seen : D → List ℕ) (may_leave : D → List ℕ → Ty
       stops_so (fault.Frame why) rest settles = absurd settles
       stops_so (fault.Write error) rest settles = (promised_all settles.0 settles.1, unwritten settles.0 settles.1)
 
--- wherever settling leads
+-- whatever the result of flushing
 pub settled_first : {D : Type 0} (seen : D → List ℕ) (may_leave : D → List ℕ → Type 0) (a b old now after : Option (List ℕ)) (first : Standing) (kept new : Kept D) (held rest : List ℕ) (lines : ℕ) (cause : Account)
     (result : Result (Unit {0}) StoredFault) → Goes seen may_leave a b old now held first (at kept.book lines cause) kept → Settles seen may_leave kept held now result new rest after
     → new.book ≡ kept.book → ComesSettled seen may_leave a b old after rest first (at new.book lines cause) result new
@@ -291,7 +291,7 @@ settled_first seen may_leave a b old now after first kept new held rest lines ca
 settled_first seen may_leave a b old now after first kept new held rest lines cause (Err why) goes settles same =
     stops_so seen may_leave a old now first kept b held (stays seen may_leave a old now first kept b held lines cause goes) new after same why rest settles
 
--- wherever a turn leads behind which all is settled
+-- whatever the result of a step after which everything is flushed
 module _ {D : Type 0} (seen : D → List ℕ) (may_leave : D → List ℕ → Type 0) (a b d old now : Option (List ℕ)) (first : Standing) (kept asked : Kept D) (held more : List ℕ) (lines after : ℕ) (cause learnt : Account)
     (goes : Goes seen may_leave a b old now held first (at kept.book lines cause) kept) (same_log : asked.log ≡ kept.log) (same_count : asked.count ≡ kept.count)
     (new : Kept D) (same : new.book ≡ asked.book) (rest : List ℕ) (then : Option (List ℕ)) where
@@ -335,7 +335,7 @@ module _ {D : Type 0} (seen : D → List ℕ) (may_leave : D → List ℕ → Ty
     pub comes_unsettled : (why : StoredFault) → Settles seen may_leave asked more now (Err why) new rest then → StopsSo seen may_leave a d old then first why new
     comes_unsettled why settles = stops_so seen may_leave a old now first asked d more stays_stopped new then same why rest settles
 
--- what was committed is let go
+-- the rest of a commit
 pub settles_so : {D : Type 0} (seen : D → List ℕ) (may_leave : D → List ℕ → Type 0) (old new : Kept D) (held now : List ℕ) (before after : Option (List ℕ)) (result : Result (Unit {0}) StoredFault)
     → AllAreKept seen may_leave old new
     → MatchResult result (λ done. (now ≡ []) × Appends before after held) (λ why. IsUnwritten why × AppendsSome before after held)

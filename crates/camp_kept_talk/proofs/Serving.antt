@@ -1,4 +1,4 @@
--- What serving a request over what is kept leads to.
+-- The result of serving a request over a durable repository.
 use Rattle.std.proofs.Common.{◌≡◌, ◌⊎◌, ℕ, Bool, true, false, List, [], ◌∷◌, Option, Some, Result, Ok, Err, map, sym, ◌∙◌, ap, subst}
 use Rattle.std.proofs.KnownBytes.{Keeps-refl}
 use Rattle.std.specs.Io.KnownBytes.{Appends}
@@ -24,7 +24,7 @@ use Rattle.camp_talk.proofs.Served.{served_in_turn as served_so}
 
 module _ {D : Type 0} (seen : D → List ℕ) (may_leave : D → List ℕ → Type 0) (a b before : Option (List ℕ)) (old asked : Kept D) (held : List ℕ)
     (same_log : asked.log ≡ old.log) (same_count : asked.count ≡ old.count) (holds : Holds seen may_leave (calls_in old) old) where
-  -- asking the book moves no disk
+  -- asking the book does not change the disk
   holds_asked : Holds seen may_leave (calls_in old) asked
   holds_asked = record {
     accepted = holds.accepted;
@@ -60,7 +60,7 @@ module _ {D : Type 0} (seen : D → List ℕ) (may_leave : D → List ℕ → Ty
           (may (calls_in old) first_asked holds_asked c leaves)
 
   module _ (serves : Serves a b (Some []) (Some held) old.book (Ok true) asked.book) (new : Kept D) (same : new.book ≡ asked.book) (now : List ℕ) (after : Option (List ℕ)) where
-    -- an answer is written behind the calls
+    -- an answer is written after the calls
     pub serves_so : (done : Unit {0}) → Settles seen may_leave asked held before (Ok done) new now after → ServesKept seen may_leave a b before after old (Ok true) new
     serves_so done settles = (
       record {
@@ -101,11 +101,11 @@ module _ {D : Type 0} (seen : D → List ℕ) (may_leave : D → List ℕ → Ty
     pub serves_unkept : (told : KeptFault) → MayBeKept seen may_leave asked new → ServesKept seen may_leave a b before before old (Err (fault.Kept told)) new
     serves_unkept told may = (Keeps-refl before, unkept (Err why) serves new same, may_keep (Err why) serves new same may)
 
--- where requests are served, whatever is kept
+-- the place of a service, over any durable repository
 abbrev counter : {D : Type 0} → KeptCounter D → Counter
 counter place = record { left = place.left; held = place.held; history = place.kept.book }
 
--- turns over what is kept are turns, and keep all calls
+-- steps over a durable repository are steps, and persist all calls
 turns_too : {D : Type 0} (seen : D → List ℕ) (may_leave : D → List ℕ → Type 0) (first last : KeptCounter D) (over : List (KeptCounter D))
     → Holds seen may_leave (calls_in first.kept) first.kept → Leads (ServesKeptAt seen may_leave) first over last
     → Leads ServesAt (counter first) (map counter over) (counter last) × Holds seen may_leave (calls_in last.kept) last.kept

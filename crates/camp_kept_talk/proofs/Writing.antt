@@ -1,4 +1,4 @@
--- What a turn reads.
+-- What a step reads.
 use Rattle.std.proofs.Common.{ℕ, Bool, List, Option, Result, Ok, Err}
 use Rattle.camp_talk.specs.Answers.{Standing}
 use Rattle.camp_talk.specs.Talks.{ReadsWithin, Turns}
@@ -6,7 +6,7 @@ use Rattle.camp_talk.specs.declared.faults.TalkFault.{TalkFault}
 use Rattle.camp_talk.specs.declared.faults.TalkFault.TheVariants as talk
 use Rattle.camp_talk.proofs.Firsts.{command_left, command_read}
 
--- a turn reads no more than a command has
+-- a step reads no more than a command has
 pub turns_within : (a b old now : Option (List ℕ)) (before after : Standing) (result : Result Bool TalkFault) → Turns a b old now before result after → ReadsWithin a b
 turns_within a b old now before after (Ok whole) turns = record {
   some = turns.said.command;

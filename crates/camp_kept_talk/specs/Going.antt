@@ -1,4 +1,4 @@
--- How a conversation goes on whose answers are held back.
+-- How a conversation continues whose answers are buffered.
 use Rattle.std.specs.Prelude.{◌≡◌, ◌⊎◌, ℕ, Bool, true, false, List, [], Option, None, Some, Result, Ok, Err}
 use Rattle.std.specs.Io.KnownBytes.{Appends, Keeps}
 use Rattle.camp_call.specs.declared.calls.Call.{Call}
@@ -23,45 +23,46 @@ IsUnwritten (fault.Talk why) = ⊥
 IsUnwritten (fault.Frame why) = ⊥
 IsUnwritten (fault.Write error) = Unit {0}
 
--- the fault of a turn whose answer is held in memory, as it is told: that an answer can't be held is want of memory
+-- the reported fault of a step whose answer is buffered in memory: if the answer can't be buffered, it is out of
+-- memory
 abbrev pub as_told : TalkFault → TalkFault
 as_told Memory = Memory
 as_told (Read error) = Read error
 as_told (Write error) = Memory
 as_told Internal = Internal
 
--- what a turn writes that can't keep the calls: all that was held back before it, or nothing
+-- what a step writes that can't persist the calls: all answers buffered before it, or nothing
 abbrev pub WritesAllOrNone : List ℕ → Option (List ℕ) → Option (List ℕ) → StoredFault → Type 0
 WritesAllOrNone held before after (fault.Kept why) = Appends before after held ⊎ Keeps before after
 WritesAllOrNone held before after (fault.Talk why) = Unit {0}
 WritesAllOrNone held before after (fault.Frame why) = Unit {0}
 WritesAllOrNone held before after (fault.Write error) = Unit {0}
 
--- where the calls can't be kept nothing is written
+-- if the calls can't be persisted nothing is written
 abbrev pub WritesNone : Option (List ℕ) → Option (List ℕ) → StoredFault → Type 0
 WritesNone before after (fault.Kept why) = Keeps before after
 WritesNone before after (fault.Talk why) = Unit {0}
 WritesNone before after (fault.Frame why) = Unit {0}
 WritesNone before after (fault.Write error) = Unit {0}
 
--- commands were answered one after the other, and then a turn came to a fault, which is told so
+-- commands were answered one after the other, followed by a step with a fault, which is reported like this
 pub record EndsTold (remaining rest old now : Option (List ℕ)) (first : Standing) (told : TalkFault) (history : Entries) : Type 0 where
   pub why : TalkFault
   pub told_is : told ≡ as_told why
   pub ends : EndsSo remaining rest old now first (Err why) history
 
 module _ {D : Type 0} (seen : D → List ℕ) (may_leave : D → List ℕ → Type 0) where
-  -- all accepted calls are on the disk, if some first of them were
+  -- all accepted calls are durable, if some prefix of them was
   abbrev pub AllAreKept : Kept D → Kept D → Type 0
   AllAreKept old new = (calls : List Call) → AreFirst calls old → Holds seen may_leave calls old → Holds seen may_leave (calls_in old) new
 
-  -- a crash leaves a store of those that were on the disk, or of all
+  -- a crash leaves a store of those that were durable, or of all
   abbrev pub MayBeKept : Kept D → Kept D → Type 0
   MayBeKept old new =
       (calls : List Call) → AreFirst calls old → Holds seen may_leave calls old → (c : List ℕ) → may_leave (disk_in new) c → IsStoreOf calls c ⊎ IsStoreOf (calls_in old) c
 
-  -- answers that were held back go to a writer. Ok: all calls are kept, and then the answers were written, no more and no
-  -- less. Kept: nothing was written. Write: all calls are kept, and a beginning of the answers was written.
+  -- buffered answers are flushed to a writer. Ok: all calls are persisted, and then exactly the answers were written.
+  -- Kept: nothing was written. Write: all calls are persisted, and a prefix of the answers was written.
   abbrev pub Settles : Kept D → List ℕ → Option (List ℕ) → Result (Unit {0}) StoredFault → Kept D → List ℕ → Option (List ℕ) → Type 0
   Settles old held before (Ok done) new now after = AllAreKept old new × (now ≡ []) × Appends before after held
   Settles old held before (Err (fault.Kept why)) new now after = MayBeKept old new × Keeps before after
@@ -70,8 +71,8 @@ module _ {D : Type 0} (seen : D → List ℕ) (may_leave : D → List ℕ → Ty
   Settles old held before (Err (fault.Write error)) new now after = AllAreKept old new × AppendsSome before after held
 
   module _ (remaining rest old now : Option (List ℕ)) (held : List ℕ) (first last : Standing) (kept : Kept D) where
-    -- commands were answered up to a place, and all calls that were accepted until then are on the disk; what answers
-    -- those behind it is held back
+    -- commands were answered up to a place, and all calls that were accepted until then are durable; the answers to
+    -- those after it are buffered
     pub record Goes : Type 0 where
       pub middle : Standing
       pub left : Option (List ℕ)
@@ -82,8 +83,8 @@ module _ {D : Type 0} (seen : D → List ℕ) (may_leave : D → List ℕ → Ty
       pub since : IsBeginning (calls_of middle.history) calls
       pub within : IsBeginning calls (calls_of last.history)
 
-  -- a turn has led no further: what answers the commands behind the place is held back, perhaps in part; and no more was
-  -- read behind them than a command has
+  -- a step has failed: the answers to the commands after the place are buffered, perhaps in part; and no more was
+  -- read after them than a command has
   pub record Stays (remaining rest old now : Option (List ℕ)) (held : List ℕ) (first : Standing) (kept : Kept D) : Type 0 where
     pub middle : Standing
     pub last : Standing
@@ -98,10 +99,10 @@ module _ {D : Type 0} (seen : D → List ℕ) (may_leave : D → List ℕ → Ty
     pub within : IsBeginning calls (calls_of last.history)
     pub is : last.history ≡ kept.book
 
-  -- the calls could not be kept: commands were answered up to a place, and all of their answers were written; those
-  -- behind it were answered, and nothing of their answers was written; no more was read than a further one has. The
-  -- accepted calls are those of all these commands. Whatever a crash leaves is a store of some first of them, the same
-  -- each time, with all those up to the place; or of all.
+  -- the calls could not be persisted: commands were answered up to a place, and all of their answers were written;
+  -- those after it were answered, and none of their answers was written; no more was read than a further one has. The
+  -- accepted calls are those of all these commands. Whatever a crash leaves is a store of some prefix of them, the
+  -- same each time, with all those up to the place; or of all.
   pub record StopsUnkept (remaining rest old now : Option (List ℕ)) (first : Standing) (kept : Kept D) : Type 0 where
     pub middle : Standing
     pub last : Standing
@@ -116,8 +117,8 @@ module _ {D : Type 0} (seen : D → List ℕ) (may_leave : D → List ℕ → Ty
     pub within : IsBeginning calls (calls_in kept)
     pub crash : (c : List ℕ) → may_leave (disk_in kept) c → IsStoreOf calls c ⊎ IsStoreOf (calls_in kept) c
 
-  -- the writer failed: commands were answered, and a beginning of their answers was written; no more was read than a further
-  -- one has. The accepted calls are those of all these commands, and they are on the disk.
+  -- the writer failed: commands were answered, and a prefix of their answers was written; no more was read than a
+  -- further one has. The accepted calls are those of all these commands, and they are durable.
   pub record StopsUnwritten (remaining rest old now : Option (List ℕ)) (first : Standing) (kept : Kept D) : Type 0 where
     pub last : Standing
     pub right : Option (List ℕ)
@@ -126,8 +127,9 @@ module _ {D : Type 0} (seen : D → List ℕ) (may_leave : D → List ℕ → Ty
     pub is : last.history ≡ kept.book
     pub holds : Holds seen may_leave (calls_in kept) kept
 
-  -- a conversation has stopped at a fault: the promise holds. Kept: the calls could not be kept. Write: the writer failed.
-  -- Talk: a turn came to this fault, all accepted calls are on the disk, and all answers were written before it.
+  -- a conversation has stopped at a fault: the promise holds. Kept: the calls could not be persisted. Write: the
+  -- writer failed. Talk: a step had this fault, all accepted calls are durable, and all answers were written before
+  -- it.
   abbrev pub StopsSo : (remaining rest old now : Option (List ℕ)) → Standing → StoredFault → Kept D → Type 0
   StopsSo remaining rest old now first (fault.Kept why) kept =
       Promises seen may_leave remaining old now first kept × StopsUnkept remaining rest old now first kept
@@ -138,7 +140,7 @@ module _ {D : Type 0} (seen : D → List ℕ) (may_leave : D → List ℕ → Ty
   StopsSo remaining rest old now first (fault.Write error) kept =
       Promises seen may_leave remaining old now first kept × StopsUnwritten remaining rest old now first kept
 
-  -- where a turn has led
+  -- the result of a step
   abbrev pub Comes : (remaining rest old now : Option (List ℕ)) → List ℕ → Standing → Standing → Result Bool StoredFault → Kept D → Type 0
   Comes remaining rest old now held first last (Ok true) kept = Goes remaining rest old now held first last kept
   Comes remaining rest old now held first last (Ok false) kept =
@@ -146,13 +148,13 @@ module _ {D : Type 0} (seen : D → List ℕ) (may_leave : D → List ℕ → Ty
       × Holds seen may_leave (calls_in kept) kept
   Comes remaining rest old now held first last (Err why) kept = StopsSo remaining rest old now first why kept
 
-  -- where settling has led
+  -- the result of flushing
   abbrev pub ComesSettled : (remaining rest old now : Option (List ℕ)) → List ℕ → Standing → Standing → Result (Unit {0}) StoredFault → Kept D → Type 0
   ComesSettled remaining rest old now held first last (Ok done) kept = Goes remaining rest old now held first last kept
   ComesSettled remaining rest old now held first last (Err why) kept = StopsSo remaining rest old now first why kept
 
-  -- a conversation over what is kept, from where it begins: the promise holds. At Ok it was held to its end, and all
-  -- accepted calls are on the disk.
+  -- a conversation over a durable repository, from its start: the promise holds. After Ok it was held to its end, and
+  -- all accepted calls are durable.
   abbrev pub TalksKept : (remaining rest old now : Option (List ℕ)) → Standing → Result (Unit {0}) StoredFault → Kept D → Type 0
   TalksKept remaining rest old now first (Ok done) kept =
       Promises seen may_leave remaining old now first kept × EndsSo remaining rest old now first (Ok false) kept.book

@@ -1,12 +1,12 @@
--- The law of requests over what is kept.
+-- The law of requests over a durable repository.
 use Rattle.std.specs.Prelude.{ℕ, List}
 use Rattle.camp_kept.specs.Keeping.{Holds, calls_in}
 use Rattle.camp_kept_talk.specs.Serving.{KeptCounter, ServesKeptAt}
 use Rattle.camp_talk.specs.Dialogues.{Leads}
 use Rattle.camp_talk.specs.Frames.{ServesInTurn}
 
--- turns that serve requests over what is kept, one after the other, serve them in turn; and then all accepted calls are on
--- the disk
+-- steps that serve requests over a durable repository, one after the other, give each the answer after those before
+-- it; and then all accepted calls are durable
 abbrev pub KeptRequestsAreServedInTurn : {D : Type 0} → (D → List ℕ) → (D → List ℕ → Type 0) → Type 0
 KeptRequestsAreServedInTurn {D = D} seen may_leave =
     (first last : KeptCounter D) (over : List (KeptCounter D)) → Holds seen may_leave (calls_in first.kept) first.kept

@@ -1,4 +1,4 @@
--- What a conversation promises whose calls are kept: nothing that was answered is lost.
+-- What a conversation over a durable repository promises: nothing that was answered is lost.
 use Rattle.std.specs.Prelude.{◌≡◌, ◌⊎◌, ℕ, List, [], ◌∷◌, ◌++◌, Option, OnSome}
 use Rattle.std.specs.List.{flat_map}
 use Rattle.std.specs.Io.KnownBytes.{Consumes, IsAtEnd}
@@ -11,15 +11,15 @@ use Rattle.camp_talk.specs.Answers.{Answers, Standing}
 use Rattle.camp_talk.specs.Cutting.{IsCommand, IsLeft}
 use Rattle.camp_talk.specs.Talks.{AppendsSome, Exchange, Follow}
 
--- one more command was answered, or none: a whole one, or, where the input has ended, what that leaves of one
+-- one more command was answered, or none: a whole one or, if the input has ended, what that leaves of one
 abbrev pub AnswersLast : Type 0 → Standing → List Exchange → Standing → Type 0
 AnswersLast Ended middle [] last = middle ≡ last
 AnswersLast Ended middle (said ∷ []) last =
     (IsCommand said.command ⊎ (IsLeft said.command × Ended)) × Answers middle said.command said.answer last
 AnswersLast Ended middle (said ∷ other ∷ others) last = ⊥
 
--- commands were read and answered one after the other, and maybe a last one, no more and no less; and of their answers
--- these bytes were written: all, or a beginning
+-- exactly these commands, and perhaps a last one, were read and answered one after the other; and these bytes of
+-- their answers were written: all, or a prefix
 pub record Told (remaining left old new : Option (List ℕ)) (first last : Standing) : Type 0 where
   pub said : List Exchange
   pub middle : Standing
@@ -29,10 +29,10 @@ pub record Told (remaining left old new : Option (List ℕ)) (first last : Stand
   pub reads : Consumes remaining left (flat_map (λ exchange. exchange.command) (said ++ more))
   pub writes : AppendsSome old new (flat_map (λ exchange. exchange.answer) (said ++ more))
 
--- by what a read of a disk returns, and what a crash may leave of it
+-- two properties of a disk: what a read returns, and what a crash may leave
 module _ {D : Type 0} (seen : D → List ℕ) (may_leave : D → List ℕ → Type 0) where
-  -- nothing but answers to commands was written; and whatever a crash leaves is a store of calls that begin with all
-  -- those that were accepted up to the last of these commands, and that are a beginning of those that were accepted
+  -- nothing but answers to commands was written; and whatever a crash leaves is a store of a prefix of the accepted
+  -- calls, which includes all those that were accepted up to the last of these commands
   pub record Promises (remaining old new : Option (List ℕ)) (first : Standing) (kept : Kept D) : Type 0 where
     pub left : Option (List ℕ)
     pub last : Standing

@@ -1,4 +1,4 @@
--- Requests in frames over what is kept: each is a batch.
+-- Requests in frames over a durable repository: each is a batch.
 use Rattle.std.specs.Prelude.{◌≡◌, ◌⊎◌, ℕ, Bool, List, [], Option, Some, Result, Ok, Err}
 use Rattle.std.specs.Io.KnownBytes.{Keeps}
 use Rattle.camp_kept.specs.Keeping.{Holds, IsStoreOf, calls_in, disk_in}
@@ -12,25 +12,25 @@ use Rattle.camp_talk.specs.Frames.{Serves, WritesNot}
 use Rattle.camp_talk.specs.declared.frames.FrameFault.{FrameFault}
 use Rattle.camp_talk.specs.declared.frames.FrameFault.TheVariants.{Cut, NoNumber, Talk, TooLarge}
 
--- a request was served into memory, and came to this
+-- a request was served into memory, with this result
 pub record ServesHeld (remaining rest : Option (List ℕ)) (before : Entries) (came : Result Bool FrameFault) (after : Entries) : Type 0 where
   pub frame : List ℕ
   pub serves : Serves remaining rest (Some []) (Some frame) before came after
 
--- a fault of serving into memory, as it is told: that an answer can't be held is want of memory
+-- the reported fault of serving into memory: if the answer can't be stored, it is out of memory
 abbrev pub frame_told : FrameFault → FrameFault
 frame_told NoNumber = NoNumber
 frame_told TooLarge = TooLarge
 frame_told Cut = Cut
 frame_told (Talk why) = Talk (as_told why)
 
--- serving a request came to a fault before anything was written, and it is told so
+-- serving a request had a fault before anything was written, and it is reported like this
 pub record ServesNone (remaining rest : Option (List ℕ)) (before : Entries) (told : FrameFault) (after : Entries) : Type 0 where
   pub why : FrameFault
   pub told_is : told ≡ frame_told why
   pub held : ServesHeld remaining rest before (Err why) after
 
--- serving a request came to this, before its calls could not be kept
+-- serving a request had this result, before its calls could not be persisted
 pub record ServesUnkept (remaining rest : Option (List ℕ)) (before after : Entries) : Type 0 where
   pub came : Result Bool FrameFault
   pub held : ServesHeld remaining rest before came after
@@ -40,10 +40,10 @@ module _ {D : Type 0} (seen : D → List ℕ) (may_leave : D → List ℕ → Ty
   abbrev pub MayKeep : Kept D → Kept D → Type 0
   MayKeep old new = (c : List ℕ) → may_leave (disk_in new) c → IsStoreOf (calls_in old) c ⊎ IsStoreOf (calls_in new) c
 
-  -- one request is served over what is kept. Ok: it is served as over a book, and all accepted calls are on the disk.
-  -- Kept: it was served, or came to a fault, and nothing was written; the calls that it asked are on the disk all or not
-  -- at all. Frame: it came to this fault, and nothing was written; all accepted calls are on the disk. Write: it was
-  -- answered, and all accepted calls are on the disk; a beginning of its answer was written.
+  -- the service of one request over a durable repository. Ok: it is served as over a book, and all accepted calls are
+  -- durable. Kept: it was served, or had a fault, and nothing was written; the calls that it asked are durable all or
+  -- not at all. Frame: it had this fault, and nothing was written; all accepted calls are durable. Write: it was
+  -- answered, and all accepted calls are durable; a prefix of its answer was written.
   abbrev pub ServesKept : (remaining rest before after : Option (List ℕ)) → Kept D → Result Bool StoredFault → Kept D → Type 0
   ServesKept remaining rest before after old (Ok more) new =
       Serves remaining rest before after old.book (Ok more) new.book × Holds seen may_leave (calls_in new) new
@@ -55,7 +55,8 @@ module _ {D : Type 0} (seen : D → List ℕ) (may_leave : D → List ℕ → Ty
   ServesKept remaining rest before after old (Err (fault.Write error)) new =
       WritesNot remaining rest before after old.book new.book × Holds seen may_leave (calls_in new) new
 
--- what requests in frames are served over: what is kept, a reader and a writer; and how many of them were served
+-- a framed conversation over a durable repository: that, a reader and a writer, and the number of requests that were
+-- served
 abbrev pub kept_of : {D R W : Type 0} → FramedStore D R W → Kept D
 kept_of it = it.kept
 
@@ -68,13 +69,14 @@ writer_of it = it.writer
 abbrev pub served_of : {D R W : Type 0} → FramedStore D R W → ℕ
 served_of it = it.served
 
--- where requests are served over what is kept: what a reader has left, what a writer holds, and what is kept
+-- the place of a service over a durable repository: the rest of the reader, the content of the writer, and the
+-- repository
 pub record KeptCounter (D : Type 0) : Type 0 where
   pub left : Option (List ℕ)
   pub held : Option (List ℕ)
   pub kept : Kept D
 
--- one request is served, from a place all of whose calls are on the disk to another
+-- the service of one request, from a place all of whose calls are durable to another
 abbrev pub ServesKeptAt : {D : Type 0} → (D → List ℕ) → (D → List ℕ → Type 0) → KeptCounter D → Result Bool StoredFault → KeptCounter D → Type 0
 ServesKeptAt seen may_leave from answer to =
     Holds seen may_leave (calls_in from.kept) from.kept

@@ -5,16 +5,17 @@ use camp_kept::KeptFault;
 use camp_talk::{FrameFault, TalkFault};
 use std::io;
 
-/// Why a conversation that stores ended before its input did.
+/// Why a conversation over a store ended before its input did.
 #[derive(Clone, Copy, Debug)]
 pub enum StoredFault {
-    /// The accepted calls were not kept. None of the answers that were held back was written.
+    /// The accepted calls were not persisted. None of the buffered answers was written.
     Kept(KeptFault),
-    /// No more commands could be read, or there was no memory for an answer. All accepted calls are kept.
+    /// No more commands could be read, or memory ran out for an answer. All accepted calls are persisted.
     Talk(TalkFault),
-    /// A request could not be read, or not be answered whole. All accepted calls are kept.
+    /// A request could not be read, or not be answered whole. All accepted calls are persisted.
     Frame(FrameFault),
-    /// The writer failed, with this error. All accepted calls are kept, and a beginning of the answers was written.
+    /// The writer failed, with this error. All accepted calls are persisted, and a prefix of the answers was
+    /// written.
     Write(io::Error),
 }
 

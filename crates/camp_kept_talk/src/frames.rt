@@ -1,4 +1,4 @@
-//! Requests in frames over a repository that is kept.
+//! Requests in frames over a durable repository.
 ghost use Rattle.std.specs.Prelude.{◌≡◌, ◌-◌, ◌^◌, true, IfOk};
 ghost use Rattle.camp_kept.specs.Keeping.{Holds, calls_in, disk_in};
 ghost use Rattle.camp_kept_talk.specs.Serving.{ServesKept, frame_told};
@@ -11,8 +11,9 @@ use camp_talk::{Dialogue, FrameFault, TalkFault, serve};
 use std::alloc::Global;
 use std::io::{BufRead, Write};
 
-/// Reads a request in its frame and answers it; keeps all accepted calls; and then writes the frame of the answer.
-/// Whether there may be more: else the input has ended. `served` counts the requests that were served.
+/// Reads a request in its frame and answers it; persists all accepted calls; and then writes the frame of the
+/// answer. True if there may be more; else the input has ended. `served` counts the requests that were
+/// served.
 pub fn serve_kept<D: Disk, R: BufRead, W: Write>(
     alloc: Global,
     kept: &mut Kept<D>,
@@ -40,7 +41,8 @@ pub fn serve_kept<D: Disk, R: BufRead, W: Write>(
     }
 }
 
-// Why a request could not be served whose answer goes to memory: that it can't go there is want of memory.
+// Returns why a request could not be served whose answer goes to memory: if it can't be stored, out of
+// memory.
 fn without_room(why: FrameFault) -> FrameFault
     ensures { result ≡ frame_told why }
 {
@@ -50,12 +52,12 @@ fn without_room(why: FrameFault) -> FrameFault
     }
 }
 
-/// Requests in frames: they are answered over what is kept, one after the other.
+/// Requests in frames: they are answered over a durable repository, one after the other.
 #[derive(Drop)]
 pub struct FramedStore<D: Disk, R, W> {
     alloc: Global,
     kept: Kept<D>,
-    /// How many requests were served.
+    /// The number of requests that were served.
     served: u64,
     reader: R,
     writer: W,
@@ -64,7 +66,7 @@ pub struct FramedStore<D: Disk, R, W> {
 impl<D: Disk, R: BufRead, W: Write> FramedStore<D, R, W> {
     ghost use Rattle.camp_kept_talk.specs.Serving.{kept_of, reader_of, served_of, writer_of};
 
-    /// Before the first request.
+    /// Starts before the first request.
     pub fn new(alloc: Global, kept: Kept<D>, reader: R, writer: W) -> FramedStore<D, R, W>
         ensures kept { kept_of result ≡ kept }
         ensures reader { reader_of result ≡ reader }

@@ -1,5 +1,5 @@
-//! Conversations over a repository that is kept in a file: no answer is written before the calls that were
-//! accepted until then are on the disk.
+//! Conversations over a repository that is persisted in a file: no answer is written before the calls that
+//! were accepted until then are durable.
 #![tactic(auto)]
 
 mod faults;

@@ -1,8 +1,9 @@
-//! Whether a command stands ready.
+//! Whether a command is ready to be read.
 use bstr::ByteSlice;
 
-/// Whether bytes begin with a whole command: with a line that is one, or with what ends its body or its group behind
-/// it. Of some that do it says no. Only a line with the word `edit` or `group` takes others with it.
+/// True only if bytes begin with a whole command: with a line that is one, or with what ends its body or its
+/// group after it. False decides nothing. Only a line with the word `edit` or `group` has others that belong
+/// to it.
 pub(crate) fn begin_with_command(bytes: &[u8]) -> bool {
     let Some(feed) = bytes.find(b"\n") else {
         return false;
@@ -14,8 +15,8 @@ pub(crate) fn begin_with_command(bytes: &[u8]) -> bool {
     line.find(b"edit").is_none() || behind.find(b"\nend\n").is_some()
 }
 
-// A line `done` behind a line `end` ends a group, whatever stands before; and so does the first one where there is no
-// edit.
+// A line `done` after a line `end` ends a group, whatever comes before; and so does the first one if there is
+// no edit.
 fn have_group(bytes: &[u8]) -> bool {
     if bytes.find(b"\nend\ndone\n").is_some() {
         return true;

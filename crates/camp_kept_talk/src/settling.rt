@@ -1,4 +1,4 @@
-//! Answers that are held back until the calls before them are kept.
+//! Answers that are buffered until the calls before them are persisted.
 ghost use Rattle.std.specs.Prelude.{◌≡◌, [], MatchResult};
 ghost use Rattle.std.specs.Io.KnownBytes.{Appends};
 ghost use Rattle.camp_kept.specs.Keeping.{disk_in};
@@ -11,8 +11,8 @@ use camp_talk::write_answer;
 use std::alloc::Global;
 use std::io::Write;
 
-/// Keeps all accepted calls, and then writes the answers that were held back, and flushes them. Where the calls are
-/// not kept, nothing is written.
+/// Persists all accepted calls, and then writes the buffered answers, and flushes them. If the calls are not
+/// persisted, nothing is written.
 #[tactic(auto, using(crate::proofs::Leading::settles_so))]
 pub(crate) fn settle<D: Disk, W: Write>(
     alloc: Global,
@@ -28,7 +28,7 @@ pub(crate) fn settle<D: Disk, W: Write>(
     let_go(held, writer)
 }
 
-// Writes what is held back, and flushes it.
+// Writes the buffered answers, and flushes them.
 fn let_go<W: Write>(held: &mut Vec<u8>, writer: &mut W) -> Result<(), StoredFault>
     ensures { MatchResult result
         (λ _. (held.new.items ≡ []) × Appends (W.contents writer.old) (W.contents writer.new) held.old.items)

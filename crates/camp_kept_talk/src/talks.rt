@@ -1,4 +1,4 @@
-//! Conversations over a repository that is kept.
+//! Conversations over a durable repository.
 ghost use Rattle.std.specs.Prelude.{◌≡◌, []};
 ghost use Rattle.std.specs.Io.Buffered.{reader_remaining};
 ghost use Rattle.camp_kept.specs.Keeping.{Holds, calls_in, disk_in};
@@ -12,9 +12,9 @@ use camp_kept::{Disk, Kept};
 use std::alloc::Global;
 use std::io::{BufReader, Read, Write};
 
-/// Answers the commands of a reader, one after the other, until the input ends. Answers are held back until all calls
-/// that were accepted before them are kept: before more has to be read for the next command, behind 256 accepted calls
-/// or a mebibyte of answers, and at the end.
+/// Answers the commands of a reader, one after the other, until the input ends. Answers are buffered until
+/// all calls that were accepted before them are persisted: before more has to be read for the next command,
+/// after 256 accepted calls or a mebibyte of answers, and at the end.
 pub fn talk_kept<D: Disk, R: Read, W: Write>(
     alloc: Global,
     kept: &mut Kept<D>,

@@ -1,4 +1,4 @@
-//! Turns of a conversation whose answers are held back.
+//! Steps of a conversation whose answers are buffered.
 ghost use Rattle.std.specs.Prelude.{◌≡◌, ◌⊎◌, [], true, false, IfErr, IfOk, List, MatchResult, OnOk, Option, ℕ};
 ghost use Rattle.std.specs.Io.KnownBytes.{Appends, Keeps};
 ghost use Rattle.camp_kept.specs.Keeping.{disk_in};
@@ -14,25 +14,25 @@ use camp_talk::{Account, TalkFault, turn};
 use std::alloc::Global;
 use std::io::{BufRead, Write};
 
-/// The most calls that are accepted before they are kept.
+/// The most calls that are accepted before they are persisted.
 const MAX_CALLS: usize = 256;
 
-/// Where so many bytes of answers are held back, they are settled before the next command.
+/// Bytes of buffered answers from which they are flushed before the next command.
 const MAX_ANSWERS: usize = 1 << 20;
 
-/// What a conversation holds back.
+/// The buffer of a conversation.
 #[derive(Drop)]
 pub struct HeldBack {
-    /// The answers that are not written yet, one behind the other.
+    /// The answers that are not written yet, in order.
     pub answers: Vec<u8>,
-    /// How many lines were read.
+    /// The number of lines that were read.
     pub lines: u64,
-    /// What is kept of the last fault or refusal.
+    /// The diagnostic of the last fault or refusal.
     pub cause: Account,
 }
 
 impl HeldBack {
-    /// Nothing, before the first line.
+    /// Starts empty, before the first line.
     pub fn new(alloc: Global) -> HeldBack
         ensures none { result.answers.items ≡ [] }
         ensures first { result.lines ≡ 0 }
@@ -46,8 +46,8 @@ impl HeldBack {
     }
 }
 
-/// Takes a turn: reads a command, asks it of the book, and holds its answer back. Whether there may be more. Where no
-/// command stands ready, or much is held back, all of it is settled first; and so it is at the end of the input.
+/// Takes a step: reads a command, executes it on the book, and buffers its answer. True if there may be more.
+/// If no command is ready, or much is buffered, all of it is flushed first; also at the end of the input.
 pub fn stored_turn<D: Disk, R: BufRead, W: Write>(
     alloc: Global,
     kept: &mut Kept<D>,
@@ -62,11 +62,11 @@ pub fn stored_turn<D: Disk, R: BufRead, W: Write>(
         → Comes D.Disk.seen D.Disk.may_leave remaining (R.remaining reader.new) old (W.contents writer.new) held.new.answers.items first
         (record { history = kept.new.book; lines = held.new.lines; cause = held.new.cause }) result kept.new }
     ensures counts { IfOk result (λ more. more ≡ true → HasRisen held.old.lines held.new.lines) }
-    // It reads no more than a command has; and where the calls can't be kept, it writes all that was held back, or
-    // nothing.
+    // It reads no more than a command has; and if the calls can't be persisted, it writes all buffered
+    // answers, or nothing.
     ensures within { ReadsWithin (R.remaining reader.old) (R.remaining reader.new) }
     ensures whole { IfErr result (WritesAllOrNone held.old.answers.items (W.contents writer.old) (W.contents writer.new)) }
-    // Where no command stands ready, the answers that were held back are written.
+    // If no command is ready, the buffered answers are written.
     ensures settles { is_ready ≡ false → IfOk result (λ more. more ≡ true → Appends (W.contents writer.old) (W.contents writer.new) held.old.answers.items) }
     ensures clean { D.Disk.is_clean (disk_in kept.new) ≡ D.Disk.is_clean (disk_in kept.old) }
 {
@@ -74,7 +74,7 @@ pub fn stored_turn<D: Disk, R: BufRead, W: Write>(
     turn_on(alloc, kept, held, reader, writer)
 }
 
-// Settles what is held back, where no command stands ready or much waits.
+// Flushes the buffered answers, if no command is ready or many are pending.
 fn settle_first<D: Disk, W: Write>(
     alloc: Global,
     kept: &mut Kept<D>,
@@ -100,14 +100,14 @@ fn settle_first<D: Disk, W: Write>(
     settle(alloc, kept, &mut held.answers, writer)
 }
 
-// Whether what is held back may wait: a command stands ready, and not much waits.
+// True if the buffered answers may wait: a command is ready, and not many are pending.
 fn may_wait<D: Disk>(kept: &Kept<D>, held: &HeldBack, is_ready: bool) -> bool
     ensures { is_ready ≡ false → result ≡ false }
 {
     is_ready && kept.waiting() < MAX_CALLS && held.answers.len() < MAX_ANSWERS
 }
 
-// Reads a command and asks it. Where there is no more behind it, all is settled.
+// Reads a command and executes it. At the end of the input everything is flushed.
 #[tactic(auto, using(crate::proofs::Writing::turns_within))]
 fn turn_on<D: Disk, R: BufRead, W: Write>(
     alloc: Global,
@@ -148,7 +148,7 @@ fn turn_on<D: Disk, R: BufRead, W: Write>(
     }
 }
 
-// Why a turn could not be taken whose answer is held back: that it can't be held is want of memory.
+// Returns why a step failed whose answer is buffered: if it can't be buffered, out of memory.
 fn without_room(why: TalkFault) -> TalkFault
     ensures { result ≡ as_told why }
 {

@@ -4,7 +4,7 @@ use Rattle.camp_notation.proofs.Common.{flat_map, slice_get, row, separator}
 use Rattle.std.proofs.lemmas.List.{take_more}
 use Rattle.std.proofs.lemmas.Grind.{flat_map-append}
 
--- one more item, behind those that are there
+-- one more item, after those that are there
 behind : {X : Type 0} (text : X → List ℕ) (xs : List X) (x : X) → row text (xs ++ x ∷ []) ≡ row text xs ++ (separator (length xs) ++ text x)
 behind text [] x = append-nil (text x)
 behind text (y ∷ ys) x =

@@ -40,7 +40,7 @@ change_text (Hunk hunk) = hunk_text hunk
 abbrev pub whole_text : Named → List ℕ
 whole_text p = label_text (label_of p) ++ codes " " ++ change_text p.prim
 
--- the primitive that a label alone stands for: the first of the known ones with that label
+-- the primitive that a label alone represents: the first of the known ones with that label
 abbrev pub first_with : Label → List Named → Option Named
 first_with label known = find (λ k. is_eq (label_cmp (label_of k) label)) known
 
@@ -49,7 +49,7 @@ abbrev pub has_text : List ℕ → Option Named → Bool
 has_text text None = false
 has_text text (Some k) = pointwise ◌==◌ (whole_text k) text
 
--- a primitive is known: its label alone stands for it
+-- a primitive is known: its label alone represents it
 abbrev pub is_known : List Named → Named → Bool
 is_known known p = has_text (whole_text p) (first_with (label_of p) known)
 

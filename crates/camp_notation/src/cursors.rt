@@ -7,7 +7,7 @@ use camp_prim::Named;
 use std::alloc::{AllocError, Global};
 use std::str;
 
-/// A text that is parsed from left to right, in which a label may stand for a known primitive.
+/// A text that is parsed from left to right, in which a label may represent a known primitive.
 #[derive(Drop)]
 pub(crate) struct Cursor<'a> {
     pub(crate) alloc: Global,

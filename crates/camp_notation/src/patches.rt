@@ -39,7 +39,7 @@ pub(crate) fn append_named(text: &mut String, known: &[Named], p: &Named) -> Res
     }
 }
 
-/// True if the primitive that a label alone stands for has this text.
+/// True if this is the text of the primitive that a label alone represents.
 fn is_known(known: &[Named], label: Label, whole: &String) -> Result<bool, AllocError>
     ensures { IfOk result (λ found. found ≡ has_text (string_bytes whole.now) (first_with label known.now)) }
 {

@@ -14,7 +14,7 @@ use camp_prim::{Label, Named, Primitive};
 use camp_seq::Seq;
 use std::alloc::Global;
 
-/// Parses a labelled primitive. A label alone stands for the first of the known primitives with that label.
+/// Parses a labelled primitive. A label alone represents the first of the known primitives with that label.
 pub fn read_named(alloc: Global, known: &[Named], text: &[u8]) -> Result<Named, NotationError>
     ensures text { IfOk result (λ p. text.now ≡ named_text known.now p) }
 {

@@ -1,4 +1,4 @@
--- A pull of what comes along is not refused for want of a patch.
+-- A pull of the names to pull is not refused for a missing patch.
 use Rattle.camp_questions.proofs.Words.{and_from, and_parts, ◌≡◌, ℕ, Bool, true, false, not, ◌&&◌, List, [], ◌∷◌, ◌++◌, map, filter, None, Some, Ok, Err, refl, sym, ap, ◌∙◌, inl, inr, subst, Key, Catch, has_patch, is_among, name_of, names_of, among_kept, among_once, Arrange, AreAlike, Contents, catches_of, first_lacked, is_empty, step, AreAmong, ComeToFront, StickOn, filter_image, is_among_is, not_among, MergesBehind, Outcome, PullGives, WantedNext, common_names, NoBranch, NoPatch, NothingToDo, TooLarge, keep_labels, lists_are_unique, lists_succeed_or_stick, KeysPart, keys_of, Decision, becomes, is_full_with, refused, refused_if, wanted, AnswerOf, OfBranch, OfPatches, AlongIsEnough, map-map, catch_key, ◌≢◌, ArrangeSticks, arrange_by_members, in_order, GrowsToFront, Result, IfOk, IsTold, Unanswered, Refusal, Has, outcomes_are_determined, StandBehind}
 use Rattle.camp_branch.proofs.Words.{cond-false, cond-true}
 use Rattle.camp_branch.specs.declared.faults.Blocked.TheVariants as blocked
@@ -11,12 +11,12 @@ use Rattle.camp_questions.proofs.Growths.{all_done, all_own, in_order_there, nam
 use Rattle.camp_questions.specs.Along.{AlongOr, ComesAlong, OfTwo, HaveDiverged, TellsAlong}
 use Rattle.camp_questions.proofs.Growing.{grown_in_order}
 
--- an outcome is not that one patch stands on another
+-- an outcome does not say that one patch depends on another
 abbrev pub IsFree : Outcome → Type 0
 IsFree (Err (blocked.Depends patch on)) = ⊥
 IsFree other = Unit {0}
 
--- no outcome behind the common patches is
+-- no outcome after the common patches says so
 merges_freely : (common : List (List ℕ)) (from_common chosen to : List Catch) (outcome : Outcome) → MergesBehind common from_common chosen to outcome → IsFree outcome
 merges_freely common from_common chosen to outcome (inr (stuck, other, sticks, e)) = subst IsFree (sym e) tt
 merges_freely common from_common chosen to outcome (inl (to_common, others, first, inl (align, inl (x, y, merge, e)))) = subst IsFree (sym e) tt
@@ -30,14 +30,15 @@ wanted_freely names common from_common list to outcome front (inl (chosen, left,
 wanted_freely names common from_common list to outcome front (inr (stuck, other, sticks, e)) =
     absurd ((lists_succeed_or_stick.arranges names list).1 front (stuck, other, sticks))
 
--- where names come next behind the common patches, no pull of them is refused since one stands on another
+-- if the named patches can be moved directly after the common ones, no pull of them is refused because one depends on
+-- another
 pub pulls_freely : (from to : List Catch) (names : List (List ℕ)) (common behind : List Catch) (outcome : Outcome) → Arrange (common_names from to) from common behind → ComeToFront behind names → PullGives from to names outcome → IsFree outcome
 pulls_freely from to names common behind outcome arranged front (inl (first, list, also, next)) =
     let same = lists_are_unique.arranged (common_names from to) from common first behind list arranged also in
     wanted_freely names (common_names from to) first list to outcome (subst (λ l. ComeToFront l names) same.1 front) next
 pulls_freely from to names common behind outcome arranged front (inr (stuck, other, sticks, e)) = subst IsFree (sym e) tt
 
--- what is left behind those that are arranged by names fails their test
+-- the catches left after those arranged by names fail the test of the names
 left_by : (names : List (List ℕ)) (keys first rest : List Key) → KeysPart names keys first rest → rest ≡ filter (λ k. not (is_among names k.name)) keys
 left_by names [] first rest w = w.1
 left_by names (key ∷ keys) first rest (inl w) =
@@ -52,7 +53,7 @@ and_not : (a b : Bool) → (a && not (a && b)) ≡ (a && not b)
 and_not true b = refl
 and_not false b = refl
 
--- behind the common patches stand those that the other branch lacks
+-- the patches after the common ones are those that the other branch lacks
 lacked_behind : (from to common behind : List Catch) → Arrange (common_names from to) from common behind → (n : List ℕ) → is_among (map name_of behind) n ≡ (has_patch from n && not (has_patch to n))
 lacked_behind from to common behind arranged n =
     let names = common_names from to in
@@ -67,18 +68,18 @@ and_true true b e = e refl
 and_true false b e = refl
 
 module _ (theirs ours : List Catch) (names told : List (List ℕ)) (none : first_lacked theirs names ≡ None) (along : ComesAlong theirs ours names told) where
-  -- the names that are wanted are of patches that stand there
+  -- the wanted names are of patches among these
   wanted_there : AreAmong (wanted ours names) (map name_of along.1)
   wanted_there n there =
       let kept : (is_among names n && not (has_patch ours n)) ≡ true = sym (among_kept (λ m. not (has_patch ours m)) names n) ∙ there in
       lacked_behind theirs ours along.0 along.1 along.2 n ∙ and_from (has_patch theirs n) (not (has_patch ours n)) (none_lacked_among theirs names none n ((and_parts (is_among names n) (not (has_patch ours n)) kept).0)) (and_parts (is_among names n) (not (has_patch ours n)) kept).1
 
-  -- all that come along do
+  -- all names to pull are among them
   all_there : AreAmong (wanted ours names ++ along.3.0) (map name_of along.1)
   all_there =
       all_own (map name_of along.1) (ComeToFront along.1) (StickOn along.1) (to_front along.1) (wanted ours names) along.3.0 wanted_there along.3.1
 
-  -- they are told, and `to` lacks them
+  -- they are in the answer, and `to` lacks them
   told_are : AreAlike (wanted ours told) (wanted ours names ++ along.3.0)
   told_are n =
       let all = wanted ours names ++ along.3.0 in
@@ -87,7 +88,7 @@ module _ (theirs ours : List Catch) (names told : List (List ℕ)) (none : first
       let ordered : is_among told n ≡ is_among all n = ap (λ l. is_among l n) along.3.2 ∙ sym (same_in_order theirs all own n) in
       among_kept (λ m. not (has_patch ours m)) told n ∙ ap (λ b. b && not (has_patch ours n)) ordered ∙ and_true (is_among all n) (not (has_patch ours n)) (λ there. (and_parts (has_patch theirs n) (not (has_patch ours n)) (lacked there)).1)
 
-  -- with the common patches before them they come next
+  -- with the common patches before them they can be moved to the front
   come_next : ComeToFront along.1 (wanted ours told)
   come_next =
       (to_front along.1).done_alike (wanted ours names ++ along.3.0) (wanted ours told) (λ n. sym (told_are n))
@@ -101,7 +102,7 @@ module _ (theirs ours : List Catch) (names told : List (List ℕ)) (none : first
   is_free =
       pulls_freely theirs ours (wanted ours told) along.0 along.1 (pulled theirs ours (wanted ours told)) along.2 come_next (outcomes_are_determined.pulls theirs ours (wanted ours told)).1
 
--- a decision refuses neither for a patch that is not there nor for one that another stands on
+-- a decision refuses neither for a missing patch nor because one depends on another
 record Goes (decision : Decision) : Type 0 where
   there : (name : List ℕ) → ¬ (decision ≡ refused (NoPatch name))
   free : (patch on : List ℕ) → ¬ (decision ≡ refused (Depends patch on))
@@ -139,9 +140,9 @@ along_is_enough state from to names told w =
     ])) in
     (done.there, done.free)
 
--- ---- what comes along with patches, and why it may not
+-- ---- the names to pull, and why there are none
 
--- by the names of a set that are those in common
+-- by a set of the common names
 pub stands_behind : (from to : List Catch) (names : List (List ℕ)) (first rest : List Catch) → AreAlike names (common_names from to) → Arrange names from first rest → StandBehind from to rest
 stands_behind from to names first rest alike w =
     (first, arrange_by_members.arranged names (common_names from to) (contains_alike names (common_names from to) alike) from first rest w)
@@ -150,7 +151,7 @@ pub have_diverged : (from to : List Catch) (names : List (List ℕ)) (patch on :
 have_diverged from to names patch on alike w =
     (patch, on, arrange_by_members.sticks names (common_names from to) (contains_alike names (common_names from to) alike) from patch on w, refl)
 
--- the names that have grown behind the common patches come along
+-- the names that have grown after the common patches are those to pull
 pub comes_along : (from to behind : List Catch) (names set grown told : List (List ℕ)) → StandBehind from to behind → AreAlike set (wanted to names) → GrowsToFront behind set grown → told ≡ in_order from grown → ComesAlong from to names told
 comes_along from to behind names set grown told stand alike grows is =
     (stand.0, behind, stand.1, grown_in_order (map name_of behind) (ComeToFront behind) (StickOn behind) (to_front behind) from (wanted to names) set grown told alike grows is)

@@ -3,12 +3,12 @@ use Rattle.camp_questions.proofs.Words.{◌≡◌, ◌≤◌, ℕ, ◌+◌, ◌-
 use Rattle.std.proofs.lemmas.Cmp.{tied_itself}
 use Rattle.camp_questions.proofs.LineNames.{catches_count, coming_count, gone_count, none_known}
 
--- what was taken away is found under its absolute label
+-- the names of removed lines are found under the absolute label of their hunk
 found : (known : Known) (key : Key) (taken : List (List ℕ)) → get (insert known.taken key taken) key ≡ Some taken
 found known key taken =
     get-insert key_total known.taken key taken key ∙ ap (λ o. cond (is_eq o) (Some taken) (get known.taken key)) (tied_itself key_total key)
 
--- what stands in place of a part of a list, and then the part again
+-- replacing part of a list and then restoring it gives the list
 back : (names coming : List (List ℕ)) (from to end : ℕ) → from ≤ to → to ≤ length names → end ≡ from + length coming → splice (splice names from to coming) from end (slice_range names from to) ≡ names
 back names coming from to end ordered within ends =
     let front = take from names in
@@ -30,7 +30,7 @@ given_back name other key hunk known within =
     let there : names_coming (get (insert known.taken key gone) key) own (length hunk.old) ≡ gone = ap (λ o. names_coming o own (length hunk.old)) (found known key gone) ∙ ap (λ b. cond b gone own) (eq-eqb (length gone) (length hunk.old) many) in
     ap (splice (splice known.names from to coming) from (from + length hunk.new)) there ∙ back known.names coming from to (from + length hunk.new) (omega arith) within (ap (λ n. from + n) (sym (coming_count name key hunk known within)))
 
--- all that is known are names of which something holds
+-- a fact holds of all names that are known
 record Holds (P : List ℕ → Type 0) (known : Known) : Type 0 where
   pub names : All P known.names
   pub taken : (key : Key) (taken : List (List ℕ)) → get known.taken key ≡ Some taken → All P taken

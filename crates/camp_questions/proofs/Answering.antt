@@ -1,24 +1,24 @@
--- Questions, and what is told of them.
+-- Questions and their results.
 use Rattle.camp_questions.proofs.Words.{Catch, Contents, catches_of, ◌≡◌, ℕ, List, Option, None, first_lacked, Has, Result, Ok, Err, Some, refl, subst, AnswerOf, IfOk, Tells, IsFound, IsTold, Unanswered, MatchOption, Refusal, NoBranch, NoPatch, OfBranch, OfPatches, TellsOrWants}
 
--- an answer is no refusal
+-- an answer is not a refusal
 pub no_refusal : {A : Type 0} (refusal : Refusal) (answer : A) (is : AnswerOf A) → is ≡ Err refusal → is ≡ Ok answer → ⊥
 no_refusal refusal answer is e f = cc
 
--- and one answer
+-- two equal Ok results have the same answer
 pub same_answer : {A : Type 0} (is : AnswerOf A) (one other : A) → is ≡ Ok one → is ≡ Ok other → one ≡ other
 same_answer is one other e f = cc
 
--- what has to be such is answered
+-- a result that has to be an answer is one
 abbrev pub Such : {A : Type 0} → (A → Type 0) → AnswerOf A → Type 0
 Such {A} Is answer = (told : A) × (answer ≡ Ok told) × Is told
 
--- a question about a branch that is there goes on with its catches
+-- a question about a branch that exists continues with its catches
 goes_on : {A : Type 0} (state : Contents) (branch : List ℕ) {catches : List Catch} → catches_of state.branches branch ≡ Some catches → (GoesOn : List Catch → AnswerOf A → Type 0) (answer : AnswerOf A) → OfBranch state branch GoesOn answer → GoesOn catches answer
 goes_on state branch found GoesOn answer w =
     subst (λ o. MatchOption o (answer ≡ Err (NoBranch branch)) (λ c. GoesOn c answer)) found w
 
--- an answer, by whether there is the branch
+-- the result, by whether the branch exists
 pub by_branch : {A X : Type 0} (state : Contents) (branch : List ℕ) (GoesOn : List Catch → AnswerOf A → Type 0) (answer : AnswerOf A) → OfBranch state branch GoesOn answer
     → (catches_of state.branches branch ≡ None → answer ≡ Err (NoBranch branch) → X) → ((catches : List Catch) → Has state branch catches → GoesOn catches answer → X) → X
 by_branch {A} {X} state branch GoesOn answer w none there = at (catches_of state.branches branch) refl w
@@ -36,19 +36,19 @@ by_patches {A} {X} catches names GoesOn answer w lacks all = at (first_lacked ca
     at None is v = all is v
     at (Some name) is e = lacks name is e
 
--- it is told what was made, or that memory ran out: where there is an answer
+-- the result is the computed answer or out of memory: if there is an answer
 module _ {A E : Type 0} (state : Contents) (branch : List ℕ) {catches : List Catch} (found : catches_of state.branches branch ≡ Some catches) where
   pub such_told : (Is : List Catch → A → Type 0) (made : Result A E) (result : Result A Unanswered) → IsTold made result → IfOk made (Is catches) → (one : A) → Is catches one → Tells (OfBranch state branch (λ c. Such (Is c))) result
   such_told Is (Ok answer) result is w one there = rw is (rw found (answer, refl, w))
   such_told Is (Err error) result is w one there = rw is (one, rw found (one, refl, there))
 
-  -- or where it is not refused
+  -- or if the question is not refused
   pub such_wanted : (Is : List Catch → A → Type 0) (made : Result A E) (result : Result A Unanswered) → IsTold made result → IfOk made (Is catches) → TellsOrWants (OfBranch state branch (λ c. Such (Is c))) result
   such_wanted Is (Ok answer) result is w = rw is (rw found (answer, refl, w))
   such_wanted Is (Err error) result is w =
       rw is (λ refusal v. let on = goes_on state branch found (λ c. Such (Is c)) (Err refusal) v in no_refusal refusal on.0 (Err refusal) refl on.1)
 
--- the same of a question about patches that the branch has
+-- the same for a question about patches that the branch has
 module _ {A : Type 0} (state : Contents) (branch : List ℕ) (names : List (List ℕ)) {catches : List Catch} (found : IsFound state branch names catches) (GoesOn : List Catch → AnswerOf A → Type 0) where
   abbrev Goes : List Catch → AnswerOf A → Type 0
   Goes c = OfPatches c names (GoesOn c)

@@ -1,4 +1,4 @@
--- The arrows of a graph are the direct needs.
+-- The arrows of a graph lead to the direct dependencies.
 use Rattle.camp_questions.proofs.Words.{◌≡◌, ℕ, Bool, true, false, true≢false, not, ◌||◌, List, [], ◌∷◌, ◌++◌, map, bytes_eq, refl, sym, ap, ◌∙◌, subst, ◌↔◌, AllByRecursion, list_any, Catch, and_from, and_parts, not-true, is_among, name_of, names_of, name_itself, or_true, among_kept, among_once, Needs, Node, ArrowsAreDirectNeeds, NeedsDirectly, NeedsPatch, Needing, NeedsThese, goes_between, needs_directly, needs_other, node_of, inl, inr}
 use Rattle.camp_questions.proofs.BranchGrowths.{needs_are_determined}
 use Rattle.camp_questions.proofs.Growths.{among_cases, in_order_there, names_differ}
@@ -9,13 +9,13 @@ module _ (branch : List Catch) where
   one_needed names needed other v w =
       let one = needs_are_determined branch names in one.2 needed v ∙ sym (one.2 other w)
 
-  -- what a patch needs is known
+  -- the dependencies of a patch are known
   pub needs_known : (patch : Needing) → NeedsThese branch patch → (other : List ℕ) → NeedsPatch branch patch.name other → needs_other patch other ≡ true
   needs_known patch these other needs =
       let same = one_needed (patch.name ∷ []) these.0 needs.1.0 these.1 needs.1.1 in
       and_from (not (bytes_eq other patch.name)) (is_among patch.needs other) (ap not (names_differ other patch.name needs.0)) (these.2 other ∙ ap (λ l. is_among l other) same ∙ needs.1.2)
 
-  -- what is known is needed
+  -- what is known is a dependency
   pub known_needs : (patch : Needing) → NeedsThese branch patch → (other : List ℕ) → needs_other patch other ≡ true → NeedsPatch branch patch.name other
   known_needs patch these other known =
       let parts = and_parts (not (bytes_eq other patch.name)) (is_among patch.needs other) known in (
@@ -31,7 +31,7 @@ module _ (branch : List Catch) where
     | inr e ↦ or_true (test patch) (list_any test all) (passes_there test all name each.1 passes e)
   ]
 
-  -- what is needed is a patch of the branch
+  -- a dependency is a patch of the branch
   pub is_there : (name other : List ℕ) → NeedsPatch branch name other → is_among (names_of branch) other ≡ true
   is_there name other needs =
       among_once (map name_of branch) other ∙ in_order_there branch ((name ∷ []) ++ needs.1.1.0) other (ap (λ l. is_among l other) (sym needs.1.1.2) ∙ needs.1.2)

@@ -8,7 +8,7 @@ use Rattle.camp_questions.proofs.KeptElements.{fact_of}
 use Rattle.camp_questions.proofs.Stuck.{sticks_between}
 
 module _ (names : List (List ℕ)) where
-  -- what is of none of the names does not stick
+  -- a patch of none of the names is not the one that is blocked
   none_stick : (rest list : List Catch) (patch on : Key) → AreNotOf names list → ¬ (SticksBehind names rest list patch on)
   none_stick rest [] patch on are w = w
   none_stick rest (k ∷ list) patch on are (inl w) =
@@ -17,7 +17,7 @@ module _ (names : List (List ℕ)) where
       true≢false (sym ((is_among_is names (name_of k)).0 w.0) ∙ are.0)
   none_stick rest (k ∷ list) patch on are (inr (inr w)) = none_stick (rest ++ k ∷ []) list patch on are.1 w.1
 
-  -- what sticks does so before what is of none of the names
+  -- the patch that blocks comes before any that is of none of the names
   stuck_in_front : (rest front behind : List Catch) (patch on : Key) → AreNotOf names behind → SticksBehind names rest (front ++ behind) patch on → SticksBehind names rest front patch on
   stuck_in_front rest [] behind patch on are w = absurd (none_stick rest behind patch on are w)
   stuck_in_front rest (k ∷ front) behind patch on are (inl w) = inl w
@@ -39,7 +39,7 @@ one_of names (k ∷ list) n are there = elim (among_cases (name_of k) (map name_
   | inr e ↦ one_of names list n are.1 e
 ]
 
--- what names up to one stick on is one of those up to it
+-- what blocks names up to an index is itself among those up to it
 stuck_up_to : (branch : List Catch) (patches : List Patch) → HasPatches branch patches → (last : List ℕ) (names : List (List ℕ)) (name : List ℕ) → AreAmong names (up_to (names_of branch) last) → StickOn branch names name → is_among (up_to (names_of branch) last) name ≡ true
 stuck_up_to branch patches has last names name among stop =
     let first = subst (λ own. StandFirst (up_to own last) branch) (sym (names_of_patches branch patches has)) (stand_first patches branch last has.distinct has.labels) in
@@ -48,7 +48,7 @@ stuck_up_to branch patches has last names name among stop =
     let there = (sticks_between names first.front stop.0 stop.1 stuck).0.0 in
     ap (is_among (up_to (names_of branch) last)) stop.3 ∙ one_of (up_to (names_of branch) last) first.front stop.1.name first.are there
 
--- names up to one stand before it
+-- names up to an index come before it
 split_at : (names : List (List ℕ)) (name : List ℕ) → is_among names name ≡ true → (before : List (List ℕ)) × (behind : List (List ℕ)) × (names ≡ before ++ name ∷ behind)
 split_at [] name there = absurd (true≢false (sym there))
 split_at (n ∷ names) name there = elim (among_cases n names name there) [
@@ -76,7 +76,7 @@ earlier_stands (n ∷ names) last name has there different =
     ]
     at false e w v later = next later w (among_cases n (up_to names last) name v)
 
--- what a patch needs is up to it
+-- the dependencies of a patch are among the patches up to it
 pub needs_up_to : (branch : List Catch) (name other : List ℕ) → IsLawfulBranch branch → is_among (names_of branch) name ≡ true → NeedsPatch branch name other → is_among (up_to (names_of branch) name) other ≡ true
 needs_up_to branch name other lawful there needs =
     let own = names_of branch in
@@ -84,7 +84,7 @@ needs_up_to branch name other lawful there needs =
     let among : AreAmong (name ∷ []) (up_to own name) = alone_among name (up_to own name) (ends own name there) in
     all_within (ComeToFront branch) (StickOn branch) (up_to own name) (stuck_up_to branch lawful.patches lawful.has name) (name ∷ []) grown.0 among grown.1 other (in_order_among branch ((name ∷ []) ++ grown.0) other (ap (λ l. is_among l other) (sym grown.2) ∙ needs.1.2))
 
--- and stands before it
+-- and come before it
 needs_stand_before : (branch : List Catch) (name other : List ℕ) → IsLawfulBranch branch → has_patch branch name ≡ true → NeedsPatch branch name other → StandsBefore (names_of branch) other name
 needs_stand_before branch name other lawful has needs =
     let there : is_among (names_of branch) name ≡ true = among_once (map name_of branch) name ∙ has in

@@ -1,4 +1,4 @@
--- Names that grow until they come to the front of a branch, or until they can be taken out of it.
+-- Names that grow until they can be moved to the front of a branch, or taken out of it.
 use Rattle.camp_questions.proofs.Words.{and_parts, not-true, ◌≡◌, ◌≢◌, ℕ, Bool, true, false, true≢false, not, cond, ◌||◌, List, [], ◌∷◌, ◌++◌, map, None, Some, Ok, Err, bytes_eq, refl, sym, ap, ◌∙◌, inl, inr, ◌↔◌, Contains, Key, Catch, has_patch, is_among, name_of, is_among_is, name_itself, or_true, Next, Has, first_lacked, is_empty, step, AreHeldIn, CanGo, ComeToFront, StickOn, other_names, among_others, Contents, after, with_catches, AreAlike, obliterate_alike, AreAmong, HeldCanGo, HeldIsDetermined, NeedsAreDetermined, NeedsComeFirst, arrange_by_members, lists_are_unique, lists_succeed_or_stick, Outcome, subst, ArrangeSticks, names_of, among_kept, in_order, IsPlain, NeedsAreLeast, what_stops_comes_along, outcomes_are_determined, Depends}
 use Rattle.camp_call.specs.declared.calls.Call.TheVariants as call
 use Rattle.camp_questions.proofs.Growths.{Grow, among_cases, grew, grows_to_one, in_order_there, all_within}
@@ -8,7 +8,7 @@ pub contains_alike : (names others : List (List ℕ)) → AreAlike names others 
 contains_alike names others alike n =
     (λ c. (is_among_is others n).1 (sym (alike n) ∙ (is_among_is names n).0 c), λ c. (is_among_is names n).1 (alike n ∙ (is_among_is others n).0 c))
 
--- patches come to the front, or stick
+-- patches can be moved to the front, or are blocked
 pub to_front : (branch : List Catch) → Grow (map name_of branch) (ComeToFront branch) (StickOn branch)
 to_front branch = record {
   either = λ names. elim (lists_succeed_or_stick.arranges names branch).0 [
@@ -29,7 +29,7 @@ apart_outcomes branch name on outcome e f = cc
 pub same_patch : (name other on off : List ℕ) (outcome : Outcome) → outcome ≡ Err (Depends name on) → outcome ≡ Err (Depends other off) → name ≡ other
 same_patch name other on off outcome e f = cc
 
--- what stays is of the branch, and does not go
+-- a patch that stays is of the branch, and does not go
 pub stays : (branch : List Catch) (names : List (List ℕ)) (n : List ℕ) → is_among (other_names branch names) n ≡ true → (has_patch branch n ≡ true) × (is_among names n ≡ false)
 stays branch names n e =
     let parts = and_parts (has_patch branch n) (not (is_among names n)) (sym (among_others branch names n) ∙ e) in
@@ -45,7 +45,7 @@ held_in branch names name held = elim held.1 [
       stays branch names name (ap (is_among (other_names branch names)) called ∙ between.2)
 ]
 
--- patches can be taken out, or are held
+-- patches can be taken out, or a patch depends on them
 pub to_go : (branch : List Catch) → Grow (map name_of branch) (CanGo branch) (AreHeldIn branch)
 to_go branch = record {
   either = λ names. elim (lists_succeed_or_stick.arranges (other_names branch names) branch).0 [
@@ -64,7 +64,7 @@ to_go branch = record {
   stops_alike = λ names others name alike stop. (stop.0, obliterate_alike names others alike branch (Err (Depends name stop.0)) stop.1);
 }
 
--- a branch has the patches of names of which it lacks none
+-- a branch that lacks none of some names has patches of all of them
 pub none_lacked_among : (branch : List Catch) (names : List (List ℕ)) → first_lacked branch names ≡ None → AreAmong names (map name_of branch)
 none_lacked_among branch [] e name there = absurd (true≢false (sym there))
 none_lacked_among branch (n ∷ names) e name there =
@@ -99,7 +99,7 @@ not_empty (n ∷ names) [] some among =
     absurd (true≢false (sym (among n (ap (λ b. b || is_among names n) (name_itself n)))))
 not_empty (n ∷ names) (m ∷ held) some among = refl
 
--- an obliteration of names that can go is accepted
+-- an obliteration of names that can be taken out is accepted
 accepted_if : (state : Contents) (name : List ℕ) (branch : List Catch) (held : List (List ℕ)) → Has state name branch → first_lacked branch held ≡ None → is_empty held ≡ false → CanGo branch held → (next : Contents) × (step state (call.Obliterate name held) ≡ Next next)
 accepted_if state name branch held has all some can =
     let gives = sym ((outcomes_are_determined.obliterates branch held).2 (Ok can.0) can.1) in
@@ -111,16 +111,17 @@ held_can_go state name branch names held has all some grows =
     let there : first_lacked branch held ≡ None = none_lacked branch held (λ n among. in_order_there branch (names ++ grows.0) n (ap (λ l. is_among l n) (sym grows.2) ∙ among)) in
     (accepted_if state name branch held has there (not_empty names held some grown.1.has) grown.0, grown.1)
 
--- ---- what names need is the least that comes to the front, where all catches are plain and have room
+-- ---- the dependencies of names are the least list that can be moved to the front, if all catches are plain and have
+-- headroom
 
--- what stops some names comes along with all that come to the front and have them
+-- the patch that blocks some names is in each list that has them and can be moved to the front
 pub stops_within : (branch : List Catch) (others : List (List ℕ)) → IsPlain branch → ComeToFront branch others → (names : List (List ℕ)) (name : List ℕ) → AreAmong names others → StickOn branch names name → is_among others name ≡ true
 stops_within branch others plain come names name among stop =
     let sticks = subst (λ list. ArrangeSticks names list stop.0 stop.1) plain.are stop.2 in
     let along = what_stops_comes_along plain.patches names others plain.room (λ n c. (is_among_is others n).1 (among n ((is_among_is names n).0 c))) stop.0 stop.1 sticks (subst (λ list. ComeToFront list others) plain.are come) in
     (is_among_is others name).0 (subst (λ n. Contains others n) (sym stop.3) along)
 
--- what stands in the order of a branch is among the names that stand so
+-- names put in the order of a branch are among those names
 pub in_order_among : (branch : List Catch) (names : List (List ℕ)) → AreAmong (in_order branch names) names
 in_order_among branch names n there =
     (and_parts (is_among (names_of branch) n) (is_among names n) (sym (among_kept (is_among names) (names_of branch) n) ∙ there)).1

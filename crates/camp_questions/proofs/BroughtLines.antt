@@ -1,4 +1,4 @@
--- Each line of a file was brought by a hunk of the patch whose name it has.
+-- Each line of a file was added by a hunk of the patch whose name it has.
 use Rattle.camp_questions.proofs.Words.{◌≡◌, ℕ, ◌+◌, ◌-◌, ◌==◌, ◌||◌, Bool, true, false, cond, List, [], ◌∷◌, ◌++◌, map, Option, None, Some, length, take, drop, bytes_eq, refl, sym, ap, ◌∙◌, subst, arith, empty, get, get-empty, get-insert, slice_range, splice, nat_cmp, eq_by_cmp, slice_cmp, bytes_eq-Decides, Edit, key_cmp, key_of, key_total, label_of, Key, Named, Primitive, Add, Remove, Hunk, Catch, name_of, name_itself, is_among, Known, behind_all, behind_catches, behind_change, behind_hunk, names_coming, names_of_lines, nothing_known, lines_or_none, annotated, append_assoc, drop_at, length-append, none-some, same_Some, take_at, AllByRecursion, flat_map, Applies, Files, Lines, Splices, FitsAll, effect_of, Contains, catches_named, patch_in, AllZip, has_image, Plain, SameKey, AppliesAll, own_names, brought_by, ComeAgainAsInverses, EachIsBrought, IsBrought, LinesAreBrought, PutsBack, changes_in, cond_both, has_of_each, get-with_file_other, get-with_file_same}
 use Rattle.camp_questions.proofs.LineNames.{alike, other_path, same_key}
 use Rattle.camp_questions.proofs.KeptElements.{kept_has, of_each}
@@ -7,7 +7,7 @@ use Rattle.camp_questions.proofs.ZippedLines.{own_zipped, zipped_append, zipped_
 use Rattle.camp_questions.specs.declared.annotations.Annotated.TheVariants.{File}
 
 module _ (R : List ℕ → List ℕ → Type 0) (path : List ℕ) where
-  -- names were taken away with the lines of a hunk, and what comes again under its absolute label puts these back
+  -- names were removed with the lines of a hunk, and what comes again under its absolute label restores these
   record Taken (rest : List Named) (key : Key) (gone : List (List ℕ)) : Type 0 where
     hunk : Edit
     file : hunk.path ≡ path
@@ -18,12 +18,12 @@ module _ (R : List ℕ → List ℕ → Type 0) (path : List ℕ) where
   AllTaken rest known =
       (key : Key) (gone : List (List ℕ)) → get known.taken key ≡ Some gone → Taken rest key gone
 
-  -- each line of the file has a name that fits it, and so had those that were taken away
+  -- each line of the file has a name that fits it, and so has each line that was removed
   record Fit (tree : Files) (rest : List Named) (known : Known) : Type 0 where
     names : AllZip R known.names (lines_or_none (get tree path))
     taken : AllTaken rest known
 
-  -- this name fits all lines that a change brings to the file
+  -- this name fits all lines that a change adds to the file
   abbrev FitsNew : List ℕ → Primitive → Type 0
   FitsNew name prim = (hunk : Edit) → prim ≡ Hunk hunk → hunk.path ≡ path → AllByRecursion (R name) (brought_by hunk)
 
@@ -35,7 +35,7 @@ module _ (R : List ℕ → List ℕ → Type 0) (path : List ℕ) where
       let t = all key gone e in
       record { hunk = t.hunk; file = t.file; names = t.names; back = t.back.1 }
 
-  -- the names that come with a hunk fit its new lines
+  -- the names of the new lines of a hunk fit these
   come : (p : Named) (s : List Named) (known : Known) (hunk : Edit) (own : List (List ℕ)) (o : Option (List (List ℕ))) → p.prim ≡ Hunk hunk → hunk.path ≡ path → AllTaken (p ∷ s) known → AllZip R own hunk.new → get known.taken (key_of (label_of p)) ≡ o → AllZip R (names_coming o own (length hunk.new)) hunk.new
   come p s known hunk own None is same all fit e = fit
   come p s known hunk own (Some taken) is same all fit e =
@@ -44,7 +44,7 @@ module _ (R : List ℕ → List ℕ → Type 0) (path : List ℕ) where
       let lines : hunk.new ≡ t.hunk.old = puts (same ∙ sym t.file) in
       cond_both (length taken == length hunk.new) taken own (λ l. AllZip R l hunk.new) (λ e. subst (AllZip R taken) (sym lines) t.names) (λ e. fit)
 
-  -- what is known under absolute labels behind a hunk
+  -- the names stored under absolute labels after a hunk
   taken_at : (p : Named) (s : List Named) (known : Known) (hunk : Edit) (gone : List (List ℕ)) → hunk.path ≡ path → AllZip R gone hunk.old → AllByRecursion (λ q. SameKey p q → PutsBack hunk q.prim) s → AllTaken (p ∷ s) known
       → (key : Key) (taken : List (List ℕ)) (b : Bool) → eq_by_cmp key_cmp key (key_of (label_of p)) ≡ b → cond b (Some gone) (get known.taken key) ≡ Some taken → Taken s key taken
   taken_at p s known hunk gone same fit back all key taken true is e = record {
@@ -55,7 +55,7 @@ module _ (R : List ℕ → List ℕ → Type 0) (path : List ℕ) where
   }
   taken_at p s known hunk gone same fit back all key taken false is e = one_less p s known all key taken e
 
-  -- names and lines, where lines are put in place of others
+  -- names and lines when some of them are replaced
   record Parts (known : Known) (hunk : Edit) (before after : Lines) : Type 0 where
     front : AllZip R (take (hunk.line - 1) known.names) before
     gone : AllZip R (slice_range known.names (hunk.line - 1) (hunk.line - 1 + length hunk.old)) hunk.old
@@ -146,7 +146,7 @@ each_brings branch path =
       brings = brings;
     })))
 
--- what is told of a file is what its path has, and the names that are known
+-- the answer for a file is the lines of its path and the names that are known
 told_of : (found : Option Lines) (known : List (List ℕ)) (lines : Lines) (names : List (List ℕ)) → File lines names ≡ annotated found known → (found ≡ Some lines) × (known ≡ names)
 told_of None known lines names e = cc
 told_of (Some found) known lines names e =

@@ -1,4 +1,4 @@
--- What two lists of lines have in common at their ends, line by line.
+-- The common lines of two lists at their start and end, line by line.
 use Rattle.camp_questions.proofs.Words.{◌≡◌, ◌≤◌, ◌<◌, ℕ, zero, suc, ◌+◌, ◌-◌, Bool, true, false, cond, List, [], ◌∷◌, ◌++◌, bytes_eq, drop, length, take, replicate, get_or, sym, ap, ◌∙◌, arith, drop_more, length-append, length-drop, length-replicate, length-take-le, Lines, Edit, get_or-reverse, length-reverse, reverse, own_names, common_end, common_front, cond_both}
 
 module _ (lines others : Lines) (at : ℕ) (so_far : common_front lines others ≡ at + common_front (drop at lines) (drop at others)) where
@@ -9,13 +9,13 @@ module _ (lines others : Lines) (at : ℕ) (so_far : common_front lines others �
         let second : drop at others ≡ y ∷ drop (at + 1) others = drop_more others at y within_too ∙ ap (λ l. l ∷ drop (at + 1) others) (sym is_too) in
         (λ i. common_front (first i) (second i)) ∙ ap (λ c. cond c (suc (common_front (drop (at + 1) lines) (drop (at + 1) others))) zero) same
 
-    -- one more line is the same
+    -- one more line is equal
     pub one_more_common : bytes_eq x y ≡ true → common_front lines others ≡ (at + 1) + common_front (drop (at + 1) lines) (drop (at + 1) others)
     one_more_common same =
         let next = next_of_both true same in
         omega (arith, so_far, next)
 
-    -- a line is not
+    -- one line differs
     pub no_more_common : bytes_eq x y ≡ false → at ≡ common_front lines others
     no_more_common other =
         let next = next_of_both false other in
@@ -32,7 +32,7 @@ module _ (lines others : Lines) (at : ℕ) (so_far : common_front (reverse lines
     no_more_at_end =
         no_more_common (reverse lines) (reverse others) at so_far x y (omega (arith, length-reverse lines)) (omega (arith, length-reverse others)) (is ∙ sym (get_or-reverse lines at x within)) (is_too ∙ sym (get_or-reverse others at y within_too))
 
--- no more are common than there are
+-- the number of common lines is at most the length
 pub front_within : (lines others : Lines) → common_front lines others ≤ length lines
 front_within [] others = omega arith
 front_within (x ∷ lines) [] = omega arith
@@ -44,7 +44,7 @@ front_within_too (x ∷ lines) [] = omega arith
 front_within_too (x ∷ lines) (y ∷ others) =
     cond_both (bytes_eq x y) (suc (common_front lines others)) zero (λ n. n ≤ suc (length others)) (λ e. omega (arith, front_within_too lines others)) (λ e. omega arith)
 
--- the same of what is common at the end
+-- the same for the common lines at the end
 pub end_within : (lines others : Lines) → common_end lines others ≤ length lines
 end_within lines others =
     omega (arith, front_within (reverse lines) (reverse others), length-reverse lines)

@@ -1,11 +1,11 @@
--- Patches that change other files than those of what goes come before it as they are.
+-- Patches that change other files than those that go are moved in front of them unchanged.
 use Rattle.camp_questions.proofs.Words.{not-true, or_parts, or_true, Err, Ok, Result, ◌≡◌, ◌<◌, ◌==◌, ℕ, ◌+◌, Bool, true, false, true≢false, not, ◌||◌, List, [], ◌∷◌, ◌++◌, map, length, get_or, bytes_eq, refl, sym, ap, ◌∙◌, subst, inl, inr, arith, AllByRecursion, list_any, All, all_append, eq-eqb, name_itself, Key, Catch, Named, Primitive, ArrangesBehind, ComesBefore, get_or-map, length-map, All-head, All-tail, ◌*◌, ◌%◌, IfOk, OnOk, InRange, PrimitivesCommute, Commute, path_of, inverse_all, Plain, Going, PatchCatches, AreApart, AreOfPatch, AreFilesOf, AreMarkedToo, GoMarked, IsMarkedPlain, IsPlainInRange, file_number, how_many, is_marked, number_behind, number_of, IsInverted, AllStay, StandsAside, CommuteCatch, HasFiles, here}
 use Rattle.std.proofs.lemmas.Nat.{mod_below}
 use Rattle.camp_questions.specs.declared.fast.changed_files.PatchFiles.{PatchFiles}
 use Rattle.camp_questions.proofs.PartsArranged.{of_its_name}
 use Rattle.camp_questions.proofs.ReachedPatches.{catches_at}
 
--- a number is less than how many there are
+-- a hash number is less than the number of hash numbers
 number_within : (number : ℕ) (bytes : List ℕ) → number < how_many → number_behind number bytes < how_many
 number_within number [] less = less
 number_within number (byte ∷ bytes) less =
@@ -16,7 +16,7 @@ numbers_within [] = tt
 numbers_within (Plain p ∷ list) = (number_within 0 (path_of p.prim) (omega arith), numbers_within list)
 numbers_within (Catch.Conflictor k ∷ list) = ((omega arith), numbers_within list)
 
--- a plain catch passes one of another patch and another file, and both stay as they are
+-- a plain catch commutes unchanged past one of another patch and another file
 passes_one : (marks : List Bool) (name : List ℕ) (a b : Named) → InRange a.prim → InRange b.prim → is_marked marks (file_number (path_of a.prim)) ≡ true → is_marked marks (file_number (path_of b.prim)) ≡ false → bytes_eq a.name name ≡ false → b.name ≡ name → Commute a b b a
 passes_one marks name a b within inside marked free apart own = record {
   anywhere = record {
@@ -38,7 +38,7 @@ passes_all marks name (Plain a ∷ going) b marked apart inside free own =
     (Plain b, Plain a, going, passes_all marks name going b marked.1 apart.1 inside free own, record { b' = b; a' = a; swap = passes_one marks name a b marked.0.0 inside marked.0.1 free apart.0 own; second = refl; first = refl }, refl)
 passes_all marks name (Catch.Conflictor k ∷ going) b marked apart inside free own = absurd marked.0
 
--- where none of its files is marked, each catch of a patch passes those that go
+-- if none of its files is marked, each catch of a patch commutes past those that go
 pub all_pass : (marks : List Bool) (name : List ℕ) (going list : List Catch) → AllByRecursion (IsMarkedPlain marks) going → AreApart name going → AllByRecursion IsPlainInRange list → AreOfPatch name list → not (list_any (is_marked marks) (map number_of list)) ≡ true → AllStay going list
 all_pass marks name going [] marked apart inside own free = tt
 all_pass marks name going (Plain b ∷ list) marked apart inside own free =
@@ -46,7 +46,7 @@ all_pass marks name going (Plain b ∷ list) marked apart inside own free =
     (passes_all marks name going b marked apart inside.0 parts.0 own.0, all_pass marks name going list marked apart inside.1 own.1 (ap not parts.1))
 all_pass marks name going (Catch.Conflictor k ∷ list) marked apart inside own free = absurd inside.0
 
--- primitives that change places stay in their files
+-- primitives that commute stay in their files
 same_file : (p q q' p' : Primitive) → PrimitivesCommute p q q' p' → path_of p' ≡ path_of p
 same_file p q q' p' (inl w) = ap path_of w.first
 same_file p q q' p' (inr (inl w)) = ap path_of w.first
@@ -58,7 +58,7 @@ one_kept marks a (Plain b) k' j' marked inside w =
     (subst IsPlainInRange (sym w.second) w.swap.ranges.2, subst (IsMarkedPlain marks) (sym w.first) (w.swap.ranges.3, ap (λ path. is_marked marks (file_number path)) same ∙ marked.1))
 one_kept marks a (Catch.Conflictor k) k' j' marked inside w = absurd inside
 
--- what goes is still marked where a plain catch has passed it
+-- the catches that go are still marked after a plain catch has commuted past them
 kept_behind : (marks : List Bool) (going : List Catch) (k k' : Catch) (left : List Catch) → AllByRecursion (IsMarkedPlain marks) going → IsPlainInRange k → ComesBefore going k k' left → IsPlainInRange k' × AllByRecursion (IsMarkedPlain marks) left
 kept_behind marks [] k k' left marked inside w =
     (subst IsPlainInRange (sym w.0) inside, subst (AllByRecursion (IsMarkedPlain marks)) (sym w.1) tt)
@@ -78,7 +78,7 @@ all_kept marks name going (k ∷ list) first left marked inside own (inl w) =
 all_kept marks name going (k ∷ list) first left marked inside own (inr w) =
     absurd (w.0 (of_its_name name k own.0))
 
--- where a patch comes before it, and where not
+-- the case in which a patch is moved in front, and the case in which it is not
 pub still_marked : (marks : List Bool) (name : List ℕ) (going list left : List Catch) (yes : Bool) → AllByRecursion (IsMarkedPlain marks) going → AllByRecursion IsPlainInRange list → AreOfPatch name list → StandsAside name going list yes left → AllByRecursion (IsMarkedPlain marks) left
 still_marked marks name going list left true marked inside own w =
     all_kept marks name going list w.0 left marked inside own w.1
@@ -107,7 +107,7 @@ are_marked new (Plain p ∷ list) inside all =
     ((inside.0, all own (ap (λ b. b || others) (eq-eqb own own refl))), are_marked new list inside.1 (λ number there. all number (or_true (number == own) (list_any (λ other. number == other) (map number_of list)) there)))
 are_marked new (Catch.Conflictor k ∷ list) inside all = absurd inside.0
 
--- what goes and what joins it is marked
+-- the catches that go and those added to them are marked
 pub joined_marked : (old new : List Bool) (going list : List Catch) → AllByRecursion (IsMarkedPlain old) going → AllByRecursion IsPlainInRange list → AreMarkedToo old (map number_of list) new → AllByRecursion (IsMarkedPlain new) (going ++ list)
 joined_marked old new going list marked inside too =
     all_append (IsMarkedPlain new) going list
@@ -126,7 +126,7 @@ plain_in_range [] all = tt
 plain_in_range (p ∷ s) all =
     (All-head (λ p. InRange p.prim) p s all, plain_in_range s (All-tail (λ p. InRange p.prim) p s all))
 
--- the catches of the patch at a place are plain and in range, and these are their files
+-- the catches of the patch at an index are plain and in range, and these are their files
 pub has_files : (branch : List Catch) (patches : List PatchCatches) → IsInverted branch patches → (files : List PatchFiles) → AreFilesOf patches files → length files ≡ length patches → (place : ℕ) (p d : PatchCatches) (f e : PatchFiles) → place < length patches → p ≡ get_or patches place d → f ≡ get_or files place e → HasFiles p f
 has_files branch patches inverted files are each place p d f e within is there = record {
   plain =

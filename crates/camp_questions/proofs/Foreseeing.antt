@@ -13,13 +13,13 @@ use Rattle.camp_questions.specs.declared.foresight.Foreseen.{Foreseen}
 abbrev AreThere : Option (List Catch) → Type 0
 AreThere o = (catches : List Catch) × (o ≡ Some catches)
 
--- the branch that comes last is there
+-- the branch that is created last exists
 last_there : (branches : Branches) (name : List ℕ) (catches : List Catch) → AreThere (catches_of (branches ++ (name, catches) ∷ []) name)
 last_there [] name catches = (catches, ap (λ b. cond b (Some catches) None) (name_itself name))
 last_there (branch ∷ branches) name catches =
     cond_both (bytes_eq name branch.0) (Some branch.1) (catches_of (branches ++ (name, catches) ∷ []) name) AreThere (λ e. (branch.1, refl)) (λ e. last_there branches name catches)
 
--- the branch of this name is written to, and is there
+-- the branch of this name is written to, and exists
 abbrev Writes : Call → Contents → Type 0
 Writes call next = (name : List ℕ) × (branch_written call ≡ Some name) × AreThere (catches_of next.branches name)
 
@@ -41,13 +41,13 @@ not_none next same there none = some_is_none (sym there.1 ∙ ap (catches_of nex
     some_is_none : {catches : List Catch} → Some catches ≡ None → ⊥
     some_is_none e = cc
 
--- the branch that it writes to is there
+-- the branch that it writes to exists
 pub is_there : (call : Call) (next : Contents) (name : List ℕ) → LedTo call next → branch_written call ≡ Some name → ¬ (catches_of next.branches name ≡ None)
 is_there call next name led written =
     let to = writes call next led in
     not_none next (same_Some _ _ (sym to.1 ∙ written)) to.2
 
--- it stands as the questions for it are answered
+-- its state is the one with which questions for it are answered
 pub stands_so : (next : Contents) (name : List ℕ) (catches : List Catch) (tree copy : Files) (pairs told : List (List ℕ × List ℕ)) → Has next name catches → LeadsTo catches tree → copy ≡ tree → AreConflicts catches pairs → told ≡ pairs → StandsIn next (record { branch = name; tree = copy; conflicts = told })
 stands_so next name catches tree copy pairs told has leads same are is = record {
   tree = sym (tree_shown next name catches tree copy has leads same);
@@ -59,15 +59,15 @@ pub accepted_so : (call : Call) (next : Contents) (standing : Standing) (count :
 accepted_so call next standing count counted written stands =
     record { told = ap reply.Done counted; standing = standing; changed = refl; written = written; stands = stands }
 
--- ---- what is foreseen of a call is what comes of it
+-- ---- the foreseen result of a call is its result
 
--- the two questions for a branch, one behind the other
+-- the two questions for a branch, one after the other
 then_told : (next : Contents) (standing : Standing) → StandsIn next standing → replies_to next (call.Tree standing.branch ∷ call.Conflicts standing.branch ∷ []) ≡ reply.Tree standing.tree ∷ reply.Conflicts standing.conflicts ∷ []
 then_told next standing stands =
     let second = ap (λ d. step (state_behind next d) (call.Conflicts standing.branch)) stands.tree ∙ stands.conflicts in
     λ i. reply_of (stands.tree i) ∷ reply_of (second i) ∷ []
 
--- so of a decision
+-- the same for a decision
 record ComesSo (state : Contents) (decision : Decision) (seen : Foreseen) : Type 0 where
   replied : reply_of decision ≡ seen.reply
   stays : seen.changed ≡ None → state_behind state decision ≡ state

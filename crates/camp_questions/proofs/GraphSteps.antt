@@ -4,7 +4,7 @@ use Rattle.camp_questions.proofs.BranchGrowths.{needs_are_determined, to_front}
 use Rattle.camp_questions.proofs.Growing.{grown_in_order}
 use Rattle.camp_questions.proofs.PatchFronts.{all_images}
 
--- so many patches, with what they need in a branch whose patches have these names
+-- the first patches, with their dependencies in a branch whose patches have these names
 pub record AreNeeded (branch : List Catch) (names done : List (List ℕ)) (all : List Needed) : Type 0 where
   pub names_are : map (λ (patch : Needed). patch.name) all ≡ done
   pub needs : AllByRecursion (λ patch. NeedsThese branch (needing names patch)) all
@@ -23,18 +23,18 @@ pub all_needed : (branch : List Catch) (names own : List (List ℕ)) (all : List
 all_needed branch names own all whole each =
     record { names_are = each.names_are ∙ whole; needs = each.needs }
 
--- the marks of a test mark what passes it
+-- the marks of a test mark the names that pass it
 pub marked_by : (test : List ℕ → Bool) (names : List (List ℕ)) → marked names (map test names) ≡ filter test names
 marked_by test [] = refl
 marked_by test (n ∷ names) = ap (λ l. cond (test n) (n ∷ l) l) (marked_by test names)
 
--- what a patch sticks on is marked
+-- what blocks a patch is marked
 pub grown_needs : (branch : List Catch) (names : List (List ℕ)) (name : List ℕ) (set grown : List (List ℕ)) (marks : List Bool) → names ≡ names_of branch → AreAlike set (name ∷ []) → GrowsToFront branch set grown → marks ≡ map (is_among grown) names → NeedsThese branch (record { name = name; needs = marked names marks })
 grown_needs branch names name set grown marks own alike grows are =
     let told : marked names marks ≡ in_order branch grown = ap (marked names) are ∙ marked_by (is_among grown) names ∙ ap (filter (is_among grown)) own in
     (marked names marks, grown_in_order (map name_of branch) (ComeToFront branch) (StickOn branch) (to_front branch) branch (name ∷ []) set grown (marked names marks) alike grows told, λ n. refl)
 
--- what a patch needs in a branch
+-- the dependencies of a patch in a branch
 abbrev needing_in : List Catch → List ℕ → Needing
 needing_in branch name = record { name = name; needs = (needs_are_determined branch (name ∷ [])).0 }
 

@@ -1,7 +1,7 @@
--- Names to which others are added, one by one, until they do what they are to do.
+-- Names to which others are added, one by one, until nothing stops them.
 use Rattle.camp_questions.proofs.Words.{◌≢◌, and_from, and_parts, not-true, or_cases, or_none, or_parts, or_true, passes_is_kept, ExactlyOne, append_assoc, list_any-append, Catch, has_patch, is_among, name_of, names_of, name_itself, same_name, among_kept, among_once, AreAlike, AreAdded, AreGrown, in_order, AreAmong, GrewFrom, WasMet, ◌≡◌, ◌⊎◌, ◌<◌, ◌≤◌, ℕ, zero, suc, Bool, true, false, true≢false, not, ◌||◌, ◌&&◌, List, [], ◌∷◌, ◌++◌, filter, length, map, bytes_eq, append-nil, refl, sym, ap, ◌∙◌, subst, inl, inr, arith, false_from_ne_true, filter_within, length-filter_both}
 
--- names are done, or one of their own, which they lack, stops them; both go by which names there are
+-- names are done, or a name that they lack stops them; both depend only on which names there are
 pub record Grow (own : List (List ℕ)) (Done : List (List ℕ) → Type 0) (Stops : List (List ℕ) → List ℕ → Type 0) : Type 0 where
   pub either : (names : List (List ℕ)) → Done names ⊎ ((name : List ℕ) × Stops names name)
   pub apart : (names : List (List ℕ)) (name : List ℕ) → Done names → ¬ (Stops names name)
@@ -50,7 +50,7 @@ moved names name others = append_assoc names (name ∷ []) others
 abbrev pub left_of : List (List ℕ) → List (List ℕ) → List (List ℕ)
 left_of own names = filter (λ n. not (is_among names n)) own
 
--- a narrower test, which one name that is there fails, passes fewer
+-- a narrower test that one of the names fails keeps fewer names
 fewer : (p q : List ℕ → Bool) → ((n : List ℕ) → q n ≡ true → p n ≡ true) → (name : List ℕ) (names : List (List ℕ)) → p name ≡ true → q name ≡ false → is_among names name ≡ true → length (filter q names) < length (filter p names)
 fewer p q narrower name names passes fails there =
     let kept = filter p names in
@@ -73,7 +73,7 @@ one_behind : (names : List (List ℕ)) (name n : List ℕ) → is_among (names +
 one_behind names name n =
     among_both names (name ∷ []) n ∙ ap (λ b. is_among names n || b) (or_none (bytes_eq n name))
 
--- what stops names that are among others is one of these, so all that are added are
+-- what stops names that are among others is one of these, so all added names are
 pub all_within : (Done : List (List ℕ) → Type 0) (Stops : List (List ℕ) → List ℕ → Type 0) (others : List (List ℕ)) → ((names : List (List ℕ)) (name : List ℕ) → AreAmong names others → Stops names name → is_among others name ≡ true) → (names added : List (List ℕ)) → AreAmong names others → AreAdded Done Stops names added → AreAmong (names ++ added) others
 all_within Done Stops others each names [] among w = subst (λ l. AreAmong l others) (sym (append-nil names)) among
 all_within Done Stops others each names (n ∷ added) among w =
@@ -114,12 +114,12 @@ module _ (own : List (List ℕ)) (Done : List (List ℕ) → Type 0) (Stops : Li
   all_own names added among w =
       all_within Done Stops own (λ before name all stop. grow.has before name stop) names added among w
 
-  -- with all of them it is done
+  -- with all of them nothing stops them
   pub all_done : (names added : List (List ℕ)) → AreAdded Done Stops names added → Done (names ++ added)
   all_done names [] w = subst Done (sym (append-nil names)) w
   all_done names (n ∷ added) w = subst Done (moved names n added) (all_done (names ++ n ∷ []) added w.1)
 
-  -- each of them was met
+  -- each of them was added on the way
   pub all_met : (names added : List (List ℕ)) → AreAdded Done Stops names added → (name : List ℕ) → is_among (names ++ added) name ≡ true → is_among names name ≡ false → WasMet Stops names (names ++ added) name
   all_met names [] w name there lacks =
       absurd (true≢false (sym there ∙ ap (λ l. is_among l name) (append-nil names) ∙ lacks))
@@ -144,13 +144,13 @@ pub same_in_order : (branch : List Catch) (names : List (List ℕ)) → AreAmong
 same_in_order branch names own n =
     sym (among_kept (is_among names) (names_of branch) n ∙ ap (λ b. b && is_among names n) (among_once (map name_of branch) n) ∙ and_within (has_patch branch n) (is_among names n) (own n))
 
--- what stands in the order of a branch is there
+-- names in the order of a branch are names of the branch
 pub in_order_there : (branch : List Catch) (names : List (List ℕ)) → AreAmong (in_order branch names) (map name_of branch)
 in_order_there branch names n there =
     (and_parts (has_patch branch n) (is_among names n) (sym (among_kept (is_among names) (names_of branch) n ∙ ap (λ b. b && is_among names n) (among_once (map name_of branch) n)) ∙ there)).0
 
 module _ (branch : List Catch) (Done : List (List ℕ) → Type 0) (Stops : List (List ℕ) → List ℕ → Type 0) (grow : Grow (map name_of branch) Done Stops) where
-  -- names of a branch that have grown are done, and have grown by what was met
+  -- names of a branch that have grown are done, and each other one was added on the way
   pub grew : (names grown : List (List ℕ)) → AreAmong names (map name_of branch) → AreGrown branch Done Stops names grown → Done grown × GrewFrom Stops names grown
   grew names grown own w =
       let all = names ++ w.0 in

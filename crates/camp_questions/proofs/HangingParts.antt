@@ -1,4 +1,4 @@
--- What hangs on some patches is what arrows lead to from them, and from where arrows lead to them.
+-- The part of a graph that belongs to some patches: those reached from them along arrows, and those that reach them.
 use Rattle.camp_questions.proofs.Words.{or_none, ◌≡◌, ℕ, zero, suc, Bool, true, false, true≢false, ◌||◌, inl, inr, List, [], ◌∷◌, ◌++◌, map, map-append, append_assoc, bytes_eq, refl, sym, ap, ◌∙◌, subst, arith, Contains, list_any, or_true, Catch, is_among, is_among_is, names_of, same_name, AreDistinct, IsLawfulBranch, Drawn, IsGraph, Node, IsReached, itself, along, if◌then◌else◌, names_of_patches, has_image, false_from_ne_true, Contains-append_right, HangTogether, PartsAreReached, with_needing, with_needing_one, with_needs, map-map, node_of, each_among}
 use Rattle.camp_questions.proofs.BackwardArrows.{arrows_lead_backwards}
 use Rattle.camp_questions.proofs.Growths.{among_cases, among_first, among_parts, among_second}
@@ -7,7 +7,7 @@ use Rattle.camp_questions.proofs.ReachedNeeds.{reached_through}
 
 -- ---- names among others
 
--- one of the needs is among names
+-- one of the direct dependencies is among names
 any_of : (needs names : List (List ℕ)) (n : List ℕ) → is_among needs n ≡ true → is_among names n ≡ true → list_any (is_among names) needs ≡ true
 any_of [] names n need there = absurd (true≢false (sym need))
 any_of (m ∷ needs) names n need there = elim (among_cases m needs n need) [
@@ -15,7 +15,7 @@ any_of (m ∷ needs) names n need there = elim (among_cases m needs n need) [
   | inr e ↦ or_true (is_among names m) (list_any (is_among names) needs) (any_of needs names n e there)
 ]
 
--- of distinct names, none that stands at a place or behind it stands before it
+-- of distinct names, none at an index or after it also comes before it
 never_before : (front : List (List ℕ)) (x : List ℕ) (rest : List (List ℕ)) (y : List ℕ) (before between behind : List (List ℕ)) → AreDistinct (front ++ x ∷ rest) → is_among (x ∷ rest) y ≡ true → front ++ x ∷ rest ≡ before ++ y ∷ (between ++ x ∷ behind) → ⊥
 never_before [] x rest y [] between behind distinct there e =
     true≢false (sym (ap (λ l. is_among l x) (same_head e).1 ∙ among_second between (x ∷ behind) x (at_first x behind x refl)) ∙ distinct.0)
@@ -33,7 +33,7 @@ never_before (f ∷ front) x rest y (n ∷ before) between behind distinct there
 abbrev called : List Node → List (List ℕ)
 called nodes = map (λ (n : Node). n.name) nodes
 
--- no patch has an arrow to itself, or to one behind it
+-- no patch has an arrow to itself, or to a later one
 abbrev AreOrdered : List Node → Type 0
 AreOrdered [] = Unit {0}
 AreOrdered (p ∷ nodes) =
@@ -62,7 +62,7 @@ module _ (branch : List Catch) (graph : Drawn) (lawful : IsLawfulBranch branch) 
     ordered_from (front ++ p ∷ []) nodes (parts ∙ sym (append_assoc front (p ∷ []) nodes)),
   )
 
--- ---- a list with a few more behind it, or without
+-- ---- a list with a few more elements after it, or without
 
 more_kept : (b : Bool) (names more : List (List ℕ)) (n : List ℕ) → is_among names n ≡ true → is_among (if b then names ++ more else names) n ≡ true
 more_kept true names more n e = among_first names more n e
@@ -72,7 +72,7 @@ more_come : (b : Bool) (names more : List (List ℕ)) (n : List ℕ) → b ≡ t
 more_come true names more n is e = among_second names more n e
 more_come false names more n is e = absurd (true≢false (sym is))
 
--- what is none of the few was there before
+-- a name that is none of the few was there before
 more_apart : (b : Bool) (names more : List (List ℕ)) (n : List ℕ) → is_among more n ≡ false → is_among (if b then names ++ more else names) n ≡ true → is_among names n ≡ true
 more_apart true names more n lacks e = elim (among_parts names more n e) [
   | inl w ↦ w
@@ -80,7 +80,7 @@ more_apart true names more n lacks e = elim (among_parts names more n e) [
 ]
 more_apart false names more n lacks e = e
 
--- ---- what is needed
+-- ---- dependencies
 
 kept_needs : (nodes : List Node) (names : List (List ℕ)) (n : List ℕ) → is_among names n ≡ true → is_among (with_needs nodes names) n ≡ true
 kept_needs [] names n e = e
@@ -91,7 +91,7 @@ first_closed : (b : Bool) (names needs : List (List ℕ)) (name other : List ℕ
 first_closed true names needs name other e need there = among_second names needs other need
 first_closed false names needs name other e need there = absurd (true≢false (sym there ∙ e))
 
--- what a patch among them needs directly is among them
+-- the direct dependencies of a patch among them are among them
 needs_closed : (nodes : List Node) (names : List (List ℕ)) (n : Node) (other : List ℕ) → AreOrdered nodes → Contains nodes n → is_among n.needs other ≡ true → is_among (with_needs nodes names) n.name ≡ true → is_among (with_needs nodes names) other ≡ true
 needs_closed [] names n other ordered (k, within, same) need there = absurd (omega arith)
 needs_closed (p ∷ nodes) names n other ordered (zero, within, same) need there =
@@ -102,20 +102,20 @@ needs_closed (p ∷ nodes) names n other ordered (suc k, within, same) need ther
     let b = is_among before p.name in
     more_kept b before p.needs other (needs_closed nodes names n other ordered.1 (k, (omega arith), same) need (more_apart b before p.needs n.name (ordered.0 n (suc k, within, same)) there))
 
--- ---- what needs
+-- ---- dependents
 
 kept_needing : (nodes : List Node) (names : List (List ℕ)) (n : List ℕ) → is_among names n ≡ true → is_among (with_needing nodes names) n ≡ true
 kept_needing [] names n e = e
 kept_needing (p ∷ nodes) names n e =
     kept_needing nodes (with_needing_one names p) n (more_kept (list_any (is_among names) p.needs) names (p.name ∷ []) n e)
 
--- what is no patch of the list was there before
+-- a name that is no patch of the list was there before
 own_needing : (nodes : List Node) (names : List (List ℕ)) (n : List ℕ) → ((q : Node) → Contains nodes q → bytes_eq n q.name ≡ false) → is_among (with_needing nodes names) n ≡ true → is_among names n ≡ true
 own_needing [] names n none e = e
 own_needing (p ∷ nodes) names n none e =
     more_apart (list_any (is_among names) p.needs) names (p.name ∷ []) n (ap (λ b. b || false) (none p (zero, (omega arith), refl))) (own_needing nodes (with_needing_one names p) n (λ q there. none q (next_of p nodes q there)) e)
 
--- a patch that needs one among them directly is among them
+-- a patch that depends directly on one among them is among them
 needing_closed : (nodes : List Node) (names : List (List ℕ)) (n : Node) (other : List ℕ) → AreOrdered nodes → Contains nodes n → is_among n.needs other ≡ true → is_among (with_needing nodes names) other ≡ true → is_among (with_needing nodes names) n.name ≡ true
 needing_closed [] names n other ordered (k, within, same) need there = absurd (omega arith)
 needing_closed (p ∷ nodes) names n other ordered (zero, within, same) need there =
@@ -126,14 +126,14 @@ needing_closed (p ∷ nodes) names n other ordered (zero, within, same) need the
 needing_closed (p ∷ nodes) names n other ordered (suc k, within, same) need there =
     needing_closed nodes (with_needing_one names p) n other ordered.1 (k, (omega arith), same) need there
 
--- ---- what is reached
+-- ---- reached patches
 
 module _ (graph : Drawn) where
   -- some patches of the graph
   abbrev AreThere : List Node → Type 0
   AreThere nodes = (node : Node) → Contains nodes node → Contains graph.patches node
 
-  -- reached from one of some names, and from where one of them is reached
+  -- reached from one of some names, or one of them is reached from it
   abbrev From : List (List ℕ) → List ℕ → Type 0
   From names other = (name : List ℕ) × (is_among names name ≡ true) × IsReached graph name other
 

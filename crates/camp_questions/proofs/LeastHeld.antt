@@ -1,10 +1,11 @@
--- What names hold is the least that can go, where all catches are plain and have room; and what a patch needs is what holds it.
+-- The dependents of names are the least list that can be taken out, if all catches are plain and have headroom; and a
+-- patch depends on another exactly if it is its dependent.
 use Rattle.camp_questions.proofs.Words.{◌≡◌, ℕ, true, false, true≢false, not, ◌&&◌, ◌||◌, List, [], ◌∷◌, ◌++◌, map, Ok, Err, refl, sym, ap, ◌∙◌, subst, inl, inr, Contains, ArrangeSticks, Key, Catch, has_patch, is_among, name_of, name_itself, is_among_is, among_others, other_names, AreHeldIn, CanGo, ComeToFront, HeldBy, Needs, StickOn, AreAmong, IsPlain, false_from_ne_true, true_from_ne_false, HeldIsLeast, NeedsAndHeldAreOne, Depends, both_ways}
 use Rattle.camp_questions.proofs.PlainGoing.{what_comes_never_sticks}
 use Rattle.camp_questions.proofs.BranchGrowths.{apart_outcomes, same_patch, stays, to_front, to_go, in_order_among, needs_are_least}
 use Rattle.camp_questions.proofs.Growths.{alone_among, all_within, grew, in_order_there}
 
--- where names can go, the others come to the front, and back
+-- names can be taken out exactly if the others can be moved to the front
 pub others_come : (branch : List Catch) (names : List (List ℕ)) → CanGo branch names → ComeToFront branch (other_names branch names)
 others_come branch names can = elim can.1 [
   | inl w ↦ (w.0, w.1, w.2)
@@ -14,7 +15,7 @@ others_come branch names can = elim can.1 [
 pub can_go : (branch : List Catch) (names : List (List ℕ)) → ComeToFront branch (other_names branch names) → CanGo branch names
 can_go branch names come = (come.0, inl (come.0, come.1, come.2, refl))
 
--- where names are held, the others stick
+-- if another patch depends on names, the others are blocked
 others_stick : (branch : List Catch) (names : List (List ℕ)) (name : List ℕ) → AreHeldIn branch names name → (patch : Key) × (on : Key) × ArrangeSticks (other_names branch names) branch patch on × (name ≡ patch.name)
 others_stick branch names name held = elim held.1 [
   | inl w ↦ apart_outcomes w.0 name held.0 (Err (Depends name held.0)) w.3 refl
@@ -30,7 +31,7 @@ module _ (branch : List Catch) where
       let parts = stays branch others n ((is_among_is (other_names branch others) n).0 c) in
       (is_among_is (other_names branch names) n).1 (stays_by names n parts.0 (false_from_ne_true (is_among names n) (λ e. true≢false (sym (among n e) ∙ parts.1))))
 
-  -- what names hold is among all that can go and have them
+  -- the dependents of names are in each list that contains the names and can be taken out
   pub held_within : (others : List (List ℕ)) → IsPlain branch → CanGo branch others → (names : List (List ℕ)) (name : List ℕ) → AreAmong names others → AreHeldIn branch names name → is_among others name ≡ true
   held_within others plain can names name among held =
       let come = subst (λ l. ComeToFront l (other_names branch others)) plain.are (others_come branch others can) in
@@ -66,7 +67,7 @@ module _ (branch : List Catch) (plain : IsPlain branch) (x y : List ℕ) (has_x 
       let there = needs_are_least branch (y ∷ []) needed others plain needs among (others_come branch held went.0) x e in
       true≢false (sym went.1 ∙ (stays branch held x there).1))
 
-  -- what is not among the others is needed
+  -- a name that is not among the others is a dependency
   back_again : (n : List ℕ) → is_among needed n ≡ is_among (other_names branch (other_names branch needed)) n
   back_again n =
       let others = other_names branch needed in

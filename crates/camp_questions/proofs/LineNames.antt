@@ -1,23 +1,23 @@
--- As many names are known on the way as the file has lines.
+-- Along the effects of a branch there are as many names as the file has lines.
 use Rattle.camp_questions.proofs.Words.{◌≡◌, ◌≢◌, ◌<◌, ◌≤◌, ℕ, ◌+◌, ◌-◌, ◌==◌, Bool, true, false, true≢false, List, [], ◌∷◌, ◌++◌, Option, None, Some, length, take, drop, get_or, bytes_eq, refl, sym, ap, ◌∙◌, subst, arith, empty, get, get-empty, slice_range, splice, nat_cmp, eq_by_cmp, slice_cmp, bytes_eq-Decides, Edit, key_of, label_of, Key, Named, Primitive, Add, Remove, Hunk, Catch, name_of, Known, behind_all, behind_catches, behind_change, behind_hunk, names_coming, names_of_lines, nothing_known, AppliesOn, AreKnownIn, FollowsOn, StandsWithin, lines_or_none, drop_more, length-append, length-drop, length-take-le, eqb-true, Applies, Files, Lines, Splices, FitsAll, effect_of, AppliesAll, own_names, cond_both, cond, key_cmp, find, get-from_entries, get-insert, insert, same_map, key_ties, key_total, kept_in, get-with_file, get-with_file_other, get-with_file_same, same_path, with_file, Equal-is, eq_by_cmp_equiv}
 use Rattle.camp_questions.proofs.CommonSteps.{own_count}
 use Rattle.std.specs.BTreeMap as tree
 use Rattle.std.specs.BTreeMap.{BTreeMap, is_at}
 use Rattle.std.specs.Map.{lookup}
 
--- as many names come as lines do
+-- as many names as new lines are added
 pub as_many : (taken : Option (List (List ℕ))) (own : List (List ℕ)) (count : ℕ) → length own ≡ count → length (names_coming taken own count) ≡ count
 as_many None own count long = long
 as_many (Some taken) own count long = cond_both (length taken == count) taken own (λ l. length l ≡ count) (λ e. eqb-true (length taken) count e) (λ e. long)
 
--- as many lines go as a hunk has old ones
+-- as many lines are removed as a hunk has old ones
 pub gone_count : (hunk : Edit) (known : Known) → StandsWithin hunk known → length (slice_range known.names (hunk.line - 1) (hunk.line - 1 + length hunk.old)) ≡ length hunk.old
 gone_count hunk known within =
     let from : ℕ = hunk.line - 1 in
     let dropped = length-drop from known.names in
     length-take-le (from + length hunk.old - from) (drop from known.names) (omega (arith, within, dropped)) ∙ omega arith
 
--- and as many come as it has new ones
+-- and as many are added as it has new ones
 pub coming_count : (name : List ℕ) (key : Key) (hunk : Edit) (known : Known) → StandsWithin hunk known
     → length (names_coming (get known.taken key) (own_names (slice_range known.names (hunk.line - 1) (hunk.line - 1 + length hunk.old)) name hunk) (length hunk.new)) ≡ length hunk.new
 coming_count name key hunk known within =
@@ -28,14 +28,14 @@ spliced_count : (names coming : List (List ℕ)) (from to : ℕ) → from ≤ le
 spliced_count names coming from to within =
     length-append (take from names) (coming ++ drop to names) ∙ (λ i. length-take-le from names within i + (length-append coming (drop to names) ∙ ap (λ n. length coming + n) (length-drop to names)) i)
 
--- what has no line at a path before and after has as many lines at each
+-- a path without a file before and after has no lines at either
 pub alike : (m : Files) (q path : List ℕ) (x : Option Lines) → lines_or_none x ≡ lines_or_none (get m q) → lines_or_none (get (with_file m q x) path) ≡ lines_or_none (get m path)
 alike m q path x same = ap lines_or_none (get-with_file m q x path) ∙ cond_both (eq_by_cmp (slice_cmp nat_cmp) path q) x (get m path) (λ o. lines_or_none o ≡ lines_or_none (get m path)) (λ e. same ∙ ap (λ p. lines_or_none (get m p)) (sym (same_path path q e))) (λ e. refl)
 
 pub other_path : (a b : List ℕ) → bytes_eq a b ≡ false → a ≢ b
 other_path a b e same = true≢false (sym ((bytes_eq-Decides a b).1 same) ∙ e)
 
--- a hunk takes lines away that are there
+-- a hunk removes lines that are there
 pub stands_within : (path : List ℕ) (hunk : Edit) (old new : Files) (known : Known) → hunk.path ≡ path → Splices hunk.path hunk.line hunk.old hunk.new old new → AreKnownIn path old known → StandsWithin hunk known
 stands_within path hunk old new known same w are =
     let found : length known.names ≡ length w.lines = are ∙ ap (λ p. length (lines_or_none (get old p))) (sym same) ∙ ap (λ o. length (lines_or_none o)) w.found in
@@ -60,7 +60,7 @@ hunk_counts path name key hunk old new known same w are =
     let here : length (splice known.names from to coming) ≡ length w.changed = omega (arith, found, parts, becomes, many, counted, s.at) in
     here ∙ ap (λ o. length (lines_or_none o)) (sym now)
 
--- behind a change there are as many names as lines
+-- after a change there are as many names as lines
 pub change_counts : (path name : List ℕ) (key : Key) (p : Primitive) (old new : Files) (known : Known) → Applies p old new → AreKnownIn path old known → AreKnownIn path new (behind_change path name key p known)
 change_counts path name key (Add q) old new known w are =
     are ∙ ap length (sym (ap (λ t. lines_or_none (get t path)) w.becomes ∙ alike old q path (Some []) (ap lines_or_none (sym w.absent))))
@@ -71,14 +71,14 @@ change_counts path name key (Hunk hunk) old new known w are =
     (λ e. hunk_counts path name key hunk old new known ((bytes_eq-Decides hunk.path path).0 e) w are)
     (λ e. are ∙ ap (λ o. length (lines_or_none o)) (sym (ap (λ t. get t path) w.becomes ∙ get-with_file_other old hunk.path path (Some w.changed) (other_path hunk.path path e))))
 
--- behind an effect there are
+-- after an effect there are as many names as lines
 pub effect_counts : (path name : List ℕ) (s : List Named) (old new : Files) (known : Known) → AppliesAll s old new → AreKnownIn path old known → AreKnownIn path new (behind_all path name s known)
 effect_counts path name [] old new known w are = subst (λ t. AreKnownIn path t known) (sym w) are
 effect_counts path name (p ∷ s) old new known w are =
     effect_counts path name s w.0 new (behind_change path name (key_of (label_of p)) p.prim known) w.2
     (change_counts path name (key_of (label_of p)) p.prim old w.0 known w.1 are)
 
--- on a walk along an effect: what is left of it leads to the same, and applies
+-- a state between primitives: the rest of the effect leads to the same tree, and applies
 pub record IsOnTheWay (path name : List ℕ) (start : Known) (effect rest : List Named) (known : Known) : Type 0 where
   pub leads : behind_all path name rest known ≡ behind_all path name effect start
   pub follows : FollowsOn path rest known
@@ -106,14 +106,14 @@ hunk_stands path p hunk known b is applies same true_b =
     let w = subst (λ q. AppliesOn path q known) is applies in
     stands_within path hunk w.0 w.1 known ((bytes_eq-Decides hunk.path path).0 (sym same ∙ true_b)) w.2 w.3
 
--- behind catches there are as many names as lines
+-- after catches there are as many names as lines
 pub catches_count : (path : List ℕ) (branch : List Catch) (old new : Files) (known : Known) → FitsAll branch old new → AreKnownIn path old known → AreKnownIn path new (behind_catches path branch known)
 catches_count path [] old new known w are = subst (λ t. AreKnownIn path t known) (sym w) are
 catches_count path (k ∷ branch) old new known w are =
     catches_count path branch w.0 new (behind_all path (name_of k) (effect_of k) known) w.2
     (effect_counts path (name_of k) (effect_of k) old w.0 known w.1.effect are)
 
--- on a walk along catches: what is left of them leads to the same, and fits
+-- a state between catches: the rest of them leads to the same tree, and fits
 pub record IsAlong (path : List ℕ) (catches rest : List Catch) (known : Known) : Type 0 where
   pub leads : behind_catches path rest known ≡ behind_catches path catches nothing_known
   pub tree : Files
@@ -147,9 +147,9 @@ pub ends_along : (path : List ℕ) (catches rest : List Catch) (known : Known) �
 ends_along path catches rest known done along =
     ap (λ (k : Known). k.names) (sym (ap (λ r. behind_catches path r known) done) ∙ along.leads)
 
--- ---- the names that are kept under the absolute labels of hunks, as a finite map
+-- ---- the names stored under the absolute labels of hunks, as a finite map
 
--- labels that compare as equal are one
+-- labels that compare as equal are equal
 pub same_key : (a b : Key) → eq_by_cmp key_cmp a b ≡ true → a ≡ b
 same_key a b e = key_ties a b ((Equal-is (key_cmp a b)).0 e)
 
@@ -158,11 +158,11 @@ listed_under [] key = refl
 listed_under (e ∷ entries) key =
     ap (cond (eq_by_cmp key_cmp key e.0) (Some e.1)) (listed_under entries key)
 
--- what is known to be kept under a label is what is kept there
+-- the stored names of a label are those found in the map
 pub found_under : (taken : BTreeMap Key (List (List ℕ))) (key : Key) → get (kept_in taken) key ≡ tree.get key_cmp taken key
 found_under taken key = get-from_entries key_total taken.entries key ∙ listed_under taken.entries key
 
--- names are kept under one label
+-- names are stored under one label
 pub kept_then : (taken next : BTreeMap Key (List (List ℕ))) (key : Key) (names : List (List ℕ)) → ((q : Key) → tree.get key_cmp next q ≡ cond (is_at (key_cmp key) q) (Some names) (tree.get key_cmp taken q)) → kept_in next ≡ insert (kept_in taken) key names
 kept_then taken next key names updates =
     same_map key_total key_ties (kept_in next) (insert (kept_in taken) key names)

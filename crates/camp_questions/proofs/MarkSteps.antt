@@ -1,4 +1,4 @@
--- What patches in open conflicts would make of a file, one patch after the other.
+-- The versions that patches in unresolved conflicts would make of a file, one patch after the other.
 use Rattle.camp_questions.proofs.Words.{flat_map, is_among, ◌≡◌, ◌<◌, ℕ, ◌+◌, true, false, cond, ◌||◌, List, [], ◌∷◌, ◌++◌, Option, None, Some, append_assoc, bytes_eq, get_or, length, refl, sym, ap, ◌∙◌, subst, take, take_more, Files, Lines, pointwise, ContextedPatches, AreVersions, Makes, is_in_pair, with_made, Version, or_assoc}
 
 with_made_first : (lines : Lines) (name : List ℕ) (made : Option Lines) (versions : List Version) → with_made lines name made versions ≡ with_made lines name made [] ++ versions
@@ -22,7 +22,7 @@ one_more_version seen tree path lines (other ∷ names) name made versions (firs
       ap (λ v. v ++ more) (is ∙ with_made_first lines other first others) ∙ append_assoc (with_made lines other first []) others more ∙ sym (with_made_first lines other first (others ++ more)),
     )
 
--- the name at a place
+-- the name at an index
 pub next_version : (seen : ContextedPatches) (tree : Files) (path : List ℕ) (lines : Lines) (names : List (List ℕ)) (i : ℕ) (name d : List ℕ) (made : Option Lines) (versions next : List Version) → i < length names → name ≡ get_or names i d → AreVersions seen tree path lines (take i names) versions
     → Makes seen tree path name made → next ≡ versions ++ with_made lines name made [] → AreVersions seen tree path lines (take (i + 1) names) next
 next_version seen tree path lines names i name d made versions next within is are makes becomes =

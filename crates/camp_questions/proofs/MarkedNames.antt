@@ -1,7 +1,7 @@
--- Names that are marked by their places.
+-- Names that are marked by their index.
 use Rattle.camp_questions.proofs.Words.{◌≡◌, ◌<◌, ◌≤◌, ℕ, zero, suc, ◌+◌, Bool, true, false, true≢false, ◌||◌, List, [], ◌∷◌, length, get_or, take, replicate, bytes_eq, refl, sym, ap, ◌∙◌, arith, is_among, is_among_is, name_itself, or_none, or_parts, or_true, same_name, AreDistinct, set, false_from_ne_true, or_from, Contains-get_or, AreMarkedBelow, marked, is_marked, marked_in_both, other_way}
 
--- what is marked is among the names
+-- a marked name is among the names
 pub marked_within : (names : List (List ℕ)) (marks : List Bool) (n : List ℕ) → is_among names n ≡ false → is_among (marked names marks) n ≡ false
 marked_within [] marks n lacks = refl
 marked_within (name ∷ names) [] n lacks = refl
@@ -14,7 +14,7 @@ marked_within (name ∷ names) (false ∷ marks) n lacks =
 pub there : (names : List (List ℕ)) (k : ℕ) (n : List ℕ) → k < length names → is_among names (get_or names k n) ≡ true
 there names k n within = (is_among_is names (get_or names k n)).0 (Contains-get_or names k n within)
 
--- no two places have one name
+-- no two indexes have the same name
 pub apart_places : (names : List (List ℕ)) (j k : ℕ) (n : List ℕ) → AreDistinct names → j < k → k < length names → bytes_eq (get_or names j n) (get_or names k n) ≡ false
 apart_places [] j k n distinct less within = absurd (omega (arith, within))
 apart_places (name ∷ names) j zero n distinct less within = absurd (omega (arith, less))
@@ -23,7 +23,7 @@ apart_places (name ∷ names) zero (suc k) n distinct less within =
 apart_places (name ∷ names) (suc j) (suc k) n distinct less within =
     apart_places names j k n distinct.1 (omega (arith, less)) (omega (arith, within))
 
--- the name at a place is marked exactly where the place is
+-- the name at an index is marked exactly if the index is
 pub among_marked : (names : List (List ℕ)) (marks : List Bool) (k : ℕ) (n : List ℕ) → AreDistinct names → k < length names → is_among (marked names marks) (get_or names k n) ≡ is_marked marks k
 among_marked [] marks k n distinct within = absurd (omega (arith, within))
 among_marked (name ∷ names) [] k n distinct within = refl
@@ -36,7 +36,7 @@ among_marked (name ∷ names) (true ∷ marks) (suc k) n distinct within =
 among_marked (name ∷ names) (false ∷ marks) (suc k) n distinct within =
     among_marked names marks k n distinct.1 (omega (arith, within))
 
--- marks of both
+-- the marks of both lists
 pub mark_in_both : (marks more : List Bool) (k : ℕ) → length more ≤ length marks → is_marked (marked_in_both marks more) k ≡ (is_marked marks k || is_marked more k)
 mark_in_both [] [] k within = refl
 mark_in_both [] (other ∷ more) k within = absurd (omega (arith, within))
@@ -71,7 +71,7 @@ none_marked : (names : List (List ℕ)) → marked names [] ≡ []
 none_marked [] = refl
 none_marked (name ∷ names) = refl
 
--- one place alone is marked
+-- a single index is marked
 pub one_marked : (names : List (List ℕ)) (k : ℕ) (n : List ℕ) → k < length names → marked names (set (replicate (k + 1) false) k true) ≡ get_or names k n ∷ []
 one_marked [] k n within = absurd (omega (arith, within))
 one_marked (name ∷ names) zero n within = ap (λ l. name ∷ l) (none_marked names)
@@ -84,7 +84,7 @@ none_yet [] more = refl
 none_yet (mark ∷ marks) [] = refl
 none_yet (mark ∷ marks) (other ∷ more) = refl
 
--- one more mark of the other list joins
+-- one more mark of the other list is added
 pub one_joins : (marks more : List Bool) (i : ℕ) → length more ≤ length marks → i < length more → get_or more i false ≡ true → set (marked_in_both marks (take i more)) i true ≡ marked_in_both marks (take (i + 1) more)
 one_joins marks [] i within inside e = absurd (omega (arith, inside))
 one_joins [] (other ∷ more) i within inside e = absurd (omega (arith, within))
@@ -93,7 +93,7 @@ one_joins (mark ∷ marks) (other ∷ more) (suc i) within inside e =
     let next : suc (i + 1) ≡ suc i + 1 = omega arith in
     (λ k. (mark || other) ∷ one_joins marks more i (omega (arith, within)) (omega (arith, inside)) e k) ∙ ap (λ m. marked_in_both (mark ∷ marks) (take m (other ∷ more))) next
 
--- a place that is not marked in the other list stays as it is
+-- an index that is not marked in the other list stays as it is
 pub none_joins : (marks more : List Bool) (i : ℕ) → length more ≤ length marks → i < length more → get_or more i false ≡ false → marked_in_both marks (take i more) ≡ marked_in_both marks (take (i + 1) more)
 none_joins marks [] i within inside e = absurd (omega (arith, inside))
 none_joins [] (other ∷ more) i within inside e = absurd (omega (arith, within))
@@ -102,6 +102,6 @@ none_joins (mark ∷ marks) (other ∷ more) (suc i) within inside e =
     let next : suc (i + 1) ≡ suc i + 1 = omega arith in
     (λ k. (mark || other) ∷ none_joins marks more i (omega (arith, within)) (omega (arith, inside)) e k) ∙ ap (λ m. marked_in_both (mark ∷ marks) (take m (other ∷ more))) next
 
--- what is marked stays so
+-- a marked index stays marked
 pub marked_still : (marks more : List Bool) (place : ℕ) → length more ≤ length marks → AreMarkedBelow marks place → AreMarkedBelow (marked_in_both marks more) place
 marked_still marks more place within below r less = mark_in_both marks more r within ∙ ap (λ b. b || is_marked more r) (below r less)

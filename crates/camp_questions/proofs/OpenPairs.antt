@@ -1,10 +1,10 @@
--- The open conflicts of a branch: which they are.
+-- The unresolved conflicts of a branch.
 use Rattle.camp_questions.proofs.Words.{◌≡◌, ◌≤◌, ℕ, suc, ◌+◌, Bool, true, false, cond, List, [], ◌∷◌, ◌++◌, append-nil, map, filter, filter-append, take, Some, refl, sym, ap, ◌∙◌, subst, arith, map-append, Contains, flat_map, get, keys, name_of, Catch, Key, key_cmp, key_total, take_all, entries, entries_sorted, get-entries, len, slice_get, member_name, has_image, IsInOrder, Pair, no_member, Plain, found_at, take_push, count_of_members, members_of, AreKeyed, ContextedPatch, ContextedPatches, context_key, AreOpenAmong, OpensWith, is_open, is_image, key_is_listed, listed_has_member, listed_joined, pair_of, open_against, open_in, open_with, open_within}
 use Rattle.camp_questions.proofs.KeptElements.{is_kept, kept_has}
 use Rattle.camp_branch.proofs.Words.{flat_map_more}
 
 module _ (seen : ContextedPatches) where
-  -- those that a catch names are in an open conflict with it
+  -- the patches that a catch names are in an unresolved conflict with it
   against_at : (xs : ContextedPatches) (identity : ContextedPatch) (name : List ℕ) (b : Bool) → is_open seen (context_key identity) ≡ b → Contains (cond b (open_within seen xs) []) name
       → (is_open seen (context_key identity) ≡ true) × ((key : Key) × (x : ContextedPatch) × (get xs key ≡ Some x) × (key.name ≡ name) × (is_open seen key ≡ true))
   against_at xs identity name false is c = no_member name c
@@ -20,7 +20,7 @@ module _ (seen : ContextedPatches) where
       let w = against_at k.conflicts k.identity name (is_open seen (context_key k.identity)) refl c in
       (refl, w.0, w.1)
 
-  -- and all others that are in one are named
+  -- all other patches in one are named by another catch
   is_against : (k : Catch) (first second : List ℕ) → OpensWith seen first second k → (name_of k ≡ first) × Contains (open_against seen k) second
   is_against (Plain a) first second w = absurd w
   is_against (Catch.Conflictor k) first second (is, own, (key, x, there, called, free)) =
@@ -35,7 +35,7 @@ module _ (seen : ContextedPatches) where
     listed = listed_joined (open_against seen) (OpensWith seen) against is_against branch pairs all;
   }
 
-  -- whether the label of a member is open
+  -- whether the label of a member is unresolved
   abbrev pub opens : ContextedPatch → Bool
   opens x = is_open seen (context_key x)
 

@@ -1,4 +1,4 @@
--- Lists of catches that are arranged part by part.
+-- Arranging lists of catches part by part.
 use Rattle.camp_questions.proofs.Words.{◌≡◌, ◌<◌, ℕ, ◌+◌, ◌-◌, true≢false, false, ◌||◌, arith, get_or, length, take, take_more, List, [], ◌∷◌, ◌++◌, bytes_eq, append-nil, append_assoc, refl, sym, ap, ◌∙◌, subst, inl, inr, AllByRecursion, Key, Catch, AreAlike, Arrange, ArrangeSticks, ArrangesBehind, SticksBehind, StopsAt, is_among, is_among_is, name_of, take_all, DoNotCommute, IsOf, catch_key, KeysPart, keys_of, keep_labels, arrange_by_members, AreApart, AreOfPatch, AllStay, StickBehind, Result, Ok, Err}
 use Rattle.std.specs.Result.{MatchResult}
 use Rattle.camp_catch.specs.Making.{ComesTo}
@@ -10,7 +10,7 @@ use Rattle.camp_questions.proofs.BranchGrowths.{contains_alike}
 use Rattle.camp_questions.proofs.PatchFronts.{AreNotOf, all_are, all_images, at_first}
 
 module _ (names : List (List ℕ)) where
-  -- what is arranged, and then what is behind it, is arranged together
+  -- a list arranged, followed by more catches arranged after it, is arranged as a whole
   pub arranged_further : (rest list more first others front behind : List Catch) → ArrangesBehind names rest list first others → ArrangesBehind names others more front behind → ArrangesBehind names rest (list ++ more) (first ++ front) behind
   arranged_further rest [] more first others front behind w v =
       subst (λ r. ArrangesBehind names r more (first ++ front) behind) w.1 (subst (λ f. ArrangesBehind names others more (f ++ front) behind) (sym w.0) v)
@@ -20,7 +20,7 @@ module _ (names : List (List ℕ)) where
   arranged_further rest (k ∷ list) more first others front behind (inr w) v =
       inr (w.0, arranged_further (rest ++ k ∷ []) list more first others front behind w.1 v)
 
-  -- what sticks behind what is arranged sticks in the whole
+  -- what is blocked after an arranged list is blocked in the whole
   pub sticks_further : (rest list more first others : List Catch) (patch on : Key) → ArrangesBehind names rest list first others → SticksBehind names others more patch on → SticksBehind names rest (list ++ more) patch on
   sticks_further rest [] more first others patch on w stuck =
       subst (λ r. SticksBehind names r more patch on) w.1 stuck
@@ -30,7 +30,7 @@ module _ (names : List (List ℕ)) where
   sticks_further rest (k ∷ list) more first others patch on (inr w) stuck =
       inr (inr (w.0, sticks_further (rest ++ k ∷ []) list more first others patch on w.1 stuck))
 
-  -- what sticks does so whatever is behind it
+  -- what is blocked stays blocked with more catches after it
   pub still_sticks : (rest list more : List Catch) (patch on : Key) → SticksBehind names rest list patch on → SticksBehind names rest (list ++ more) patch on
   still_sticks rest [] more patch on w = absurd w
   still_sticks rest (k ∷ list) more patch on (inl w) = inl w
@@ -40,7 +40,7 @@ module _ (names : List (List ℕ)) where
   still_sticks rest (k ∷ list) more patch on (inr (inr w)) =
       inr (inr (w.0, still_sticks (rest ++ k ∷ []) list more patch on w.1))
 
--- of some catches, two lists have the same names
+-- two lists of some catches have the same names
 abbrev pub AgreeOn : List (List ℕ) → List (List ℕ) → List Catch → Type 0
 AgreeOn names others list =
     AllByRecursion (λ k. is_among names (name_of k) ≡ is_among others (name_of k)) list
@@ -53,7 +53,7 @@ module _ (names others : List (List ℕ)) where
   still_not k same never of =
       never ((is_among_is names (name_of k)).1 (same ∙ (is_among_is others (name_of k)).0 of))
 
-  -- what is arranged goes by which of its catches are of the names
+  -- arranging depends only on which of the catches are of the names
   pub arranged_alike : (rest list first behind : List Catch) → AgreeOn names others list → ArrangesBehind names rest list first behind → ArrangesBehind others rest list first behind
   arranged_alike rest [] first behind same w = w
   arranged_alike rest (k ∷ list) first behind same (inl w) =
@@ -75,7 +75,7 @@ module _ (names others : List (List ℕ)) where
 pub of_its_name : (name : List ℕ) (k : Catch) → name_of k ≡ name → IsOf (name ∷ []) k
 of_its_name name k is = (is_among_is (name ∷ []) (name_of k)).1 (at_first name [] (name_of k) is)
 
--- what sticks of one patch is of its name
+-- the blocked catches of one patch are of its name
 pub stuck_name : (name : List ℕ) (rest list : List Catch) (patch on : Key) → AreOfPatch name list → SticksBehind (name ∷ []) rest list patch on → patch.name ≡ name
 stuck_name name rest [] patch on own w = absurd w
 stuck_name name rest (k ∷ list) patch on own (inl w) = ap (λ (key : Key). key.name) w.2 ∙ own.0
@@ -84,7 +84,7 @@ stuck_name name rest (k ∷ list) patch on own (inr (inl w)) =
 stuck_name name rest (k ∷ list) patch on own (inr (inr w)) =
     stuck_name name (rest ++ k ∷ []) list patch on own.1 w.1
 
--- catches that stay as they are come before what stays too
+-- catches that stay unchanged are moved in front of others that stay unchanged
 pub all_came : (name : List ℕ) (going list : List Catch) → AreOfPatch name list → AllStay going list → ArrangesBehind (name ∷ []) going list list going
 all_came name going [] own stay = (refl, refl)
 all_came name going (k ∷ list) own stay =
@@ -94,7 +94,7 @@ stopped_by_last : (going : List Catch) (j k : Catch) → DoNotCommute j k → St
 stopped_by_last [] j k never = inr (k, [], (refl, refl), never, refl)
 stopped_by_last (g ∷ going) j k never = inl (stopped_by_last going j k never)
 
--- where the last of what goes does not commute with the first catch of a patch, the patch sticks
+-- if the last of the catches that go does not commute with the first catch of a patch, the patch is blocked
 pub first_stuck : (name : List ℕ) (going list : List Catch) (j k dj dk : Catch) → 0 < length going → 0 < length list → j ≡ get_or going (length going - 1) dj → k ≡ get_or list 0 dk → AreOfPatch name list → DoNotCommute j k → StickBehind name going list
 first_stuck name going [] j k dj dk some more is first own never = absurd (omega (arith, more))
 first_stuck name going (q ∷ list) j k dj dk some more is first own never =
@@ -103,12 +103,12 @@ first_stuck name going (q ∷ list) j k dj dk some more is first own never =
     let stops = stopped_by_last (take n going) j q (subst (DoNotCommute j) first never) in
     (catch_key q, catch_key j, inl (of_its_name name q own.0, subst (λ l. StopsAt l q (catch_key j)) (sym whole) stops, refl))
 
--- none of some catches is of the patch alone
+-- none of some catches is of the patch
 others_of_it : (name : List ℕ) (list : List Catch) → AreApart name list → AreNotOf (name ∷ []) list
 others_of_it name list apart = all_are (λ k other. ap (λ b. b || false) other) list apart
 
 module _ (names : List (List ℕ)) where
-  -- others at the front of a list stay where they are
+  -- catches at the front of a list that are of other names stay where they are
   others_first : (rest going list first left : List Catch) → AreNotOf names going → ArrangesBehind names rest (going ++ list) first left → ArrangesBehind names (rest ++ going) list first left
   others_first rest [] list first left are w =
       subst (λ r. ArrangesBehind names r list first left) (sym (append-nil rest)) w
@@ -127,7 +127,7 @@ module _ (names : List (List ℕ)) where
   stuck_behind rest (k ∷ going) list patch on are (inr (inr w)) =
       subst (λ r. SticksBehind names r list patch on) (append_assoc rest (k ∷ []) going) (stuck_behind (rest ++ k ∷ []) going list patch on are.1 w.1)
 
--- where the catches of a patch are arranged behind those that go, it comes before these, or it sticks
+-- if the catches of a patch are arranged after those that go, the patch is moved in front of these, or blocked
 pub arranged_or_stuck : (name : List ℕ) (set : List (List ℕ)) (going list whole : List Catch) (made : Result Arranged (Unmade Stuck)) → AreAlike set (name ∷ []) → AreApart name going → whole ≡ going ++ list
     → ComesTo (λ answer. MatchResult answer (λ arranged. Arrange set whole arranged.first.items arranged.rest.items) (λ stuck. ArrangeSticks set whole stuck.patch stuck.on)) made
     → ComesTo (λ answer. MatchResult answer (λ arranged. ArrangesBehind (name ∷ []) going list arranged.first.items arranged.rest.items) (λ stuck. SticksBehind (name ∷ []) going list stuck.patch stuck.on)) made
@@ -139,7 +139,7 @@ arranged_or_stuck name set going list whole (Err (Blocked stuck)) alike apart is
     stuck_behind (name ∷ []) [] going list stuck.patch stuck.on (others_of_it name going apart) (arrange_by_members.sticks set (name ∷ []) (contains_alike set (name ∷ []) alike) (going ++ list) stuck.patch stuck.on (subst (λ l. ArrangeSticks set l stuck.patch stuck.on) is w))
 arranged_or_stuck name set going list whole (Err Memory) alike apart is w = tt
 
--- what holds of all keys of a list holds of those behind what is arranged
+-- a fact about all keys of a list holds of those left after arranging
 keys_kept : (P : Key → Type 0) (names : List (List ℕ)) (keys first rest : List Key) → KeysPart names keys first rest → AllByRecursion P keys → AllByRecursion P rest
 keys_kept P names [] first rest w all = subst (AllByRecursion P) (sym w.1) tt
 keys_kept P names (key ∷ keys) first rest (inl w) all = keys_kept P names keys w.1.0 rest w.1.1 all.1
@@ -150,7 +150,7 @@ of_all_keys : (P : Key → Type 0) (list : List Catch) → AllByRecursion P (key
 of_all_keys P [] all = tt
 of_all_keys P (k ∷ list) all = (all.0, of_all_keys P list all.1)
 
--- what is left behind catches of other patches is of other patches
+-- the catches left after those of other patches are of other patches
 pub left_apart : (name : List ℕ) (names : List (List ℕ)) (list first left : List Catch) → Arrange names list first left → AreApart name list → AreApart name left
 left_apart name names list first left w apart =
     let other : Key → Type 0 = λ key. bytes_eq key.name name ≡ false in

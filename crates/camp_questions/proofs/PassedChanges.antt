@@ -1,14 +1,14 @@
--- Labels that changes pass by, as they are or on their way to another line.
+-- Labels that commute past changes, unchanged or moving to another line.
 use Rattle.camp_questions.proofs.Words.{◌≡◌, ◌<◌, ◌≤◌, ◌+◌, ◌-◌, ℕ, List, [], ◌∷◌, ◌++◌, length, take, drop, get_or, refl, sym, ap, ◌∙◌, subst, inl, inr, arith, drop-drop, drop_all, drop_more, length-take-le, take-append-drop, Edit, Named, Hunk, drop-append-le, Adds, AddsAll, commute, ContextedPatch, bare, InRange, IsInRange, SameKey, PrimitivesCommute, Commute, at_line, path_of, Passes, hunk_at, greatest_reach}
 use Rattle.camp_questions.specs.Inside.Moving.{ComesBefore}
 
--- what is added behind, and then what stands before that
+-- adding the later part of a list and then the earlier part
 pub add_before : (first rest : List Named) (x y z : ContextedPatch) → AddsAll rest x y → AddsAll first y z → AddsAll (first ++ rest) x z
 add_before [] rest x y z behind before = subst (AddsAll rest x) (sym before) behind
 add_before (p ∷ first) rest x y z behind before =
     (before.0, add_before first rest x y before.0 behind before.1, before.2)
 
--- a list from a place on, in three parts
+-- a list from an index on, in three parts
 in_parts : (changes : List Named) (left stop from : ℕ) → left ≤ length changes → stop ≤ left → from ≤ stop → drop from changes ≡ take (stop - from) (drop from changes) ++ (drop stop (take left changes) ++ drop left changes)
 in_parts changes left stop from within past before =
     let long : length (take left changes) ≡ left = length-take-le left changes within in
@@ -17,30 +17,30 @@ in_parts changes left stop from within past before =
     let rest : drop (stop - from) (drop from changes) ≡ drop stop changes = drop-drop (stop - from) from changes ∙ ap (λ n. drop n changes) sum in
     sym (take-append-drop (stop - from) (drop from changes)) ∙ ap (λ l. take (stop - from) (drop from changes) ++ l) (rest ∙ behind)
 
--- some changes have been added, some passed by, and some are added before these
+-- some changes have been added, some were passed, and some are to be added before these
 pub more_added : (changes : List Named) (left stop from : ℕ) (x seen passed next : ContextedPatch) → left ≤ length changes → stop ≤ left → from ≤ stop → AddsAll (drop left changes) x seen → AddsAll (drop stop (take left changes)) seen passed → AddsAll (take (stop - from) (drop from changes)) passed next → AddsAll (drop from changes) x next
 more_added changes left stop from x seen passed next within past before added passes more =
     subst (λ l. AddsAll l x next) (sym (in_parts changes left stop from within past before))
     (add_before (take (stop - from) (drop from changes)) (drop stop (take left changes) ++ drop left changes) x passed next
     (add_before (drop stop (take left changes)) (drop left changes) x seen passed added passes) more)
 
--- at first none is
+-- at first none was passed
 pub none_added : (changes : List Named) (n : ℕ) (x y : ContextedPatch) → n ≡ length changes → y ≡ x → AddsAll (drop n changes) x y
 none_added changes n x y whole same =
     subst (λ l. AddsAll l x y) (sym (drop_all n changes (omega (arith, whole)))) same
 
--- one more stands before those that were added
+-- one more is added before those that were added
 pub one_more_added : (changes : List Named) (i at : ℕ) (a : Named) (x y z : ContextedPatch) → i + 1 ≡ at → i < length changes → a ≡ get_or changes i a → AddsAll (drop at changes) x y → Adds a y z → AddsAll (drop i changes) x z
 one_more_added changes i at a x y z follows within is added adds =
     let here : drop i changes ≡ a ∷ drop at changes = drop_more changes i a within ∙ (λ k. sym is k ∷ drop (follows k) changes) in
     subst (λ l. AddsAll l x z) (sym here) (y, added, adds)
 
--- a patch without a context that commutes with a change passes by it
+-- a patch without a context that commutes with a change passes it
 pub swaps_by : (a p p' behind : Named) → Commute a p p' behind → Adds a (bare p) (bare p')
 swaps_by a p p' behind swap =
     commute (λ y w. w.front) (record { a' = a; a'' = behind; passed = []; past_context = (refl, refl); past_patch = swap; context = refl })
 
--- a patch with a hunk is that hunk at its line
+-- a patch with a hunk is given by the line of its hunk
 pub at_own_line : (patch : Named) (hunk : Edit) → patch.prim ≡ Hunk hunk → patch ≡ hunk_at patch hunk hunk.line
 at_own_line patch hunk is =
     λ i. record { name = patch.name; place = patch.place; inverse = patch.inverse; prim = is i }
@@ -71,7 +71,7 @@ passes_hunk change patch other hunk line next apart is own range passes =
       },
     )
 
--- it stands below
+-- the hunk is below it
 pub above_passes : (other hunk : Edit) (line gap : ℕ) → other.path ≡ hunk.path → IsInRange other → IsInRange (at_line line hunk) → other.line ≡ line + length hunk.old + gap → 0 < gap → line + length hunk.new + gap + length other.old + length other.new ≤ greatest_reach → Passes other hunk line line
 above_passes other hunk line gap path own range stands between within = record {
   behind = at_line (line + length hunk.new + gap) other;
@@ -98,7 +98,7 @@ label_moved changes stop line x moved patch hunk none is comes added =
     let there : bare (hunk_at patch hunk line) ≡ moved = ap (λ p. bare (hunk_at p hunk line)) is ∙ sym comes in
     subst (λ y. AddsAll (drop stop changes) y moved) own (subst (AddsAll (drop stop changes) (bare patch)) there added)
 
--- at first a hunk stands at its own line
+-- at first a hunk is at its own line
 pub at_first : (changes : List Named) (n line : ℕ) (patch : Named) (hunk : Edit) → n ≡ length changes → line ≡ hunk.line → patch.prim ≡ Hunk hunk → AddsAll (drop n changes) (bare patch) (bare (hunk_at patch hunk line))
 at_first changes n line patch hunk whole own is =
     none_added changes n (bare patch) (bare (hunk_at patch hunk line)) whole (ap (λ l. bare (hunk_at patch hunk l)) own ∙ ap bare (sym (at_own_line patch hunk is)))
@@ -106,7 +106,7 @@ at_first changes n line patch hunk whole own is =
 pub in_range_there : (hunk : Edit) (line : ℕ) → line ≡ hunk.line → IsInRange hunk → IsInRange (at_line line hunk)
 in_range_there hunk line own range = subst (λ l. IsInRange (at_line l hunk)) (sym own) range
 
--- where a beginning of some changes ends
+-- the end of a prefix of some changes
 pub ends_within : (changes : List Named) (left stop : ℕ) → left ≤ length changes → stop ≤ length (take left changes) → stop ≤ left
 ends_within changes left stop within past =
     let long : length (take left changes) ≡ left = length-take-le left changes within in omega (arith, long, past)

@@ -1,12 +1,12 @@
--- The patches of a lawful branch up to one stand at its front.
+-- The patches of a lawful branch up to an index can be moved to its front.
 use Rattle.camp_questions.proofs.Words.{false_from_ne_true, ◌≡◌, ◌≢◌, ◌<◌, ℕ, zero, suc, ◌+◌, Bool, true, false, true≢false, ◌||◌, cond, List, [], ◌∷◌, ◌++◌, bytes_eq, append-nil, refl, sym, ap, ◌∙◌, subst, inl, inr, arith, AllByRecursion, append_assoc, Key, Catch, all_append, is_among_is, name_itself, or_true, same_name, ArrangesBehind, AreDistinct, Patch, is_among, labels_from, labels_of, name_of, patch_names, keys_of, list_any, or_cases, map}
 
--- names up to one
+-- names up to an index
 abbrev pub up_to : List (List ℕ) → List ℕ → List (List ℕ)
 up_to [] name = []
 up_to (n ∷ names) name = cond (bytes_eq name n) (n ∷ []) (n ∷ up_to names name)
 
--- the place of a name
+-- the index of a name
 abbrev pub place_of : List (List ℕ) → List ℕ → ℕ
 place_of [] name = zero
 place_of (n ∷ names) name = cond (bytes_eq name n) zero (suc (place_of names name))
@@ -20,7 +20,7 @@ earlier_at n names name other false true e f there different rest = omega arith
 earlier_at n names name other false false e f there different rest =
     let less = rest (sym (ap (λ b. b || is_among (up_to names name) other) f) ∙ there) in omega (less, arith)
 
--- names up to one, but for it, stand before it
+-- names up to an index, except the one there, come before it
 pub earlier : (names : List (List ℕ)) (name other : List ℕ) → is_among (up_to names name) other ≡ true → other ≢ name → place_of names other < place_of names name
 earlier [] name other there different = absurd (true≢false (sym there))
 earlier (n ∷ names) name other there different =
@@ -35,7 +35,7 @@ pub ends : (names : List (List ℕ)) (name : List ℕ) → is_among names name �
 ends [] name there = there
 ends (n ∷ names) name there = ends_at n names name (bytes_eq name n) refl there (ends names name)
 
--- catches are of these names, and are not
+-- catches are of these names, or of none of them
 abbrev pub AreOf : List (List ℕ) → List Catch → Type 0
 AreOf names list = AllByRecursion (λ k. is_among names (name_of k) ≡ true) list
 
@@ -93,7 +93,7 @@ pub all_images : {X Y : Type 0} (f : X → Y) (P : Y → Type 0) (list : List X)
 all_images f P [] w = tt
 all_images f P (x ∷ list) w = (w.0, all_images f P list w.1)
 
--- one of a list passes a test, and what holds of all holds of it
+-- one element of a list passes a test, and a fact about all holds of it
 pub one_passing : {X : Type 0} (P : X → Type 0) (test : X → Bool) (list : List X) → AllByRecursion P list → list_any test list ≡ true → (x : X) × P x × (test x ≡ true)
 one_passing P test [] all any = absurd (true≢false (sym any))
 one_passing P test (x ∷ list) all any = elim (or_cases (test x) (list_any test list) any) [
@@ -126,12 +126,12 @@ of_patches (p ∷ patches) list e =
     let rest = all_are (λ k there. or_true (bytes_eq (name_of k) p.name) _ there) parts.rest (of_patches patches parts.rest parts.rest_keys) in
     subst (AreOf (patch_names (p ∷ patches))) (sym parts.is) (all_append (λ k. is_among (patch_names (p ∷ patches)) (name_of k) ≡ true) parts.first parts.rest first rest)
 
--- one of other names
+-- a name that is none of these
 is_other : (name n : List ℕ) (names : List (List ℕ)) → is_among names n ≡ false → is_among names name ≡ true → bytes_eq name n ≡ false
 is_other name n names lacks there =
     false_from_ne_true (bytes_eq name n) (λ e. true≢false (sym there ∙ ap (is_among names) (same_name name n e) ∙ lacks))
 
--- the catches of patches up to one stand before the others
+-- the catches of patches up to an index come before the others
 pub record StandFirst (names : List (List ℕ)) (list : List Catch) : Type 0 where
   pub front : List Catch
   pub behind : List Catch

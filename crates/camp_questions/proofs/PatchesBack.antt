@@ -1,4 +1,4 @@
--- Plain patches, taken back one by one.
+-- Plain patches, inverted one by one.
 use Rattle.camp_questions.proofs.Words.{effect_of, flat_map, ◌≡◌, ℕ, false, List, [], ◌∷◌, ◌++◌, map, refl, sym, ap, ◌∙◌, subst, AllByRecursion, map-append, Catch, is_among, name_of, all_append, AreDistinct, Named, reverse, distinct_append, inverse_of, inverse_all-append, inverse_all-cons, inverse_all, Plain, AreOfPatch, ArePatches, ArePatchesOf, catches_in_order, names_in_order, GrowsToFront, GrowsToGo, IsInverted, AreInverses, HaveRoom, PatchCatches, reverse-cons, flat_map_more, AllZip, none_else}
 use Rattle.camp_questions.proofs.PlainLabels.{plain_effects}
 use Rattle.camp_questions.proofs.TakenBack.{needed_as_held}
@@ -18,7 +18,7 @@ distinct_reversed [] w = tt
 distinct_reversed (n ∷ names) w =
     subst AreDistinct (sym (reverse-cons n names)) (distinct_append (reverse names) (n ∷ []) (distinct_reversed names w.1) (refl, tt) (all_reversed (λ m. is_among (n ∷ []) m ≡ false) names (none_else n names w.0)))
 
--- each of some patches is taken back
+-- each of some patches is inverted
 abbrev pub IsBack : PatchCatches → PatchCatches → Type 0
 IsBack patch back = (back.name ≡ patch.name) × AreInverses patch.catches.items back.catches.items
 
@@ -37,7 +37,7 @@ same_plain xs ys e = sym (plain_effects xs) ∙ ap (flat_map effect_of) e ∙ pl
 pub catches-append : (backs : List PatchCatches) (b : PatchCatches) → catches_in_order (backs ++ b ∷ []) ≡ catches_in_order backs ++ b.catches.items
 catches-append backs b = sym (flat_map_more (λ (patch : PatchCatches). patch.catches.items) [] backs b)
 
--- together they are the inverses of all, the last first
+-- together they are the inverses of all catches, the last first
 all_inverses : (patches backs : List PatchCatches) → AreAllBack patches backs → AreInverses (catches_in_order patches) (catches_in_order (reverse backs))
 all_inverses [] [] w = record { forth = []; plain = refl; inverses = refl }
 all_inverses [] (b ∷ backs) w = absurd w
@@ -69,7 +69,7 @@ own_all_back (p ∷ patches) (b ∷ backs) w own =
     let here = own_back p.name one.forth (subst (AreOfPatch p.name) one.plain own.0) in
     (subst (λ n. AreOfPatch n b.catches.items) (sym w.0.0) (subst (AreOfPatch p.name) (sym one.inverses) here), own_all_back patches backs w.1 own.1)
 
--- all patches of a list are taken back
+-- all patches of a list are inverted
 pub all_back : (list : List Catch) (patches backs : List PatchCatches) → ArePatchesOf list patches → HaveRoom list → AreAllBack patches backs → IsInverted list backs
 all_back list patches backs of room w =
     let all = all_inverses patches backs w in
@@ -95,7 +95,7 @@ reversed patches are = record {
   distinct = subst AreDistinct (sym (map-reverse (λ (p : PatchCatches). p.name) patches)) (distinct_reversed (names_in_order patches) are.distinct);
 }
 
--- what names hold in the patches taken back, they need in the list
+-- the dependents of names in the inverted patches are their dependencies in the list
 pub needed_taken_back : (list : List Catch) (backs : List PatchCatches) (names grown : List (List ℕ)) → IsInverted list backs → GrowsToGo (catches_in_order (reverse backs)) names grown → GrowsToFront list names grown
 needed_taken_back list backs names grown back grows =
     subst (λ l. GrowsToFront l names grown) (sym back.plain) (needed_as_held back.forth names grown back.room back.room_back (subst (λ l. GrowsToGo l names grown) back.inverses grows))

@@ -1,9 +1,9 @@
--- The patches that a list of catches is of, found one after the other.
+-- The patches of a list of catches, found one after the other.
 use Rattle.camp_questions.proofs.Words.{IsLawfulBranch, ◌≡◌, ◌<◌, ◌≤◌, ℕ, zero, suc, ◌+◌, ◌-◌, ◌==◌, cond, List, [], ◌∷◌, ◌++◌, length, take, drop, get_or, append-nil, refl, sym, ap, ◌∙◌, subst, arith, AllByRecursion, append_assoc, drop-drop, drop_all, drop_more, length-append, length-drop, map-append, take_at, drop_at, Key, Catch, all_append, name_of, AreDistinct, HasPatches, Patch, labels_from, labels_of, patch_names, take_all, ne_eqb, names_of_patches, IsSized, names_of, catch_key, keys_of, AreOfPatch, ArePatchesOf, catches_in_order, names_in_order, until_next, PatchCatches, take-add, length-map, labels_count}
 use Rattle.camp_questions.proofs.PatchFronts.{of_one_patch, parts_by_labels, same_head}
 use Rattle.camp_questions.proofs.PatchesBack.{catches-append}
 
--- the catches of a patch behind its first, and the first of the next one
+-- the catches of a patch after its first one, and the first of the next patch
 until_next_at : (list : List Catch) (name : List ℕ) (place changes : ℕ) (patches : List Patch) → 2 ≤ place → AllByRecursion IsSized patches → keys_of list ≡ labels_from name place changes ++ labels_of patches → until_next list ≡ changes
 until_next_at [] name place zero patches later sized e = refl
 until_next_at [] name place (suc changes) patches later sized e = cc
@@ -25,7 +25,7 @@ until_next_at (k ∷ list) name place (suc changes) patches later sized e =
     not_first (suc (suc n)) le =
         ap (λ b. cond b zero (suc (until_next list))) (ne_eqb (suc (suc n)) 1 (λ e. absurd (omega (e, arith))))
 
--- so many patches are found, and these are still to be found
+-- the patches found so far, and those still to be found
 pub record AreFound (list : List Catch) (start : ℕ) (found : List PatchCatches) : Type 0 where
   pub left : List Patch
   pub sized : AllByRecursion IsSized left
@@ -48,7 +48,7 @@ none_found list patches has = record {
   named = sym (names_of_patches list patches has);
 }
 
--- a lawful branch is of patches
+-- the catches of a lawful branch are those of patches
 pub patches_there : (branch list : List Catch) → list ≡ branch → IsLawfulBranch branch → (patches : List Patch) × HasPatches list patches
 patches_there branch list is lawful = (lawful.patches, subst (λ l. HasPatches l lawful.patches) (sym is) lawful.has)
 

@@ -1,4 +1,4 @@
--- Direct needs, found by places.
+-- Direct dependencies, found by index.
 use Rattle.camp_questions.proofs.Words.{◌≡◌, ◌<◌, ◌≤◌, ◌==◌, ℕ, zero, suc, ◌+◌, ◌-◌, Bool, true, false, not, ◌&&◌, ◌||◌, cond, inl, inr, List, [], ◌∷◌, ◌++◌, filter, map, length, take, drop, get_or, bytes_eq, append-nil, refl, sym, ap, ◌∙◌, subst, and_false, and_true, arith, AllByRecursion, list_any, drop_all, drop_more, filter-append, map-append, take_more, name_itself, AreDistinct, goes_between, needs_directly, needs_other, all_append, cases_eq, cases_order, eq-eqb, ne_eqb, All-filter, All-from_recursion, recursion_from_All, get_or-map, get_or_default, get_or_past, length-map, take_all, filter_image, other_way, Needing, Node, Needed, needing, AreSettled, EndInPlace, name_at, needs_place, node_in, up_to}
 use Rattle.camp_questions.proofs.MarkedNames.{among_marked, apart_places}
 use Rattle.camp_questions.proofs.PatchFronts.{all_are}
@@ -10,7 +10,7 @@ filter_again f g (n ∷ l) = elim (f n) as (λ b. filter g (cond b (n ∷ filter
   | false ↦ filter_again f g l
 ]
 
--- tests that agree on so many places pass the same of them
+-- tests that agree on the first n indexes filter them alike
 filter_up_to : (f g : ℕ → Bool) (n : ℕ) → ((k : ℕ) → k < n → f k ≡ g k) → filter f (up_to n) ≡ filter g (up_to n)
 filter_up_to f g zero same = refl
 filter_up_to f g (suc n) same =
@@ -21,19 +21,19 @@ one_more_place f n =
     let e : n + 1 ≡ suc n = omega arith in
     ap (λ m. filter f (up_to m)) e ∙ filter-append f (up_to n) (n ∷ [])
 
--- the names at all places
+-- the names at all indexes
 names_up_to : (names : List (List ℕ)) (n : ℕ) → n ≤ length names → map (name_at names) (up_to n) ≡ take n names
 names_up_to names zero within = refl
 names_up_to names (suc n) within =
     let e : n + 1 ≡ suc n = omega arith in
     map-append (name_at names) (up_to n) (n ∷ []) ∙ ap (λ l. l ++ name_at names n ∷ []) (names_up_to names n (omega (arith, within))) ∙ sym (take_more names n [] (omega (arith, within))) ∙ ap (λ m. take m names) e
 
--- the names at the places that pass a test of their names
+-- the names at the indexes whose names pass a test
 pub names_that_pass : (test : List ℕ → Bool) (names : List (List ℕ)) (places : List ℕ) → places ≡ filter (λ k. test (name_at names k)) (up_to (length names)) → map (name_at names) places ≡ filter test names
 names_that_pass test names places are =
     ap (map (name_at names)) are ∙ sym (filter_image (name_at names) test (up_to (length names))) ∙ ap (filter test) (names_up_to names (length names) (omega arith) ∙ take_all (length names) names (omega arith))
 
--- places behind one that do not pass change nothing
+-- indexes after the last one that passes change nothing
 filter_behind : (f : ℕ → Bool) (end left : ℕ) → ((k : ℕ) → end ≤ k → k < end + left → f k ≡ false) → filter f (up_to (end + left)) ≡ filter f (up_to end)
 filter_behind f end zero none =
     let e : end + 0 ≡ end = omega arith in ap (λ n. filter f (up_to n)) e
@@ -50,7 +50,7 @@ pub places_within : (f : ℕ → Bool) (n : ℕ) → AllByRecursion (λ k. k < n
 places_within f n =
     recursion_from_All (λ k. k < n) (filter f (up_to n)) (All-filter f (λ k. k < n) (up_to n) (All-from_recursion (λ k. k < n) (up_to n) (all_within_up_to n)))
 
--- the first of the places is the least
+-- the first of the indexes is the least
 first_joined : (l : List ℕ) (n : ℕ) (b : Bool) → AllByRecursion (λ k. get_or l 0 0 ≤ k) l → AllByRecursion (λ k. k < n) l → AllByRecursion (λ k. get_or (l ++ cond b (n ∷ []) []) 0 0 ≤ k) (l ++ cond b (n ∷ []) [])
 first_joined [] n true least within = (omega arith, tt)
 first_joined [] n false least within = tt
@@ -65,18 +65,18 @@ first_is_least f zero = tt
 first_is_least f (suc n) =
     subst (λ l. AllByRecursion (λ k. get_or l 0 0 ≤ k) l) (sym (filter-append f (up_to n) (n ∷ []))) (first_joined (filter f (up_to n)) n (f n) (first_is_least f n) (places_within f n))
 
--- behind the last mark none is needed
+-- after the last mark there is no dependency
 pub none_behind : (marks : List Bool) (at k : ℕ) → length marks ≤ k → needs_place marks at k ≡ false
 none_behind marks at k past =
     ap (λ b. not (k == at) && b) (get_or_past marks k false past) ∙ and_false (not (k == at))
 
--- marks that end before all places leave out none of them
+-- marks that end before all indexes remove none of them
 none_left_out : (marks : List Bool) (at : ℕ) (places : List ℕ) → AllByRecursion (λ k. length marks ≤ k) places → filter (λ k. not (needs_place marks at k)) places ≡ places
 none_left_out marks at [] past = refl
 none_left_out marks at (k ∷ places) past =
     (λ i. cond (not (none_behind marks at k past.0 i)) (k ∷ filter (λ k. not (needs_place marks at k)) places) (filter (λ k. not (needs_place marks at k)) places)) ∙ ap (λ l. k ∷ l) (none_left_out marks at places past.1)
 
--- where the first of the places, which is the least, is behind a place, all are
+-- if the first of the indexes, which is the least, is after an index, all are
 all_behind : (place : ℕ) (places : List ℕ) (first : ℕ) → place ≤ first → AllByRecursion (λ k. first ≤ k) places → AllByRecursion (λ k. place ≤ k) places
 all_behind place places first past least = all_are {P = λ k. first ≤ k} {Q = λ k. place ≤ k} (λ k behind. omega (arith, past, behind)) places least
 
@@ -85,14 +85,14 @@ ends_before marks at [] first is past least = refl
 ends_before marks at (k ∷ places) first is past least =
     none_left_out marks at (k ∷ places) (all_behind (length marks) (k ∷ places) first past (subst (λ f. AllByRecursion (λ j. f ≤ j) (k ∷ places)) (sym is) least))
 
--- none from a place on, and none at the one before
+-- none from an index on, and none at the one before
 pub none_from : (f : ℕ → Bool) (end count before : ℕ) → end ≡ before + 1 → ((k : ℕ) → end ≤ k → k < count → f k ≡ false) → f before ≡ false → (k : ℕ) → before ≤ k → k < count → f k ≡ false
 none_from f end count before next none here k far less = elim (cases_eq k before) [
   | inl same ↦ ap f same ∙ here
   | inr other ↦ none k (omega (arith, far, next, other)) less
 ]
 
--- one more patch has marks that end in its place
+-- the marks of one more patch end at its own index
 pub one_ends : (all : List Needed) (i : ℕ) (q : Needed) → i < length all → q ≡ get_or all i q → length q.needs.items ≤ i + 1 → ((k : ℕ) (d : Needed) → k < i → length (get_or all k d).needs.items ≤ k + 1) → (k : ℕ) (d : Needed) → k < i + 1 → length (get_or all k d).needs.items ≤ k + 1
 one_ends all i q within is ends so_far k d less = elim (cases_eq k i) [
   | inl same ↦
@@ -108,7 +108,7 @@ one_past true false true = refl
 one_past true false false = refl
 one_past false between more = refl
 
--- whether a patch needs the one at a place, and none of some others that it needs does
+-- whether a patch depends on the one at an index, and none of some other dependencies does
 abbrev pub left_over : List (List ℕ) → Needed → List Needed → ℕ → Bool
 left_over names p others k =
     needs_directly (map (needing names) others) (needing names p) (name_at names k)
@@ -130,7 +130,7 @@ module _ (names : List (List ℕ)) (all : List Needed) (named : map (λ (p : Nee
     ]
   ]
 
-  -- whether one needs another, by names and by places
+  -- whether one patch depends on another, by names and by indexes
   pub needs_by_place : (at k : ℕ) (p d : Needed) → at < length all → p ≡ get_or all at d → k < length names → needs_other (needing names p) (name_at names k) ≡ needs_place p.needs.items at k
   needs_by_place at k p d within is less =
       (λ i. not ((ap (bytes_eq (name_at names k)) (name_of_patch at p d within is) ∙ same_place k at less (omega (arith, within, long))) i) && among_marked names p.needs.items k [] distinct less i)
@@ -150,7 +150,7 @@ module _ (names : List (List ℕ)) (all : List Needed) (named : map (λ (p : Nee
       needs_it =
           ap (needs_other (needing names p)) (name_of_patch i q e inside there) ∙ needs_by_place at i p d within is (omega (arith, inside, long))
 
-      -- one that it needs leaves out what that needs
+      -- one of its dependencies removes its own dependencies
       pub goes_past : (next : List ℕ) → needs_place p.needs.items at i ≡ true → next ≡ filter (λ k. not (needs_place q.needs.items i k)) places → next ≡ filter (left_over names p (drop i all)) (up_to (length names))
       goes_past next needed are =
           are ∙ ap (filter (λ k. not (needs_place q.needs.items i k))) (so_far ∙ ap (λ m. filter (left_over names p (drop m all)) (up_to (length names))) one)
@@ -160,7 +160,7 @@ module _ (names : List (List ℕ)) (all : List Needed) (named : map (λ (p : Nee
           ∙ one_past (needs_other (needing names p) (name_at names k)) (goes_between (needing names p) (name_at names k) (needing names q)) (list_any (goes_between (needing names p) (name_at names k)) (map (needing names) (drop (i + 1) all))))
           ∙ ap (λ l. filter (left_over names p l) (up_to (length names))) (sym behind)
 
-      -- one that it does not need leaves out none
+      -- a patch that is no dependency removes none
       pub stays_past : needs_place p.needs.items at i ≡ false → places ≡ filter (left_over names p (drop i all)) (up_to (length names))
       stays_past needless =
           so_far ∙ ap (λ m. filter (left_over names p (drop m all)) (up_to (length names))) one
@@ -177,7 +177,7 @@ module _ (names : List (List ℕ)) (all : List Needed) (named : map (λ (p : Nee
         let here : i < length all = omega (arith, inside) in
         skipped places end left none (omega (arith, inside)) (stays_past places (end + suc left) i (get_or all i p) p (omega arith) here refl so_far (none i (omega arith) here))
 
-    -- the patches from the end of what it needs on are not needed, so what they need matters not
+    -- patches after its last dependency are no dependencies, so their own ones do not matter
     pub starts_at : (places : List ℕ) (end : ℕ) → end ≤ length all → ((k : ℕ) → end ≤ k → k < length all → needs_place p.needs.items at k ≡ false) → places ≡ filter (needs_place p.needs.items at) (up_to end) → places ≡ filter (left_over names p (drop end all)) (up_to (length names))
     starts_at places end inside none are =
         let test = needs_place p.needs.items at in
@@ -200,7 +200,7 @@ module _ (names : List (List ℕ)) (all : List Needed) (named : map (λ (p : Nee
           | false ↦ λ e. rest (stays_past places (suc i) i q p one here refl so_far e)
         ] refl
 
-    -- where no patch before a place leaves out one of the places that are left, they are all
+    -- if no patch before an index removes one of the indexes that are left, they are all
     pub ends_settled : (in_place : Bool) (places : List ℕ) (left settled : ℕ) → (in_place ≡ true → EndInPlace all) → left ≤ settled → left ≤ length all → AreSettled in_place places settled → places ≡ filter (left_over names p (drop left all)) (up_to (length names)) → places ≡ filter (left_over names p (drop 0 all)) (up_to (length names))
     ends_settled in_place places left settled ends less inside (inl none) so_far =
         let e : left ≡ 0 = omega (arith, less, none) in
@@ -216,7 +216,7 @@ module _ (names : List (List ℕ)) (all : List Needed) (named : map (λ (p : Nee
     places_inside places left so_far =
         subst (AllByRecursion (λ k. k < length names)) (sym so_far) (places_within (left_over names p (drop left all)) (length names))
 
--- one more patch is drawn
+-- one more patch is in the graph
 pub one_node : (draw : Needing → Node) (needing_of : Needed → Needing) (all : List Needed) (i : ℕ) (p d : Needed) (nodes next : List Node) (node : Node) → i < length all → p ≡ get_or all i d → nodes ≡ map draw (map needing_of (take i all)) → node ≡ draw (needing_of p) → next ≡ nodes ++ node ∷ [] → next ≡ map draw (map needing_of (take (i + 1) all))
 one_node draw needing_of all i p d nodes next node within is so_far drawn becomes =
     let more : take (i + 1) all ≡ take i all ++ p ∷ [] = take_more all i d within ∙ ap (λ x. take i all ++ x ∷ []) (sym is) in

@@ -1,11 +1,12 @@
--- Plain catches that go take along what can not come before them; and what goes comes to the front of the list taken back.
+-- Among plain catches, those that go take along what can't be moved in front of them; and they can be moved to the
+-- front of the inverted list.
 use Rattle.camp_prim.proofs.CommuteLaws.{inverse}
 use Rattle.camp_questions.proofs.Words.{inverse_all-append, inverse_all-cons, Catch, Plain, lists_are_unique, arranged_of_parts, at_end, came_plainly, comes_plainly, not_both, one_at_end, room_left, AllByRecursion}
 use Rattle.camp_catch.proofs.Words.{Contains, List, [], ap, append-nil, inl, inr, map, refl, subst, sym, ℕ, ◌++◌, ◌∙◌, ◌∷◌, ◌≡◌, append_assoc, Key, Named, inverse_of, passes_push, room_before, Passes, Precedes, HasRoom, inverse_all, Arrange, ArrangesBehind, SticksBehind}
 use Rattle.camp_catch.proofs.PlainFronts.{Parted, comes_past_parts, one_more, one_other}
 
 module _ (names others : List (List ℕ)) (within : (name : List ℕ) → Contains others name → Contains names name) where
-  -- two walks to the front: that of the others, which are fewer, comes to its end, and the one of the names sticks
+  -- two moves to the front: that of the others, which are fewer, succeeds, and that of the names is blocked
   walk : (rest left list x : List Named) → HasRoom (rest ++ list) → Parted names rest x left → (first behind : List Catch) → ArrangesBehind others (map Plain rest) (map Plain list) first behind → (patch on : Key) → SticksBehind names (map Plain left) (map Plain list) patch on → Contains others patch.name → ⊥
   walk rest left [] x room p first behind came patch on stuck has = absurd stuck
   walk rest left (k ∷ list) x room p first behind (inl u) patch on stuck has =
@@ -38,12 +39,13 @@ module _ (names others : List (List ℕ)) (within : (name : List ℕ) → Contai
         ]
       ]
 
--- with room, where the catches of some names come to the front, they are not what sticks when others come too
+-- with headroom, if the catches of some names can be moved to the front, they are not blocked when others are moved
+-- too
 pub what_comes_never_sticks : (patches : List Named) (names others : List (List ℕ)) → HasRoom patches → ((name : List ℕ) → Contains others name → Contains names name) → (first behind : List Catch) → Arrange others (map Plain patches) first behind → (patch on : Key) → SticksBehind names [] (map Plain patches) patch on → ¬ (Contains others patch.name)
 what_comes_never_sticks patches names others room within first behind came patch on stuck has =
     walk names others within [] [] patches [] room (refl, refl) first behind came patch on stuck has
 
--- what comes before a list passes it, taken back, the other way
+-- if k is moved in front of a list, its inverse commutes past the inverted list the other way
 pub passes_back : (s : List Named) (k k' : Named) (s' : List Named) → Precedes s k k' s' → Passes (inverse_of k) (inverse_all s) (inverse_all s') (inverse_of k')
 passes_back [] k k' s' w = subst (λ l. Passes (inverse_of k) [] (inverse_all l) (inverse_of k')) (sym w.1) (refl, ap inverse_of w.0)
 passes_back (j ∷ s) k k' s' w =
@@ -55,7 +57,7 @@ inverse_at_end : (s : List Named) (k : Named) → inverse_of k ∷ inverse_all s
 inverse_at_end s k = sym (inverse_all-append s (k ∷ []))
 
 module _ (names others : List (List ℕ)) where
-  -- a primitive is of the names exactly where it is not of the others
+  -- a primitive is of the names exactly if it is not of the others
   pub record IsEither (p : Named) : Type 0 where
     pub not_both : Contains names p.name → ¬ (Contains others p.name)
     pub one : ¬ (Contains others p.name) → Contains names p.name
@@ -63,7 +65,7 @@ module _ (names others : List (List ℕ)) where
   abbrev pub AreEither : List Named → Type 0
   AreEither s = AllByRecursion IsEither s
 
-  -- so far, the others came before those of the names; taken back, these come before the others
+  -- so far, the others were moved in front of those of the names; inverted, these are moved in front of the others
   back : (list t f s : List Named) → AreEither list → Parted names s (inverse_all t) (inverse_all f) → (first left : List Catch) → ArrangesBehind others (map Plain t) (map Plain list) first left → (f' : List Named) × (t' : List Named) × Parted names (inverse_all list ++ s) f' t'
   back [] t f s are p first left came = (inverse_all t, inverse_all f, p)
   back (k ∷ list) t f s are p first left (inl w) =
@@ -79,7 +81,8 @@ module _ (names others : List (List ℕ)) where
       let rest = back list (t ++ k ∷ []) f (inverse_of k ∷ s) are.1 next first left (subst (λ l. ArrangesBehind others l (map Plain list) first left) (one_at_end t k) w.1) in
       (rest.0, rest.1, subst (λ l. Parted names l rest.0 rest.1) (sym (ap (λ l. l ++ s) (inverse_all-cons k list) ∙ append_assoc (inverse_all list) (inverse_of k ∷ []) s)) rest.2)
 
-  -- where the others of a list come to its front, those of the names come to the front of the list taken back
+  -- if the others of a list can be moved to its front, those of the names can be moved to the front of the inverted
+  -- list
   pub comes_taken_back : (list : List Named) → AreEither list → (first left : List Catch) → Arrange others (map Plain list) first left → (front : List Catch) × (behind : List Catch) × Arrange names (map Plain (inverse_all list)) front behind
   comes_taken_back list are first left came =
       let parts = back list [] [] [] are (refl, refl) first left came in

@@ -1,13 +1,13 @@
--- In a lawful branch with plain catches alone no label comes again.
+-- In a lawful branch with plain catches only no label comes again.
 use Rattle.camp_questions.proofs.Words.{◌≡◌, ◌≢◌, ◌≤◌, ℕ, zero, suc, ◌+◌, true≢false, List, [], ◌∷◌, ◌++◌, map, refl, sym, ap, ◌∙◌, subst, inl, inr, arith, key_of, label_of, Key, Named, AreDistinct, Contains, IsLawfulBranch, Patch, effect_of, flat_map, is_among_is, labels_from, labels_of, patch_names, Contains-append_cases, has_image, first_or_later, has_first, has_later, no_member, Plain, ComeAgainAsInverses, PutsBack, map-map, catch_key}
 use Rattle.camp_questions.proofs.KeptElements.{of_each}
 
--- none of some labels is there twice
+-- none of some labels occurs twice
 abbrev AreApart : List Key → Type 0
 AreApart [] = Unit {0}
 AreApart (key ∷ keys) = (¬ (Contains keys key)) × AreApart keys
 
--- the labels of one patch have its name, and places from a first one on
+-- the labels of one patch have its name, and ascending places from a first one on
 of_patch : (name : List ℕ) (place changes : ℕ) (key : Key) → Contains (labels_from name place changes) key → (key.name ≡ name) × (place ≤ key.place)
 of_patch name place zero key c = no_member key c
 of_patch name place (suc changes) key c = elim (first_or_later (record { name = name; place = place }) key (labels_from name (place + 1) changes) c) [
@@ -57,12 +57,12 @@ none_again (p ∷ s) apart = (
   none_again s apart.1,
 )
 
--- what plain catches do is what their patches do
+-- the changes of plain catches are those of their patches
 pub plain_effects : (s : List Named) → flat_map effect_of (map Plain s) ≡ s
 plain_effects [] = refl
 plain_effects (p ∷ s) = ap (λ l. p ∷ l) (plain_effects s)
 
--- so all that come again are inverses
+-- so all labels that come again are inverses
 pub inverses_alone : (s : List Named) → IsLawfulBranch (map Plain s) → ComeAgainAsInverses s
 inverses_alone s lawful =
     none_again s (subst AreApart (sym lawful.has.labels ∙ map-map catch_key Plain s) (labels_apart lawful.patches lawful.has.distinct))

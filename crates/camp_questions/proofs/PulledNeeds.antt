@@ -1,9 +1,9 @@
--- A pull of what is needed does not fail because a patch of it depends on another one.
+-- A pull of dependencies does not fail because one of them depends on another patch.
 use Rattle.camp_questions.proofs.Words.{◌≡◌, ℕ, true, false, true≢false, List, Err, sym, ◌∙◌, subst, inl, inr, ◌↔◌, Contains, Arrange, Catch, has_patch, is_among, is_among_is, ComeToFront, among_common, common_names, fronts_come_behind_fronts, NeedsCanBePulled, Depends, second_so}
 use Rattle.camp_questions.proofs.AlongEnough.{IsFree, pulls_freely}
 use Rattle.camp_questions.proofs.BranchGrowths.{needs_come_first}
 
--- what is needed, of which the other branch has none, is not among what both have
+-- dependencies that the other branch lacks are not among the common patches
 apart : (from to : List Catch) (needed : List (List ℕ)) → ((name : List ℕ) → is_among needed name ≡ true → has_patch to name ≡ false) → (name : List ℕ) → Contains needed name ↔ (Contains needed name × (¬ (Contains (common_names from to) name)))
 apart from to needed lacks name = (
   λ c. (

@@ -1,4 +1,5 @@
--- What a patch needs is reached from it along the arrows of the graph, where all catches are plain and have room.
+-- The dependencies of a patch are reached from it along the arrows of the graph, if all catches are plain and have
+-- headroom.
 use Rattle.camp_questions.proofs.Words.{inl, inr, and_from, and_parts, ◌≡◌, ◌<◌, ◌≤◌, ℕ, zero, suc, ◌+◌, true, false, true≢false, not, ◌||◌, cond, List, [], ◌∷◌, map, bytes_eq, None, Some, refl, sym, ap, ◌∙◌, subst, arith, ◌↔◌, Contains, AllByRecursion, list_any, Catch, name_itself, same_name, among_once, first_lacked, Needs, Drawn, IsGraph, Needing, NeedsThese, goes_between, needs_other, node_of, Node, Arrow, IsPlain, IsReached, NeedsAreReached, NeedsDirectly, NeedsPatch, itself, along, IsLawfulBranch, has_patch, is_among, name_of, names_of, map-map, is_among_is, cases_Bool, is_image}
 use Rattle.camp_questions.proofs.Arrows.{arrow_is_need, arrows_are_direct_needs, is_there, known_needs, needs_known, one_needed}
 use Rattle.camp_questions.proofs.BranchGrowths.{needs_are_determined, needs_come_first, needs_are_least}
@@ -21,7 +22,7 @@ module _ (branch : List Catch) (graph : Drawn) (plain : IsPlain branch) (is : Is
   abbrev own : List (List ℕ)
   own = names_of branch
 
-  -- of a node, its arrows are its direct needs
+  -- the arrows of a node lead to its direct dependencies
   abbrev IsDrawn : Node → Type 0
   IsDrawn node = (other : List ℕ) → (is_among node.needs other ≡ true) ↔ NeedsDirectly branch node.name other
 
@@ -29,7 +30,7 @@ module _ (branch : List Catch) (graph : Drawn) (plain : IsPlain branch) (is : Is
   own_nodes =
       ap (map (λ (n : Node). n.name)) is.patches ∙ map-map (λ (n : Node). n.name) (node_of branch is.all) is.all ∙ is.names
 
-  -- direct needs are arrows
+  -- direct dependencies are arrows
   arrow_of : (name other : List ℕ) → is_among own name ≡ true → NeedsDirectly branch name other → Arrow graph name other
   arrow_of name other there direct =
       let node = find IsDrawn graph.patches name (arrows_are_direct_needs branch graph is) (ap (λ l. is_among l name) own_nodes ∙ there) in
@@ -47,7 +48,7 @@ module _ (branch : List Catch) (graph : Drawn) (plain : IsPlain branch) (is : Is
   none_lacked : (name : List ℕ) → has_patch branch name ≡ true → first_lacked branch (name ∷ []) ≡ None
   none_lacked name has = ap (λ b. cond b None (Some name)) has
 
-  -- what is reached is needed
+  -- a reached patch is a dependency
   reached_is_needed : (name other : List ℕ) (needed : List (List ℕ)) → IsReached graph name other → has_patch branch name ≡ true → Needs branch (name ∷ []) needed → is_among needed other ≡ true
   reached_is_needed name other needed itself has needs =
       (needs_come_first branch (name ∷ []) needed (none_lacked name has) needs).1.has name (ap (λ b. b || false) (name_itself name))
@@ -59,11 +60,11 @@ module _ (branch : List Catch) (graph : Drawn) (plain : IsPlain branch) (is : Is
       needs_are_least branch (between ∷ []) one.0 needed plain one.1 (alone_among between needed among) (needs_come_first branch (name ∷ []) needed (none_lacked name has) needs).0 other later
 
   module _ (lawful : IsLawfulBranch branch) where
-    -- what a patch needs stands before it
+    -- the dependencies of a patch come before it
     stands_before : (name other : List ℕ) → is_among own name ≡ true → NeedsPatch branch name other → place_of own other < place_of own name
     stands_before name other there needs = earlier own name other (needs_up_to branch name other lawful there needs) needs.0
 
-    -- by how far it stands before
+    -- by induction on the distance between them
     need_is_reached : (n : ℕ) (name other : List ℕ) → is_among own name ≡ true → NeedsPatch branch name other → place_of own name ≤ n + place_of own other → IsReached graph name other
     need_is_reached zero name other there needs far =
         let less = stands_before name other there needs in absurd (omega (less, far, arith))

@@ -1,4 +1,4 @@
--- What a patch needs, found by a walk back from it over the patches taken back.
+-- The dependencies of a patch, found by a walk back from it over the inverted patches.
 use Rattle.camp_questions.proofs.Words.{◌≡◌, ◌<◌, ◌≤◌, ℕ, zero, suc, ◌+◌, ◌-◌, Bool, true, false, not, ◌&&◌, ◌||◌, cond, List, [], ◌∷◌, ◌++◌, bytes_eq, map, length, take, drop, get_or, replicate, None, Some, refl, sym, ap, ◌∙◌, subst, inl, inr, arith, AllByRecursion, length-replicate, take-append-drop, Catch, ArrangesBehind, has_patch, is_among, name_of, all_append, name_itself, or_cases, or_none, or_true, among_others, other_names, among_once, AreHeldIn, ComeToFront, CanGo, AreAmong, IsPlain, NeedsThese, set, cases_lt, All-from_recursion, All-get_or, get_or-take, get_or-map, get_or-reverse, get_or-set_same, get_or_append_left, get_or_default, get_or_past, get_or_push, length-map, length-reverse, length-set, length_push, take_all, reverse, inverse_all, PatchCatches, AreApart, ArePatches, catches_in_order, names_in_order, Needed, AreKnown, AreMarkedBelow, AreReached, IsInverted, NeedEach, marked, is_marked, marked_in_both, needing, ComeBeforeAll, StickBehind, other_way, flat_map-append, append-nil, both_ways}
 use Rattle.camp_questions.proofs.Growths.{alone_among}
 use Rattle.camp_questions.proofs.GraphSteps.{AreNeeded, all_needed, none_needed, one_needed}
@@ -11,7 +11,7 @@ use Rattle.camp_questions.proofs.PatchesBack.{reversed}
 use Rattle.camp_questions.proofs.TakenBack.{come_back, go_back}
 use Rattle.camp_questions.proofs.WalkedPatches.{AreThere, HeldAlike, IsWalked, all_there, can_go_then, held_here, one_more_done, own_at, patches_parted, there_of, walked_alike, walked_aside, walked_on}
 
--- of patches from the last back to a place, those before the place are still to be walked over
+-- the patches are taken from the last down to an index; those before the index are still to be visited
 abbrev pub walked_from : List PatchCatches → ℕ → List Catch
 walked_from patches place = catches_in_order (take (length patches - place) (reverse patches))
 
@@ -23,7 +23,7 @@ module _ (patches : List PatchCatches) (are : ArePatches patches) where
   own = names_in_order patches
 
   module _ (place : ℕ) (p d : PatchCatches) (within : place < length patches) (is : p ≡ get_or patches place d) where
-    -- from behind, it stands at this place
+    -- counted from the end, it is at this index
     abbrev index : ℕ
     index = length patches - (place + 1)
 
@@ -44,7 +44,7 @@ module _ (patches : List PatchCatches) (are : ArePatches patches) where
         let next : length patches - place ≡ index + 1 = omega (arith, within) in
         ap (λ k. catches_in_order (take k (reverse patches))) next ∙ one_more_done (reverse patches) index p d stands_within stands
 
-    -- what holds of all catches holds of those of the patch
+    -- a fact about all catches holds of those of the patch
     pub catches_at : (P : Catch → Type 0) → AllByRecursion P all → AllByRecursion P p.catches.items
     catches_at P holds =
         let i = index in
@@ -53,7 +53,7 @@ module _ (patches : List PatchCatches) (are : ArePatches patches) where
         all_before P p.catches.items rest (all_behind P done (p.catches.items ++ rest) (subst (AllByRecursion P) (patches_parted (reverse patches) i p d stands_within stands) holds))
 
     module _ (held : List (List ℕ)) (going : List Catch) (walked : IsWalked all held (walked_from patches (place + 1)) going) where
-      -- the walk goes past a patch that comes before what goes
+      -- the walk continues past a patch that is moved in front of those that go
       pub back_aside : (left : List Catch) → is_among held p.name ≡ false → ComeBeforeAll p.name going p.catches.items left → IsWalked all held (walked_from patches place) left
       back_aside left free come =
           subst (λ l. IsWalked all held l left) (sym more_done) (walked_aside all held (walked_from patches (place + 1)) going walked p.name p.catches.items own_there left free come)
@@ -63,12 +63,12 @@ module _ (patches : List PatchCatches) (are : ArePatches patches) where
       back_on goes =
           subst (λ l. IsWalked all held l (going ++ p.catches.items)) (sym more_done) (walked_on all held (walked_from patches (place + 1)) going walked p.name p.catches.items own_there goes)
 
-      -- one that sticks is held
+      -- a patch that can't be moved in front of those that go depends on them
       pub back_stuck : is_among held p.name ≡ false → StickBehind p.name going p.catches.items → AreHeldIn all held p.name
       back_stuck free stuck =
           held_here all held (walked_from patches (place + 1)) going walked p.name p.catches.items own_there (catches_in_order (drop (index + 1) (reverse patches))) (patches_parted (reverse patches) index p d stands_within stands) free stuck
 
-  -- the rest goes, where all of it is held
+  -- the rest goes if all of it depends on them
   pub walked_down : (held : List (List ℕ)) (place : ℕ) (d : PatchCatches) (going : List Catch) → place ≤ length patches → IsWalked all held (walked_from patches place) going → ((r : ℕ) (n : List ℕ) → r < place → is_among held (get_or own r n) ≡ true) → (left : List Catch) × IsWalked all held (walked_from patches 0) left
   walked_down held zero d going within walked goes = (going, walked)
   walked_down held (suc place) d going within walked goes =
@@ -85,14 +85,14 @@ module _ (patches : List PatchCatches) (are : ArePatches patches) where
       let none : length patches - n ≡ 0 = omega (arith, long) in
       ap (λ k. catches_in_order (take k (reverse patches))) none
 
-  -- from the first place on, all have been walked over
+  -- from index 0 on, all have been visited
   pub whole_walk : walked_from patches 0 ≡ all
   whole_walk =
       let long = length-reverse patches in
       let e : length patches - 0 ≡ length patches = omega arith in
       ap (λ k. catches_in_order (take k (reverse patches))) e ∙ ap catches_in_order (take_all (length patches) (reverse patches) (omega (arith, long)))
 
-  -- what holds of the names from a place on holds of the catches that have been walked over
+  -- a fact about the names from an index on holds of the catches that have been visited
   pub each_walked : (P : List ℕ → Type 0) (left place : ℕ) (d : PatchCatches) → place + left ≡ length patches → ((r : ℕ) (n : List ℕ) → place ≤ r → r < length patches → P (get_or own r n)) → AllByRecursion (λ k. P (name_of k)) (walked_from patches place)
   each_walked P zero place d whole holds =
       subst (AllByRecursion (λ k. P (name_of k))) (sym (from_end place (omega (arith, whole)))) tt
@@ -105,7 +105,7 @@ module _ (patches : List PatchCatches) (are : ArePatches patches) where
       let owned = own_at patches place p d inside refl are.own in
       subst (AllByRecursion (λ k. P (name_of k))) (sym (more_done place p d inside refl)) (all_append (λ k. P (name_of k)) (walked_from patches (place + 1)) p.catches.items behind (all_are (λ k is. subst P (sym is) here) p.catches.items owned))
 
-  -- what goes so far is of other patches than the one at a place
+  -- the catches that go so far are of other patches than the one at an index
   pub back_apart : (held : List (List ℕ)) (place : ℕ) (p d : PatchCatches) (going : List Catch) → place < length patches → p ≡ get_or patches place d → IsWalked all held (walked_from patches (place + 1)) going → AreApart p.name going
   back_apart held place p d going within is walked =
       let called : p.name ≡ get_or own place d.name = ap (λ (x : PatchCatches). x.name) is ∙ sym (get_or-map (λ (x : PatchCatches). x.name) patches place d d.name within) in
@@ -121,15 +121,15 @@ module _ (patches : List PatchCatches) (are : ArePatches patches) where
       let parts : all ≡ walked_from patches place ++ catches_in_order (drop i (reverse patches)) = ap catches_in_order (sym (take-append-drop i (reverse patches))) ∙ flat_map-append (λ (patch : PatchCatches). patch.catches.items) (take i (reverse patches)) (drop i (reverse patches)) in
       all_before (λ k. has_patch all (name_of k) ≡ true) (walked_from patches place) (catches_in_order (drop i (reverse patches))) (subst (AllByRecursion (λ k. has_patch all (name_of k) ≡ true)) parts (all_there all))
 
-  -- where none of those behind a place are held, all of them stay
+  -- if none of the patches after an index depends on those that go, all of them stay
   pub walked_free : (held : List (List ℕ)) (place : ℕ) → AllByRecursion (λ k. is_among held (name_of k) ≡ false) (walked_from patches place) → IsWalked all held (walked_from patches place) []
   walked_free held place free = record {
     first = walked_from patches place;
     arranged = subst (λ l. ArrangesBehind (other_names all held) [] l (walked_from patches place) []) (append-nil (walked_from patches place)) (those_come (other_names all held) (walked_from patches place) [] (both_are (λ k has lacks. among_others all held (name_of k) ∙ (λ i. has i && not (lacks i))) (walked_from patches place) (walked_there place) free) tt);
   }
 
--- a walk back from the patch at a place has come to another: what is marked goes, and all who have the patch and come to
--- the front of the branch have what is marked
+-- the state of a walk back at an index: the marked patches go; each list that contains the first patch and can be
+-- moved to the front contains the marked ones
 pub record ReachesTo (branch : List Catch) (patches : List PatchCatches) (from : ℕ) (marks : List Bool) (place : ℕ) (going : List Catch) : Type 0 where
   pub long : length marks ≡ from + 1
   pub walked : IsWalked (catches_in_order (reverse patches)) (marked (names_in_order patches) marks) (walked_from patches place) going
@@ -138,7 +138,7 @@ pub record ReachesTo (branch : List Catch) (patches : List PatchCatches) (from :
       ComeToFront branch others → AreAmong (marked (names_in_order patches) marks) others
   pub itself : is_marked marks from ≡ true
 
--- a walk back from the patch behind those of which is known what they need
+-- a walk back from the first patch whose dependencies are not known yet
 module _ (branch : List Catch) (patches : List PatchCatches) (inverted : IsInverted branch patches) (known : List Needed) (are : AreKnown branch (names_in_order patches) known) (inside : length known < length patches) where
   abbrev names : List (List ℕ)
   names = names_in_order patches
@@ -155,7 +155,7 @@ module _ (branch : List Catch) (patches : List PatchCatches) (inverted : IsInver
   names_long : length names ≡ length patches
   names_long = length-map patches (λ (x : PatchCatches). x.name)
 
-  -- the patch at a place has the name there, which is marked where the place is
+  -- the name of the patch at an index is marked if the index is
   called : (place : ℕ) (p d : PatchCatches) → place < length patches → p ≡ get_or patches place d → p.name ≡ get_or names place d.name
   called place p d within is =
       ap (λ (x : PatchCatches). x.name) is ∙ sym (get_or-map (λ (x : PatchCatches). x.name) patches place d d.name within)
@@ -164,12 +164,12 @@ module _ (branch : List Catch) (patches : List PatchCatches) (inverted : IsInver
   by_place marks place p d within is =
       ap (is_among (marked names marks)) (called place p d within is) ∙ among_marked names marks place d.name inverted.are.distinct (omega (arith, within, names_long))
 
-  -- what a patch needs is among all that have it and come to the front
+  -- the dependencies of a patch are in each list that contains it and can be moved to the front
   needs_within : (p : List ℕ) (marks : List Bool) → NeedsThese branch (record { name = p; needs = marked names marks }) → (others : List (List ℕ)) → is_among others p ≡ true → ComeToFront branch others → AreAmong (marked names marks) others
   needs_within p marks these others has come x there =
       needs_are_least branch (p ∷ []) these.0 others plain these.1 (alone_among p others has) come x (sym (these.2 x) ∙ there)
 
-  -- a step of the walk, to a place before
+  -- a step of the walk, to the index before
   module _ (marks : List Bool) (place last : ℕ) (next : last ≡ place + 1) (p : PatchCatches) (going : List Catch) (before : place < length known) (is : p ≡ get_or patches place p) (so_far : ReachesTo branch patches (length known) marks last going) where
     within : place < length patches
     within = omega (arith, before, inside)
@@ -177,7 +177,7 @@ module _ (branch : List Catch) (patches : List PatchCatches) (inverted : IsInver
     now : ReachesTo branch patches from marks (place + 1) going
     now = subst (λ k. ReachesTo branch patches from marks k going) next so_far
 
-    -- a patch that comes before what goes is passed by
+    -- a patch that is moved in front of those that go is skipped
     pub step_aside : (left : List Catch) → is_marked marks place ≡ false → ComeBeforeAll p.name going p.catches.items left → ReachesTo branch patches (length known) marks place left
     step_aside left free come = record {
       long = now.long;
@@ -186,7 +186,7 @@ module _ (branch : List Catch) (patches : List PatchCatches) (inverted : IsInver
       itself = now.itself;
     }
 
-    -- one that is marked goes
+    -- a marked patch goes
     pub step_on : is_marked marks place ≡ true → ReachesTo branch patches (length known) marks place (going ++ p.catches.items)
     step_on goes = record {
       long = now.long;
@@ -195,11 +195,11 @@ module _ (branch : List Catch) (patches : List PatchCatches) (inverted : IsInver
       itself = now.itself;
     }
 
-    -- what goes is of other patches
+    -- those that go are of other patches
     pub goes_apart_from : AreApart p.name going
     goes_apart_from = back_apart patches inverted.are (marked names marks) place p p going within is now.walked
 
-    -- one that sticks is among all that have the patch and come to the front
+    -- a blocked patch is in each list that contains the patch and can be moved to the front
     sticks_within : is_marked marks place ≡ false → StickBehind p.name going p.catches.items → (others : List (List ℕ)) (n : List ℕ) → is_among others (get_or names from n) ≡ true → ComeToFront branch others → is_among others p.name ≡ true
     sticks_within free stuck others n has come =
         let held = marked names marks in
@@ -208,7 +208,7 @@ module _ (branch : List Catch) (patches : List PatchCatches) (inverted : IsInver
         let can = subst (λ l. CanGo l others) (sym inverted.inverses) (go_back inverted.forth others (subst (λ l. ComeToFront l others) inverted.plain come)) in
         held_within back others plain_back can held p.name (now.least others n has come) sticks
 
-    -- it goes, and what it needs is marked
+    -- it goes, and its dependencies are marked
     pub step_stuck : (q : Needed) → q ≡ get_or known place q → is_marked marks place ≡ false → StickBehind p.name going p.catches.items → ReachesTo branch patches (length known) (marked_in_both marks q.needs.items) place (going ++ p.catches.items)
     step_stuck q same free stuck =
         let row : List Bool = q.needs.items in
@@ -238,7 +238,7 @@ module _ (branch : List Catch) (patches : List PatchCatches) (inverted : IsInver
           itself = mark_in_both marks row from fits ∙ ap (λ b. b || is_marked row from) now.itself;
         }
 
-  -- where all places before are marked, the walk is done
+  -- if all indexes before are marked, the walk is done
   pub step_last : (marks : List Bool) (place below : ℕ) (d : PatchCatches) (going : List Catch) → place ≤ length known → place ≤ below → AreMarkedBelow marks below → ReachesTo branch patches (length known) marks place going → AreReached branch (names_in_order patches) (length known) marks
   step_last marks place below d going before all_below marked_there so_far = record {
     long = so_far.long;
@@ -257,7 +257,7 @@ module _ (branch : List Catch) (patches : List PatchCatches) (inverted : IsInver
         (needed.0, needed.1, λ x. both_ways (is_among held x) (is_among needed.0 x) (first x) (second x));
   }
 
-  -- at first the patch alone is marked, and goes
+  -- at first only the patch itself is marked and goes
   pub step_first : (marks : List Bool) (p : PatchCatches) (going : List Catch) → p ≡ get_or patches (length known) p → marks ≡ set (replicate (length known + 1) false) (length known) true → going ≡ p.catches.items → ReachesTo branch patches (length known) marks (length known) going
   step_first marks p going is first goes =
       let long : length marks ≡ from + 1 = ap length first ∙ length-set (replicate (from + 1) false) from true ∙ length-replicate (from + 1) false in
@@ -277,7 +277,7 @@ module _ (branch : List Catch) (patches : List PatchCatches) (inverted : IsInver
         itself = mine;
       }
 
--- so many patches are known
+-- the dependencies of the first patches are known
 pub record AreKnownSoFar (branch : List Catch) (names : List (List ℕ)) (count : ℕ) (all : List Needed) : Type 0 where
   pub known : AreKnown branch names all
   pub needed : AreNeeded branch names (take count names) all

@@ -1,9 +1,9 @@
--- How labels in conflict are seen, from the last catch of a branch to the first.
+-- Gathers the labels in conflict, from the last catch of a branch to the first.
 use Rattle.camp_questions.proofs.Words.{true≢false, ◌≤◌, ◌+◌, arith, drop, drop_more, get_or, length, take, ◌≡◌, ℕ, suc, Bool, true, false, cond, List, [], ◌∷◌, ◌++◌, map, Option, Some, None, refl, sym, ap, ◌∙◌, subst, none-some, eq_by_cmp, empty, get, get-empty, get-insert, contains_key, insert, find, flat_map, effect_of, Catch, Key, key_cmp, key_total, key_ties, Named, entries, entries_sorted, get-entries, len, values, MatchOption, is_some, slice_get, take_all, found_at, take_push, count_of_members, members_of, AddsAll, AreKeyed, ContextedPatch, ContextedPatches, context_key, with_member, inverse_all-append, inverse_all, AllSeenToo, SeenToo, first_with, AreSeen, IsSeen, TellNothing, told_by, append-nil, bytes_eq, filter, filter-append, ComesIf, ComesIfNamed, ComeBehind, ComesBehind, IsSideAmong, Equal-is}
 use Rattle.camp_catch.specs.declared.catches.Conflictor.{Conflictor}
 use Rattle.camp_ctx.proofs.AddResults.{same_key_of_sum}
 
--- what is told first stays where more is told behind it
+-- the entry that was gathered first stays when others follow
 first_stays : (key : Key) (xs : List ContextedPatch) (x : ContextedPatch) (found : Option ContextedPatch) → first_with key xs ≡ found → first_with key (xs ++ x ∷ []) ≡ cond (is_some found) found (first_with key (x ∷ []))
 first_stays key [] x None is = refl
 first_stays key [] x (Some y) is = absurd (none-some y is)
@@ -18,12 +18,12 @@ too_behind undone told (Some x) seen next one w v = rw w at v
 too_behind undone (Some x) None seen next one (y, adds, is) v = (y, adds, rw is at v)
 too_behind undone None None seen next one w v = rw w at v
 
--- one more is told
+-- one more entry is gathered
 pub one_more_told : (undone : List Named) (xs : List ContextedPatch) (x : ContextedPatch) (was seen next : ContextedPatches) → AllSeenToo undone xs was seen → AllSeenToo undone (x ∷ []) seen next → AllSeenToo undone (xs ++ x ∷ []) was next
 one_more_told undone xs x was seen next w v key =
     subst (λ o. SeenToo undone (get was key) o (get next key)) (sym (first_stays key xs x (first_with key xs) refl)) (too_behind undone (first_with key xs) (get was key) (get seen key) (get next key) (first_with key (x ∷ [])) (w key) (v key))
 
--- a label that is seen already stays
+-- a label that is gathered already stays
 kept_at : (undone : List Named) (x : ContextedPatch) (seen : ContextedPatches) (key : Key) (found : Option ContextedPatch) (b : Bool) → get seen key ≡ found → eq_by_cmp key_cmp key (context_key x) ≡ b → is_some (get seen (context_key x)) ≡ true → SeenToo undone found (cond b (Some x) None) (get seen key)
 kept_at undone x seen key (Some y) b is same there = is
 kept_at undone x seen key None false is same there = is
@@ -38,7 +38,7 @@ pub label_kept : (undone : List Named) (x : ContextedPatch) (seen : ContextedPat
 label_kept undone x seen there key =
     kept_at undone x seen key (get seen key) (eq_by_cmp key_cmp key (context_key x)) refl refl there
 
--- a label that is not seen yet comes in
+-- a label that is not gathered yet is inserted
 none_by : (found : Option ContextedPatch) → is_some found ≡ false → found ≡ None
 none_by None e = refl
 none_by (Some x) e = absurd (true≢false e)
@@ -64,18 +64,18 @@ by_index key [] own = refl
 by_index key (e ∷ es) own =
     λ t. cond (eq_by_cmp key_cmp key (sym (own 0 e.0 e.1 refl) t)) (Some e.1) (by_index key es (λ i k x is. own (suc i) k x is) t)
 
--- what the members of a set tell is the member with the label
+-- what the members of a set say of a label is the member with this label
 pub members_tell : (xs : ContextedPatches) → AreKeyed xs → (key : Key) → first_with key (values xs) ≡ get xs key
 members_tell xs keyed key =
     by_index key (entries xs) (λ i k x is. keyed k x (get-entries xs k ∙ found_at key_cmp key_total (entries xs) i k x is (entries_sorted xs))) ∙ sym (get-entries xs key)
 
--- one more member of the set of a conflictor is told
+-- one more member of the set of a conflictor is gathered
 pub one_member_told : (undone : List Named) (k : Conflictor) (i : ℕ) (x : ContextedPatch) (was seen next : ContextedPatches) → slice_get (members_of k.conflicts) i ≡ Some x → AllSeenToo undone (k.identity ∷ take i (members_of k.conflicts)) was seen → AllSeenToo undone (x ∷ []) seen next
     → AllSeenToo undone (k.identity ∷ take (i + 1) (members_of k.conflicts)) was next
 one_member_told undone k i x was seen next at all one =
     subst (λ l. AllSeenToo undone (k.identity ∷ l) was next) (sym (take_push (members_of k.conflicts) i x at)) (one_more_told undone (k.identity ∷ take i (members_of k.conflicts)) x was seen next all one)
 
--- where all have been, that is what the conflictor tells
+-- after all members, the result is what the conflictor says
 pub conflictor_told : (undone : List Named) (k : Conflictor) (was seen : ContextedPatches) (i n : ℕ) → AreKeyed k.conflicts → n ≡ len k.conflicts → n ≤ i → AllSeenToo undone (k.identity ∷ take i (members_of k.conflicts)) was seen
     → (key : Key) → SeenToo undone (get was key) (told_by (Catch.Conflictor k) key) (get seen key)
 conflictor_told undone k was seen i n keyed counted past all key =
@@ -113,13 +113,13 @@ one_seen_at k behind key None (Some x) now is seen (y, adds, w) =
       added = adds;
     })
 
--- one more catch tells what is seen
+-- one more catch is gathered
 pub one_seen : (k : Catch) (behind : List Catch) (seen next : ContextedPatches) (undone : List Named) → undone ≡ inverse_all (flat_map effect_of behind) → AreSeen behind seen
     → ((key : Key) → SeenToo undone (get seen key) (told_by k key) (get next key)) → AreSeen (k ∷ behind) next
 one_seen k behind seen next undone is are told key =
     one_seen_at k behind key (get seen key) (told_by k key) (get next key) refl (are key) (subst (λ u. SeenToo u (get seen key) (told_by k key) (get next key)) is (told key))
 
--- so much is seen: the labels of some last catches, and their effects taken back
+-- the state of the gathering: the labels of the last catches, and the inverses of their effects
 pub record IsSoFar (catches : List Catch) (undone : List Named) (seen : ContextedPatches) : Type 0 where
   pub back : undone ≡ inverse_all (flat_map effect_of catches)
   pub are : AreSeen catches seen
@@ -145,7 +145,7 @@ one_so_far k behind all undone more seen next is so_far told grows =
       are = one_seen k behind seen next undone so_far.back so_far.are told;
     })
 
--- ---- how the labels of a patch come behind one another
+-- ---- the labels of a patch are appended one after the other
 
 behind_all : (changes : List Named) (xs : List ContextedPatch) (x : ContextedPatch) (side next : List Named) → ComeBehind changes xs side → ComesBehind side x next → ComeBehind changes (xs ++ x ∷ []) next
 behind_all changes [] x side next is one = (next, subst (λ s. ComesBehind s x next) is one, refl)
@@ -160,7 +160,7 @@ comes_at xs x side next false all same =
 abbrev of_name : List ℕ → ContextedPatch → Bool
 of_name name x = bytes_eq name x.patch.name
 
--- the labels of a name among one more
+-- the labels of a name, with one more
 pub one_comes : (name : List ℕ) (members : List ContextedPatch) (i : ℕ) (x : ContextedPatch) (side next : List Named) → slice_get members i ≡ Some x
     → ComeBehind [] (filter (of_name name) (take i members)) side → ComesIfNamed side name x next → ComeBehind [] (filter (of_name name) (take (i + 1) members)) next
 one_comes name members i x side next at all one =

@@ -1,4 +1,4 @@
--- A patch as it stands where it was recorded.
+-- A patch as it is in the state after its record.
 use Rattle.camp_questions.proofs.Words.{◌≡◌, ℕ, ◌+◌, false, ◌||◌, cond, List, [], ◌∷◌, ◌++◌, bytes_eq, refl, ap, ◌∙◌, Primitive, Catch, catches_named, accepted_calls, changes_of, stands, RecordedIsShown, name_itself, or_parts, has_patch, is_among, name_of, recorded, filter-append, other_way}
 use Rattle.camp_call.specs.declared.calls.Call.TheVariants as call
 use Rattle.camp_repo.proofs.AcceptedSteps.{has_branch, passes}
@@ -12,14 +12,14 @@ none_named (k ∷ old) name free =
     let parts = or_parts (bytes_eq name (name_of k)) (has_patch old name) free in
     ap (λ b. cond (b || false) (k ∷ catches_named (name ∷ []) old) (catches_named (name ∷ []) old)) (other_way name (name_of k) parts.0) ∙ none_named old name parts.1
 
--- all that a record makes is of its patch
+-- all catches of a record are of its patch
 all_named : (name : List ℕ) (place : ℕ) (changes : List Primitive) → catches_named (name ∷ []) (recorded name place changes) ≡ recorded name place changes
 all_named name place [] = refl
 all_named name place (change ∷ changes) =
     let rest : List Catch = catches_named (name ∷ []) (recorded name (place + 1) changes) in
     ap (λ b. cond (b || false) (recorded name place (change ∷ []) ++ rest) rest) (name_itself name) ∙ ap (λ t. recorded name place (change ∷ []) ++ t) (all_named name (place + 1) changes)
 
--- and changes what was recorded
+-- and their changes are those that were recorded
 same_changes : (name : List ℕ) (place : ℕ) (changes : List Primitive) → changes_of (recorded name place changes) ≡ changes
 same_changes name place [] = refl
 same_changes name place (change ∷ changes) = ap (λ t. change ∷ t) (same_changes name (place + 1) changes)

@@ -36,7 +36,7 @@ module _ (state : Contents) (branch new_name : List ℕ) (catches : List Catch) 
   goes_on : List Catch → Decision
   goes_on c = refused_if (stands state.branches new_name) (PatchExists new_name) (by_size_of c)
 
-  -- what the record comes to, by its size and by what its changes lead to
+  -- the decision on the record, by its size and by what its changes lead to
   comes_to : (large : Bool) (led : Result Files Refusal) → is_too_large state.limits.catches catches changes ≡ large → changed changes tree ≡ led
       → step state (call.Record branch new_name changes) ≡ refused_if large TooLarge (record_leads state branch (catches ++ recorded new_name 1 changes) led)
   unfolding led_from by_size_of goes_on

@@ -7,7 +7,7 @@ told_valid_at : (tree : Files) (b : Bool) (identity x : ContextedPatch) (members
 told_valid_at tree true identity x members key all one is = subst (Valid tree) (same_Some identity x is) one
 told_valid_at tree false identity x members key all one is = all key x is
 
--- what a catch tells is valid in the tree behind it
+-- what a catch says of a label is valid in the tree after it
 told_valid : (tree : Files) (k : Catch) (key : Key) (x : ContextedPatch) → IsSeenFrom tree k → told_by k key ≡ Some x → Valid tree x
 told_valid tree (Plain a) key x seen is = absurd (none-some x is)
 told_valid tree (Catch.Conflictor k) key x seen is =

@@ -1,4 +1,4 @@
--- What a branch sticks on when patches are brought to its front.
+-- What blocks the patches of a branch on their way to its front.
 use Rattle.camp_questions.proofs.Words.{◌≡◌, ℕ, true, false, ◌||◌, List, [], ◌∷◌, ◌++◌, map, bytes_eq, refl, sym, ap, ◌∙◌, subst, inl, inr, map-append, list_any-append, Key, Catch, is_among, name_of, ArrangeSticks, ComesBefore, SticksBehind, StopsAt, is_among_is, not_among, or_true, same_name, keep_labels, or_cases, or_none}
 use Rattle.camp_questions.proofs.PatchFronts.{at_first}
 
@@ -6,7 +6,7 @@ use Rattle.camp_questions.proofs.PatchFronts.{at_first}
 abbrev names_at : List Catch → List (List ℕ)
 names_at list = map name_of list
 
--- catches that one passes keep their names
+-- catches that one commutes past keep their names
 names_stay : (list : List Catch) (k k' : Catch) (list' : List Catch) → ComesBefore list k k' list' → names_at list' ≡ names_at list
 names_stay [] k k' list' w = ap names_at w.1
 names_stay (j ∷ list) k k' list' w =
@@ -14,14 +14,14 @@ names_stay (j ∷ list) k k' list' w =
     let rest = names_stay list k w.0 w.2 w.3 in
     ap names_at w.5 ∙ (λ t. called t ∷ rest t)
 
--- what stops a catch is one of those before it
+-- the catch that blocks another is one of those before it
 stops_at_one : (list : List Catch) (k : Catch) (on : Key) → StopsAt list k on → is_among (names_at list) on.name ≡ true
 stops_at_one [] k on w = absurd w
 stops_at_one (j ∷ list) k on (inl w) = or_true (bytes_eq on.name (name_of j)) _ (stops_at_one list k on w)
 stops_at_one (j ∷ list) k on (inr w) = at_first (name_of j) (names_at list) on.name (ap (λ (key : Key). key.name) w.4)
 
 module _ (names own : List (List ℕ)) where
-  -- a name of a branch that is not one of those that come to the front
+  -- a name of a branch that is not one of those to be moved
   abbrev Waits : List ℕ → Type 0
   Waits name = (is_among own name ≡ true) × (is_among names name ≡ false)
 
@@ -39,7 +39,7 @@ module _ (names own : List (List ℕ)) where
         | inr e ↦ subst Waits (sym (same_name name (name_of k) (sym (or_none (bytes_eq name (name_of k))) ∙ e))) waits
       ]
 
-  -- where it sticks: `on` is one that waits, and `patch` is one that is to come
+  -- at the block, `on` is not to be moved, and `patch` is
   abbrev pub SticksBetween : Key → Key → Type 0
   SticksBetween patch on = Waits on.name × (is_among own patch.name ≡ true) × (is_among names patch.name ≡ true)
 
@@ -59,7 +59,7 @@ module _ (names own : List (List ℕ)) where
       let waits : Waits (name_of k) = (own_list (name_of k) (at_first (name_of k) (names_at list) (name_of k) refl), not_among names (name_of k) w.0) in
       sticks_behind (rest ++ k ∷ []) list patch on (one_waits k rest waits all) (λ name there. own_list name (or_true (bytes_eq name (name_of k)) _ there)) w.1
 
--- a branch sticks between a patch that is to come to its front, and one that is not
+-- a block is between a patch that is to be moved to the front, and one that is not
 pub sticks_between : (names : List (List ℕ)) (branch : List Catch) (patch on : Key) → ArrangeSticks names branch patch on → SticksBetween names (map name_of branch) patch on
 sticks_between names branch patch on w =
     sticks_behind names (map name_of branch) [] branch patch on (λ name there. cc) (λ name there. there) w

@@ -1,4 +1,4 @@
--- Two changes that change places give the same names to lines, in whatever order they come.
+-- Two changes that commute give the same names to lines in both orders.
 use Rattle.camp_questions.proofs.Words.{◌≡◌, ◌≢◌, ◌≤◌, ℕ, ◌+◌, ◌-◌, Bool, true, false, true≢false, cond, List, [], ◌∷◌, ◌++◌, map, Some, length, take, drop, bytes_eq, refl, sym, ap, ◌∙◌, subst, inl, inr, arith, empty, get, get-insert, insert, same_map, slice_range, splice, eq_by_cmp, bytes_eq-Decides, Edit, key_cmp, key_of, key_ties, key_total, label_of, Key, Named, Primitive, Add, Remove, Hunk, Catch, Known, behind_catches, behind_change, behind_hunk, names_coming, nothing_known, annotated, Annotated, StandsWithin, AreKnownIn, append_assoc, drop_at, length-append, length-take-le, take-append-drop, take_at, drop-drop, Files, Splices, FitsAll, false_from_ne_true, FinMap, SplicesLines, Align, ComesFirst, Plain, Leads, PrimitivesCommute, Commute, at_line, path_of, cut_run, equivalent_run, AppliesAll, Annotates, own_names, AnnotateAlike, OrderKeepsNames, tree_of_effects, BothPlain, CommuteCatch}
 use Rattle.camp_prim.proofs.HunksOfOneFile.{SplicesTwice, lower_first, upper_first}
 use Rattle.camp_seq.proofs.ExchangeSteps.{shared}
@@ -14,7 +14,7 @@ other_at : {X : Type 0} (a b : Key) (x y : X) (c : Bool) → eq_by_cmp key_cmp b
 other_at a b x y true e apart = absurd (apart (sym (same_key b a e)))
 other_at a b x y false e apart = refl
 
--- what is kept under one label is not changed by what is kept under another
+-- names stored under one label do not change those under another
 kept_apart : (taken : Taken) (a b : Key) (x : List (List ℕ)) → a ≢ b → get (insert taken a x) b ≡ get taken b
 kept_apart taken a b x apart =
     get-insert key_total taken a x b ∙ other_at a b (Some x) (get taken b) (eq_by_cmp key_cmp b a) refl apart
@@ -32,7 +32,7 @@ both_kept taken a b x y apart = same_map key_total key_ties _ _ (λ k.
     ∙ ap (λ z. cond (eq_by_cmp key_cmp k a) (Some x) z) (sym (get-insert key_total taken b y k))
     ∙ sym (get-insert key_total (insert taken b y) a x k))
 
--- names that are put in place of others at the line of a hunk
+-- names replaced at the line of a hunk
 module _ (names gone coming after : List (List ℕ)) (line count : ℕ) (put : SplicesLines line gone coming names after) (many : length gone ≡ count) where
   gone_is : slice_range names (line - 1) (line - 1 + count) ≡ gone
   gone_is =
@@ -47,7 +47,7 @@ module _ (names gone coming after : List (List ℕ)) (line count : ℕ) (put : S
       let rear : drop (from + count) names ≡ put.after = ap (drop (from + count)) put.was ∙ drop_at (put.before ++ gone) put.after (from + count) (length-append put.before gone ∙ omega (arith, put.at, many)) in
       (λ i. front i ++ (coming ++ rear i)) ∙ sym (append_assoc put.before coming put.after) ∙ sym put.becomes
 
--- what is known behind a hunk, where the names that go and those that come are known
+-- the state after a hunk, given the names that it removes and adds
 behind_is : (name : List ℕ) (key : Key) (hunk : Edit) (known : Known) (gone coming after : List (List ℕ)) → SplicesLines hunk.line gone coming known.names after → length gone ≡ length hunk.old
     → names_coming (get known.taken key) (own_names gone name hunk) (length hunk.new) ≡ coming → behind_hunk name key hunk known ≡ record { names = after; taken = insert known.taken key gone }
 behind_is name key hunk known gone coming after put many comes =
@@ -65,7 +65,7 @@ abbrev coming_at : List ℕ → Key → Edit → Known → List (List ℕ)
 coming_at name key hunk known =
     names_coming (get known.taken key) (own_names (gone_at known hunk) name hunk) (length hunk.new)
 
--- a hunk puts the names that come in place of those that go
+-- a hunk replaces the names that it removes by those that it adds
 puts_names : (name : List ℕ) (key : Key) (hunk : Edit) (known : Known) → 1 ≤ hunk.line → StandsWithin hunk known → SplicesLines hunk.line (gone_at known hunk) (coming_at name key hunk known) known.names (behind_hunk name key hunk known).names
 puts_names name key hunk known line within =
     let from : ℕ = hunk.line - 1 in
@@ -86,12 +86,12 @@ Turned h k at_first at_second =
     (gone coming gone' coming' old new : List (List ℕ)) → length gone ≡ length h.old → length coming ≡ length h.new → length gone' ≡ length k.old → length coming' ≡ length k.new →
     SplicesTwice h.line gone coming k.line gone' coming' old new → SplicesTwice at_first gone' coming' at_second gone coming old new
 
--- the second stands below what the first leaves
+-- the second is below what the first leaves
 turned_below : (h k : Edit) (gap : ℕ) → k.line ≡ h.line + length h.new + gap → Turned h k (h.line + length h.old + gap) h.line
 turned_below h k gap stands gone coming gone' coming' old new many comes many' comes' t =
     subst (λ l. SplicesTwice l gone' coming' h.line gone coming old new) (ap (λ c. h.line + c + gap) many) (lower_first h.line k.line gap gone coming gone' coming' old new (stands ∙ ap (λ c. h.line + c + gap) (sym comes)) t)
 
--- the first stands below what the second takes away
+-- the first is below what the second removes
 turned_above : (h k : Edit) (gap : ℕ) → h.line ≡ k.line + length k.old + gap → Turned h k k.line (k.line + length k.new + gap)
 turned_above h k gap stands gone coming gone' coming' old new many comes many' comes' t =
     subst (λ l. SplicesTwice k.line gone' coming' l gone coming old new) (ap (λ c. k.line + c + gap) comes') (upper_first h.line k.line gap gone coming gone' coming' old new (stands ∙ ap (λ c. k.line + c + gap) (sym many')) t)
@@ -157,7 +157,7 @@ module _ (n m : List ℕ) (a b : Key) (apart : a ≢ b) where
     leads_as p q r s old new e f leads =
         subst (λ x. Leads r x old new) f (subst (λ x. Leads x q old new) e leads)
 
-    -- two changes that change places
+    -- two changes that commute
     either_order : (p q q' p' : Primitive) (old new : Files) (known : Known) → PrimitivesCommute p q q' p' → Leads p q old new → AreKnownIn path old known → behind_change path m b q (behind_change path n a p known) ≡ behind_change path n a p' (behind_change path m b q' known)
     either_order p q q' p' old new known (inl s) leads are =
         two_files_at p q known (bytes_eq (path_of p) path) refl s.paths ∙ (λ i. behind_change path n a (sym s.first i) (behind_change path m b (sym s.second i) known))
@@ -181,18 +181,18 @@ module _ (path : List ℕ) where
   behind_both (p ∷ before) s known =
       behind_both before s (behind_change path p.name (key_of (label_of p)) p.prim known)
 
-  -- two patches that change places
+  -- two patches that commute
   two_swapped : (p q q' p' : Named) (old new : Files) (known : Known) → Commute p q q' p' → Leads p.prim q.prim old new → AreKnownIn path old known
       → behind_change path q.name (key_of (label_of q)) q.prim (behind_change path p.name (key_of (label_of p)) p.prim known) ≡ behind_change path p'.name (key_of (label_of p')) p'.prim (behind_change path q'.name (key_of (label_of q')) q'.prim known)
   two_swapped p q q' p' old new known s leads are =
       either_order p.name q.name (key_of (label_of p)) (key_of (label_of q)) s.anywhere.apart path p.prim q.prim q'.prim p'.prim old new known s.anywhere.change leads are
       ∙ sym (λ i. behind_change path (s.anywhere.first i).name (key_of (s.anywhere.first i)) p'.prim (behind_change path (s.anywhere.second i).name (key_of (s.anywhere.second i)) q'.prim known))
 
-  -- a list leads to this tree, and to what is known
+  -- a list leads to this tree, and to this state of the annotation
   abbrev LeadsToKnown : Files → Known → List Named → Type 0
   LeadsToKnown tree known s = AppliesAll s empty tree × (behind_catches path (map Plain s) nothing_known ≡ known)
 
-  -- one exchange of neighbours keeps it
+  -- one exchange of neighbours keeps both
   exchange_keeps : (tree : Files) (known : Known) (s t : List Named) → CommutesOnce Commute s t → LeadsToKnown tree known s → LeadsToKnown tree known t
   exchange_keeps tree known s t e (runs, is) =
       let cut = cut_run e.before (e.p ∷ e.q ∷ e.after) empty tree (subst (λ l. AppliesAll l empty tree) e.was runs) in

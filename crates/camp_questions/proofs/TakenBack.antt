@@ -1,4 +1,4 @@
--- What plain patches need is what they hold in the list taken back.
+-- The dependencies of plain patches are their dependents in the inverted list.
 use Rattle.camp_questions.proofs.Words.{◌≡◌, ℕ, Bool, true, false, true≢false, ◌||◌, List, [], ◌∷◌, ◌++◌, map, bytes_eq, refl, sym, ap, ◌∙◌, subst, AllByRecursion, map-append, list_any-append, Arrange, Catch, has_patch, is_among, name_of, is_among_is, or_true, Named, other_names, AreHeldIn, CanGo, ComeToFront, StickOn, AreAmong, IsPlain, inverse_of, inverse_all-cons, inverse_all-inverse_all, inverse_all, Plain, GrowsToFront, GrowsToGo, not, ◌&&◌, among_others, or_comm, or_none, true_from_ne_false, HasRoom, both_ways}
 use Rattle.camp_questions.proofs.PlainGoing.{IsEither, comes_taken_back}
 use Rattle.camp_questions.proofs.BranchGrowths.{to_front, to_go, stops_within}
@@ -15,14 +15,14 @@ own_primitives [] = tt
 own_primitives (p ∷ list) =
     (at_first p.name (map name_of (map Plain list)) p.name refl, all_are (λ q there. or_true (bytes_eq q.name p.name) (has_patch (map Plain list) q.name) there) list (own_primitives list))
 
--- a list and the list taken back are of the same patches
+-- a list and the inverted list are of the same patches
 same_names : (list : List Named) (n : List ℕ) → has_patch (map Plain list) n ≡ has_patch (map Plain (inverse_all list)) n
 same_names [] n = refl
 same_names (p ∷ list) n =
     let called : List Named → List (List ℕ) = λ l. map name_of (map Plain l) in
     ap (λ b. bytes_eq n p.name || b) (same_names list n) ∙ or_comm (bytes_eq n p.name) (has_patch (map Plain (inverse_all list)) n) ∙ ap (λ b. has_patch (map Plain (inverse_all list)) n || b) (sym (or_none (bytes_eq n p.name))) ∙ sym (list_any-append (bytes_eq n) (called (inverse_all list)) (p.name ∷ [])) ∙ ap (λ l. is_among l n) (sym (ap (map name_of) (map-append Plain (inverse_all list) (inverse_of p ∷ [])) ∙ map-append name_of (map Plain (inverse_all list)) (Plain (inverse_of p) ∷ []))) ∙ ap (λ l. is_among (called l) n) (sym (inverse_all-cons p list))
 
--- a patch that is among names exactly where it is not among others
+-- a patch that is among names exactly if it is not among others
 parted : (names others : List (List ℕ)) (p : Named) → is_among others p.name ≡ not (is_among names p.name) → IsEither names others p
 parted names others p opposite = record {
   not_both = λ c d. true≢false (sym ((is_among_is others p.name).0 d) ∙ opposite ∙ ap not ((is_among_is names p.name).0 c));
@@ -45,7 +45,7 @@ module _ (branch : List Catch) (names : List (List ℕ)) where
   stays_or_goes p has =
       parted (other_names branch names) names p (twice (is_among names p.name) ∙ ap not (sym (stays_if p has)))
 
--- what can go in the list taken back comes to the front of the list, and back
+-- names can be taken out of the inverted list exactly if they can be moved to the front of the list
 pub come_back : (forth : List Named) (names : List (List ℕ)) → CanGo (map Plain (inverse_all forth)) names → ComeToFront (map Plain forth) names
 come_back forth names can =
     let back : List Catch = map Plain (inverse_all forth) in
@@ -59,7 +59,7 @@ go_back forth names come =
     let own = all_are (λ p has. sym (same_names forth p.name) ∙ has) forth (own_primitives forth) in
     can_go back names (comes_taken_back (other_names back names) names forth (all_are (stays_or_goes back names) forth own) come.0 come.1 come.2)
 
--- what names hold in the list taken back, they need in the list
+-- the dependents of names in the inverted list are their dependencies in the list
 pub needed_as_held : (forth : List Named) (names grown : List (List ℕ)) → HasRoom forth → HasRoom (inverse_all forth) → GrowsToGo (map Plain (inverse_all forth)) names grown → GrowsToFront (map Plain forth) names grown
 needed_as_held forth names grown room room_back grows =
     let branch : List Catch = map Plain forth in

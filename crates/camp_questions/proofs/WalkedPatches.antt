@@ -1,4 +1,4 @@
--- One walk over patches: those that are held go, and the others come before them.
+-- One pass over patches: the dependents go, and the others are moved in front of them.
 use Rattle.camp_questions.proofs.Words.{or_none, ◌≡◌, ℕ, true, false, not, ◌&&◌, ◌||◌, List, [], ◌∷◌, ◌++◌, map, Err, bytes_eq, get_or, length, take, drop, take_more, arith, zero, suc, ◌+◌, ◌<◌, ◌≤◌, refl, sym, ap, ◌∙◌, subst, inl, inr, insert, keys, Catch, ArrangesBehind, SticksBehind, AllByRecursion, has_patch, is_among, name_of, all_append, name_itself, or_parts, or_true, among_others, other_names, AreHeldIn, CanGo, ObliterateGives, take_all, All-from_recursion, All-get_or, Names, PatchCatches, AreApart, AreOfPatch, ArePatches, catches_in_order, names_in_order, GrowsToGo, ComeBeforeAll, StickBehind, take-append-drop, flat_map-append, drop_more, Depends}
 use Rattle.camp_questions.proofs.PatchesBack.{catches-append}
 use Rattle.camp_questions.proofs.BranchGrowths.{to_go}
@@ -7,7 +7,7 @@ use Rattle.camp_questions.proofs.PartsArranged.{AgreeOn, arranged_alike, arrange
 use Rattle.camp_questions.proofs.PatchFronts.{AreNotOf, all_are, all_before, all_behind, at_first, both_are, others_stay}
 
 module _ (all : List Catch) where
-  -- the patches up to here have been walked over: those that stay are in front, and what goes is behind them
+  -- the patches up to here have been visited: those that stay are in front, and those that go after them
   pub record IsWalked (held : List (List ℕ)) (done going : List Catch) : Type 0 where
     pub first : List Catch
     pub arranged : ArrangesBehind (other_names all held) [] done first going
@@ -20,7 +20,7 @@ module _ (all : List Catch) where
   stays_if held k has =
       among_others all held (name_of k) ∙ ap (λ b. b && not (is_among held (name_of k))) has
 
-  -- where a patch is not held, its catches are among those that stay
+  -- a patch that is no dependent has its catches among those that stay
   agree : (held : List (List ℕ)) (name : List ℕ) (list : List Catch) → is_among held name ≡ false → AreThere name list → AgreeOn (name ∷ []) (other_names all held) list
   agree held name list free are =
       all_are (λ k there. at_first name [] (name_of k) there.0 ∙ sym (stays_if held k there.1 ∙ ap not (ap (is_among held) there.0 ∙ free))) list are
@@ -33,21 +33,21 @@ module _ (all : List Catch) where
   own name list are = all_are (λ k there. there.0) list are
 
   module _ (held : List (List ℕ)) (done going : List Catch) (walked : IsWalked held done going) (name : List ℕ) (list : List Catch) (are : AreThere name list) where
-    -- a patch comes before what goes
+    -- a patch is moved in front of those that go
     pub walked_aside : (left : List Catch) → is_among held name ≡ false → ComeBeforeAll name going list left → IsWalked held (done ++ list) left
     walked_aside left free come = record {
       first = walked.first ++ come.0;
       arranged = arranged_further (other_names all held) [] done list walked.first going come.0 left walked.arranged (arranged_alike (name ∷ []) (other_names all held) going list come.0 left (agree held name list free are) come.1);
     }
 
-    -- one that is held goes
+    -- a dependent goes
     pub walked_on : is_among held name ≡ true → IsWalked held (done ++ list) (going ++ list)
     walked_on goes = record {
       first = walked.first ++ [];
       arranged = arranged_further (other_names all held) [] done list walked.first going [] (going ++ list) walked.arranged (others_stay (other_names all held) going list (others held name list goes are));
     }
 
-    -- one that can not come before what goes is held
+    -- a patch that can't be moved in front of those that go is a dependent
     pub held_here : (rest : List Catch) → all ≡ done ++ (list ++ rest) → is_among held name ≡ false → StickBehind name going list → AreHeldIn all held name
     held_here rest parts free stuck =
         let alike = sticks_alike (name ∷ []) (other_names all held) going list stuck.0 stuck.1 (agree held name list free are) stuck.2 in
@@ -56,24 +56,24 @@ module _ (all : List Catch) where
         let sticks = subst (λ l. SticksBehind (other_names all held) [] l stuck.0 stuck.1) (sym parts) whole in
         (stuck.1.name, subst (λ n. ObliterateGives all held (Err (Depends n stuck.1.name))) called (inr (stuck.0, stuck.1, sticks, refl)))
 
-  -- of two sets of names, catches are of patches that are in both, or in none
+  -- two sets of names are such that each catch is of a name in both, or in none
   abbrev pub HeldAlike : List (List ℕ) → List (List ℕ) → List Catch → Type 0
   HeldAlike held next list =
       AllByRecursion (λ k. (has_patch all (name_of k) ≡ true) × (is_among next (name_of k) ≡ is_among held (name_of k))) list
 
-  -- with names that none of the patches up to here have, they are arranged as they were
+  -- names that none of the patches up to here have do not change how these are arranged
   pub walked_alike : (held next : List (List ℕ)) (done going : List Catch) → HeldAlike held next done → IsWalked held done going → IsWalked next done going
   walked_alike held next done going alike walked = record {
     first = walked.first;
     arranged = arranged_alike (other_names all held) (other_names all next) [] done walked.first going (all_are (λ k same. stays_if held k same.0 ∙ ap not (sym same.1) ∙ sym (stays_if next k same.0)) done alike) walked.arranged;
   }
 
-  -- in the end all others are in front
+  -- at the end all others are in front
   pub can_go_then : (held : List (List ℕ)) (done going : List Catch) → IsWalked held done going → done ≡ all → CanGo all held
   can_go_then held done going walked whole =
       (walked.first, inl (walked.first, going, subst (λ l. ArrangesBehind (other_names all held) [] l walked.first going) whole walked.arranged, refl))
 
-  -- so many names have come in, and the patches up to here have been walked over
+  -- the names inserted so far, and the patches up to here have been visited
   pub record IsGrown (names held : List (List ℕ)) (done going : List Catch) : Type 0 where
     pub walked : IsWalked held done going
     pub grown : IsGrownSoFar (CanGo all) (AreHeldIn all) names held
@@ -84,7 +84,7 @@ module _ (all : List Catch) where
     grown = none_grown (map name_of all) (CanGo all) (AreHeldIn all) (to_go all) names;
   }
 
-  -- a patch that can not come before what goes goes, and its name comes in
+  -- a patch that can't be moved in front of those that go is added to them, and its name is inserted
   pub one_held : (names : List (List ℕ)) (set next : Names) (done going list rest : List Catch) (name : List ℕ) → IsGrown names (keys set) done going → AreThere name list → all ≡ done ++ (list ++ rest) → AllByRecursion (λ k. (has_patch all (name_of k) ≡ true) × (bytes_eq (name_of k) name ≡ false)) done → is_among (keys set) name ≡ false → StickBehind name going list → next ≡ insert set name tt → IsGrown names (keys next) (done ++ list) (going ++ list)
   one_held names set next done going list rest name so_far are parts apart free stuck becomes =
       let held = keys set in
@@ -106,7 +106,7 @@ all_there [] = tt
 all_there (k ∷ list) =
     (at_first (name_of k) (map name_of list) (name_of k) refl, all_are (λ j there. or_true (bytes_eq (name_of j) (name_of k)) (has_patch list (name_of j)) there) list (all_there list))
 
--- the patches up to one, that one, and those behind it
+-- the patches before one, that one, and those after it
 pub patches_parted : (patches : List PatchCatches) (i : ℕ) (p d : PatchCatches) → i < length patches → p ≡ get_or patches i d → catches_in_order patches ≡ catches_in_order (take i patches) ++ (p.catches.items ++ catches_in_order (drop (i + 1) patches))
 patches_parted patches i p d within is =
     ap catches_in_order (sym (take-append-drop i patches)) ∙ flat_map-append (λ (patch : PatchCatches). patch.catches.items) (take i patches) (drop i patches) ∙ ap (λ l. catches_in_order (take i patches) ++ catches_in_order l) (drop_more patches i d within ∙ ap (λ x. x ∷ drop (i + 1) patches) (sym is))
@@ -157,9 +157,9 @@ module _ (patches : List PatchCatches) (are : ArePatches patches) (i : ℕ) (p d
       let rest = p.catches.items ++ catches_in_order (drop (i + 1) patches) in
       all_before (λ k. has_patch whole (name_of k) ≡ true) done rest (subst (AllByRecursion (λ k. has_patch whole (name_of k) ≡ true)) (patches_parted patches i p d within is) (all_there whole))
 
-  -- one more patch of several is walked over
+  -- one more patch of several is visited
   module _ (names : List (List ℕ)) (set : Names) (going : List Catch) (so_far : IsGrown whole names (keys set) done going) where
-    -- what goes so far is of other patches
+    -- those that go so far are of other patches
     pub goes_apart : AreApart p.name going
     goes_apart =
         left_apart p.name (other_names whole (keys set)) done so_far.walked.first going so_far.walked.arranged (apart_before patches i p d within is are)
@@ -181,7 +181,7 @@ module _ (patches : List PatchCatches) (are : ArePatches patches) (i : ℕ) (p d
         let apart = both_are (λ k has other. (has, other)) done done_there (apart_before patches i p d within is are) in
         subst (λ l. IsGrown whole names (keys next) l (going ++ p.catches.items)) (sym (one_more_done patches i p d within is)) (one_held whole names set next done going p.catches.items (catches_in_order (drop (i + 1) patches)) p.name so_far there_of (patches_parted patches i p d within is) apart free stuck becomes)
 
--- all have
+-- all patches have been visited
 pub past_all : (patches : List PatchCatches) (i : ℕ) (names held : List (List ℕ)) (going : List Catch) → length patches ≤ i → IsGrown (catches_in_order patches) names held (catches_in_order (take i patches)) going → GrowsToGo (catches_in_order patches) names held
 past_all patches i names held going past so_far =
     all_held (catches_in_order patches) names held (catches_in_order (take i patches)) going so_far (ap catches_in_order (take_all i patches past))

@@ -1,4 +1,4 @@
--- Words that the proofs of this crate have in common: of the standard library, of definitions, and of crates below.
+-- The words that most proofs of this crate use.
 pub use Rattle.std.proofs.Common.{Bool, Err, List, None, Ok, Option, Result, Some, [], ap, append-nil, arith, bytes_eq, cond, drop, false, filter, get_or, inl, inr, length, map, not, refl, replicate, rules, string_bytes, subst, suc, sym, take, true, true≢false, zero, ℕ, ◌&&◌, ◌++◌, ◌+◌, ◌-◌, ◌<◌, ◌==◌, ◌||◌, ◌∙◌, ◌∷◌, ◌≡◌, ◌≢◌, ◌≤◌, ◌⊎◌, set}
 pub use Rattle.std.proofs.lemmas.Fn.{filter_same}
 pub use Rattle.std.proofs.lemmas.List.{flat_map_more, append_assoc, drop-drop, drop_all, drop_at, drop_more, length-append, length-drop, length-replicate, length-take-le, map-append, take-append-drop, take_at, take_more, drop-append-le, get_or-map, get_or-reverse, get_or-set_same, get_or-take, get_or_append_left, get_or_default, get_or_past, get_or_push, length-map, length-reverse, length-set, length_push, reverse-append, reverse-reverse, take_all, with_items_is}

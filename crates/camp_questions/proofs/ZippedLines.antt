@@ -1,4 +1,4 @@
--- Two lists item by item, and the lines that two sides of a hunk have in common.
+-- Two lists item by item, and the common lines of the two sides of a hunk.
 use Rattle.camp_questions.proofs.Words.{◌≡◌, ◌≤◌, ℕ, zero, suc, ◌+◌, ◌-◌, List, [], ◌∷◌, ◌++◌, bytes_eq, drop, length, take, replicate, refl, sym, ap, ◌∙◌, subst, arith, append_assoc, drop-drop, drop_at, length-drop, length-take-le, take-append-drop, AllByRecursion, bytes_eq-Decides, Lines, Edit, length-reverse, reverse-append, reverse-reverse, AllZip, reverse, own_names, brought_by, common_end, common_front, cond_both}
 use Rattle.std.proofs.lemmas.Slice.Zip.{AllZip-long}
 use Rattle.camp_questions.proofs.CommonSteps.{end_within, end_within_too, front_within, front_within_too}
@@ -32,7 +32,7 @@ module _ {A B : Type 0} (R : A → B → Type 0) where
   zipped_replicate x us n e w =
       subst (λ m. AllZip R (replicate m x) us) e (one_for_all x us w)
 
--- what is common at the beginning of two lists of lines stands in both
+-- the common lines at the start of two lists are in both
 pub same_front : (lines others : Lines) → take (common_front lines others) lines ≡ take (common_front lines others) others
 same_front [] others = refl
 same_front (x ∷ lines) [] = refl
@@ -46,25 +46,25 @@ last_lines lines n =
     let size : length (reverse (drop n back)) ≡ length lines - n = length-reverse (drop n back) ∙ length-drop n back ∙ ap (λ k. k - n) (length-reverse lines) in
     ap (drop (length lines - n)) parts ∙ drop_at (reverse (drop n back)) (reverse (take n back)) (length lines - n) size
 
--- what is common at the end stands in both
+-- the common lines at the end are in both
 pub same_end : (lines others : Lines) → drop (length lines - common_end lines others) lines ≡ drop (length others - common_end lines others) others
 same_end lines others =
     last_lines lines (common_end lines others) ∙ ap reverse (same_front (reverse lines) (reverse others)) ∙ sym (last_lines others (common_end lines others))
 
--- the last lines of a list are those of it behind a beginning
+-- the last lines of a list are those after a prefix
 end_behind : (lines : Lines) (front end : ℕ) → front + end ≤ length lines → drop (length lines - end) lines ≡ drop (length (drop front lines) - end) (drop front lines)
 end_behind lines front end within =
     let size : length (drop front lines) ≡ length lines - front = length-drop front lines in
     sym (drop-drop (length (drop front lines) - end) front lines ∙ ap (λ n. drop n lines) {x = front + (length (drop front lines) - end)} {y = length lines - end} (omega (arith, size, within)))
 
--- new lines are those common at the beginning, those between, and those common at the end
+-- the new lines are those common at the start, those between, and those common at the end
 new_parts : (lines : Lines) (front end : ℕ) → front + end ≤ length lines → take front lines ++ take (length lines - front - end) (drop front lines) ++ drop (length lines - end) lines ≡ lines
 new_parts lines front end within =
     let between : ℕ = length lines - front - end in
     let rest : drop between (drop front lines) ≡ drop (length lines - end) lines = drop-drop between front lines ∙ ap (λ n. drop n lines) {x = front + between} {y = length lines - end} (omega (arith, within)) in
     append_assoc (take front lines) (take between (drop front lines)) (drop (length lines - end) lines) ∙ ap (λ l. take front lines ++ (take between (drop front lines) ++ l)) (sym rest) ∙ ap (λ l. take front lines ++ l) (take-append-drop between (drop front lines)) ∙ take-append-drop front lines
 
--- the names that a hunk gives to its new lines, where those that it takes away have theirs
+-- the names of the new lines of a hunk, given those of the lines that it removes
 pub own_zipped : (R : List ℕ → List ℕ → Type 0) (gone : List (List ℕ)) (name : List ℕ) (hunk : Edit) → AllZip R gone hunk.old → AllByRecursion (R name) (brought_by hunk) → AllZip R (own_names gone name hunk) hunk.new
 own_zipped R gone name hunk have own =
     let old : Lines = hunk.old in

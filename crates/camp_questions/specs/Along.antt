@@ -13,26 +13,26 @@ use Rattle.camp_questions.specs.Dependencies.{AreGrown, ComeToFront, StickOn}
 use Rattle.camp_questions.specs.declared.faults.Unanswered.{Unanswered}
 use Rattle.camp_questions.specs.declared.faults.Unanswered.TheVariants.{Refused, Memory}
 
--- what comes along with these names from one branch into another: of those that `to` lacks, behind the patches that both
--- have, while they do not come next, the name on which they stick is added
--- from <-> common behind
+-- the patches that have to be pulled from one branch into another for these names: of those that `to` lacks, which
+-- come after the common patches; while they can't be moved to the front of these, the name of the patch that blocks
+-- them is added; from <-> common behind
 abbrev pub ComesAlong : List Catch → List Catch → List (List ℕ) → List (List ℕ) → Type 0
 ComesAlong from to names told =
     (common : List Catch) × (behind : List Catch) × Arrange (common_names from to) from common behind
     × AreGrown from (ComeToFront behind) (StickOn behind) (wanted to names) told
 
--- the patches that both branches have do not come to the front of `from`: the one of this name can not
+-- the patches that both branches have can't be moved to the front of `from`: the one of this name is blocked
 abbrev pub HaveDiverged : List Catch → List Catch → List ℕ → Type 0
 HaveDiverged from to name =
     (stuck : Key) × (on : Key) × ArrangeSticks (common_names from to) from stuck on × (name ≡ stuck.name)
 
--- the names that come along, or the refusal where the branches have diverged
+-- the names to pull, or the refusal if the branches have diverged
 abbrev pub AlongOr : List Catch → List Catch → List (List ℕ) → AnswerOf (List (List ℕ)) → Type 0
 AlongOr from to names answer =
     ((told : List (List ℕ)) × (answer ≡ Ok told) × ComesAlong from to names told)
     ⊎ ((name : List ℕ) × (answer ≡ Err (Diverged name)) × HaveDiverged from to name)
 
--- a question about two branches goes on where they are not one
+-- a question about two branches: refused if they are the same branch
 abbrev pub OfTwo : {A : Type 0} → List ℕ → List ℕ → (AnswerOf A → Type 0) → AnswerOf A → Type 0
 OfTwo from to GoesOn answer = ((from ≡ to) × (answer ≡ Err (SameBranch to))) ⊎ ((from ≢ to) × GoesOn answer)
 
@@ -42,8 +42,8 @@ AreAlong state from to names =
     OfBranch state from (λ theirs. OfBranch state to (λ ours.
     OfTwo from to (OfPatches theirs names (AlongOr theirs ours names))))
 
--- there are two branches, and the first has the patches: then memory is asked for, and it may be told that it is wanting,
--- also where the branches have diverged
+-- there are two branches, and the first has the patches; only then does the question allocate, and it may run out of
+-- memory, also if the branches have diverged
 pub record MayBeTried (state : Contents) (from to : List ℕ) (names : List (List ℕ)) : Type 0 where
   pub theirs : List Catch
   pub ours : List Catch
@@ -52,7 +52,7 @@ pub record MayBeTried (state : Contents) (from to : List ℕ) (names : List (Lis
   pub are_two : from ≢ to
   pub has : first_lacked theirs names ≡ None
 
--- what the caller is told
+-- the result of the question
 abbrev pub TellsAlong : Contents → List ℕ → List ℕ → List (List ℕ) → Result (List (List ℕ)) Unanswered → Type 0
 TellsAlong state from to names (Ok told) = AreAlong state from to names (Ok told)
 TellsAlong state from to names (Err (Refused refusal)) = AreAlong state from to names (Err refusal)

@@ -1,4 +1,4 @@
--- Which patch put each line of a file there.
+-- Which patch added each line of a file.
 use Rattle.std.specs.Prelude.{◌≡◌, ℕ, ◌+◌, ◌-◌, ◌==◌, if◌then◌else◌, List, [], ◌∷◌, ◌++◌, length, take, drop, replicate, bytes_eq, Option, None, Some, Ok}
 use Rattle.std.specs.FinMap.{FinMap, empty, get, insert}
 use Rattle.std.specs.List.{slice_range, splice}
@@ -18,8 +18,8 @@ use Rattle.camp_questions.specs.CommonLines.{common_end, common_front}
 use Rattle.camp_questions.specs.declared.annotations.Annotated.{Annotated}
 use Rattle.camp_questions.specs.declared.annotations.Annotated.TheVariants.{File, NoFile}
 
--- what is known along the effects of a branch: of each line of a file the name of the patch that put it there, and
--- under the absolute label of each hunk the names of the lines that it took away
+-- the state of an annotation along the effects of a branch: for each line of a file the name of the patch that added
+-- it, and for the absolute label of each hunk the names of the lines that it removed
 pub record Known : Type 0 where
   pub names : List (List ℕ)
   pub taken : FinMap key_cmp (List (List ℕ))
@@ -28,22 +28,22 @@ pub record Known : Type 0 where
 abbrev pub nothing_known : Known
 nothing_known = record { names = []; taken = empty }
 
--- the names that a hunk gives to its new lines: those that stand on both of its sides at their beginning, and behind
--- that at their end, keep the names that they had; all others have the name of the patch
+-- the names that a hunk gives to its new lines: lines that are on both of its sides at the start or, after those, at
+-- the end keep their names; all others have the name of the patch
 abbrev pub own_names : List (List ℕ) → List ℕ → Edit → List (List ℕ)
 own_names gone name hunk =
     let front = common_front hunk.old hunk.new in
     let end = common_end (drop front hunk.old) (drop front hunk.new) in
     take front gone ++ replicate (length hunk.new - front - end) name ++ drop (length gone - end) gone
 
--- the names of the lines that come with a hunk: those of the lines that its inverse took away, where these are as many,
--- and else those that it gives them
+-- the names of the new lines of a hunk: those of the lines that its inverse removed, if there are as many, else those
+-- that the hunk itself gives
 abbrev pub names_coming : Option (List (List ℕ)) → List (List ℕ) → ℕ → List (List ℕ)
 names_coming None own count = own
 names_coming (Some taken) own count = if length taken == count then taken else own
 
--- what is known behind a hunk of the file: the lines that come have their names in place of those that go, and the
--- names of these are kept under its absolute label
+-- the state after a hunk of the file: the new lines with their names replace the old ones, whose names are stored
+-- under the absolute label of the hunk
 abbrev pub behind_hunk : List ℕ → Key → Edit → Known → Known
 behind_hunk name key hunk known =
     let from = hunk.line - 1 in
@@ -55,35 +55,35 @@ behind_hunk name key hunk known =
       taken = insert known.taken key gone;
     }
 
--- what is known of the file of a path behind a change: no other one than a hunk of this file tells more
+-- the state after a change, for the file of a path: only hunks of this file change it
 abbrev pub behind_change : List ℕ → List ℕ → Key → Primitive → Known → Known
 behind_change path name key (Add other) known = known
 behind_change path name key (Remove other) known = known
 behind_change path name key (Hunk hunk) known =
     if bytes_eq hunk.path path then behind_hunk name key hunk known else known
 
--- behind an effect of a patch, one primitive after the other
+-- after an effect of a patch, one primitive after the other
 abbrev pub behind_all : List ℕ → List ℕ → List Named → Known → Known
 behind_all path name [] known = known
 behind_all path name (p ∷ s) known =
     behind_all path name s (behind_change path name (key_of (label_of p)) p.prim known)
 
--- behind catches, one after the other
+-- after catches, one after the other
 abbrev pub behind_catches : List ℕ → List Catch → Known → Known
 behind_catches path [] known = known
 behind_catches path (k ∷ ks) known =
     behind_catches path ks (behind_all path (name_of k) (effect_of k) known)
 
--- of each line of the file of a path the name of the patch of a branch that put it there
+-- for each line of the file of a path, the name of the patch of a branch that added it
 abbrev pub names_of_lines : List ℕ → List Catch → List (List ℕ)
 names_of_lines path branch = (behind_catches path branch nothing_known).names
 
--- what is told of a path that has these lines, or no file
+-- the answer for a path that has these lines, or no file
 abbrev pub annotated : Option Lines → List (List ℕ) → Annotated
 annotated None names = NoFile
 annotated (Some lines) names = File lines names
 
--- what is told of a path of a branch: the lines that its tree has there, and their names
+-- the answer for a path of a branch: the lines that its tree has there, and their names
 abbrev pub Annotates : List Catch → List ℕ → Annotated → Type 0
 Annotates branch path told =
     (tree : Files) × LeadsTo branch tree × (told ≡ annotated (get tree path) (names_of_lines path branch))

@@ -1,4 +1,4 @@
--- What questions come to, and what their callers are told.
+-- The results of questions.
 use Rattle.std.specs.Prelude.{◌≡◌, ℕ, List, MatchOption, Result, Ok, Err}
 use Rattle.camp_catch.specs.declared.catches.Catch.{Catch}
 use Rattle.camp_branch.specs.Branches.{first_lacked}
@@ -8,28 +8,28 @@ use Rattle.camp_repo.specs.States.{Contents, catches_of}
 use Rattle.camp_questions.specs.declared.faults.Unanswered.{Unanswered}
 use Rattle.camp_questions.specs.declared.faults.Unanswered.TheVariants.{Refused, Memory}
 
--- what a question comes to: its answer, or a refusal, which is one that calls get, too
+-- the result of a question: its answer, or a refusal of the same kind as those of calls
 abbrev pub AnswerOf : Type 0 → Type 0
 AnswerOf A = Result A Refusal
 
--- a question goes on with the catches of a branch, and is refused where there is no branch of the name
+-- a question about the catches of a branch: refused if there is no branch of the name
 abbrev pub OfBranch : {A : Type 0} → Contents → List ℕ → (List Catch → AnswerOf A → Type 0) → AnswerOf A → Type 0
 OfBranch state branch GoesOn answer =
     MatchOption (catches_of state.branches branch) (answer ≡ Err (NoBranch branch)) (λ catches. GoesOn catches answer)
 
--- a question goes on where a branch has the patches of all these names, and is refused for the first that it lacks
+-- a question about patches of a branch: refused with the first of these names that it lacks
 abbrev pub OfPatches : {A : Type 0} → List Catch → List (List ℕ) → (AnswerOf A → Type 0) → AnswerOf A → Type 0
 OfPatches catches names GoesOn answer =
     MatchOption (first_lacked catches names) (GoesOn answer) (λ name. answer ≡ Err (NoPatch name))
 
--- a caller is told what the question comes to; want of memory is told only where there is an answer, and no refusal
+-- the reported result is the one defined; out of memory is reported only if there is an answer, and no refusal
 abbrev pub Tells : {A : Type 0} → (AnswerOf A → Type 0) → Result A Unanswered → Type 0
 Tells ComesTo (Ok answer) = ComesTo (Ok answer)
 Tells ComesTo (Err (Refused refusal)) = ComesTo (Err refusal)
 Tells {A} ComesTo (Err Memory) = (answer : A) × ComesTo (Ok answer)
 
--- the same of a question whose answer is not made before memory is asked for: want of memory is told only where it is not
--- refused
+-- the same of a question that allocates before its answer is known: out of memory is reported only if the question is
+-- not refused
 abbrev pub TellsOrWants : {A : Type 0} → (AnswerOf A → Type 0) → Result A Unanswered → Type 0
 TellsOrWants ComesTo (Ok answer) = ComesTo (Ok answer)
 TellsOrWants ComesTo (Err (Refused refusal)) = ComesTo (Err refusal)

@@ -1,20 +1,20 @@
--- What two lists of lines have in common at their ends.
+-- The common lines of two lists at their start and end.
 use Rattle.std.specs.Prelude.{ℕ, zero, suc, ◌-◌, [], ◌∷◌, length, take, drop, reverse, bytes_eq, if◌then◌else◌}
 use Rattle.camp_base.specs.Trees.{Lines}
 use Rattle.camp_prim.specs.Hunks.{Edit}
 
--- how many lines are the same at the beginning of both
+-- the number of equal lines at the start of both
 abbrev pub common_front : Lines → Lines → ℕ
 common_front [] others = zero
 common_front (line ∷ lines) [] = zero
 common_front (line ∷ lines) (other ∷ others) = if bytes_eq line other then suc (common_front lines others) else zero
 
--- how many at the end of both
+-- the number of equal lines at the end of both
 abbrev pub common_end : Lines → Lines → ℕ
 common_end lines others = common_front (reverse lines) (reverse others)
 
--- the lines that a hunk brings: its new ones but for those that stand on both of its sides at their beginning, and
--- behind that at their end
+-- the lines that a hunk adds: its new ones without those that are on both of its sides at the start or, after those,
+-- at the end
 abbrev pub brought_by : Edit → Lines
 brought_by hunk =
     let front = common_front hunk.old hunk.new in

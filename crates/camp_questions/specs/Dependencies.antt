@@ -1,4 +1,4 @@
--- Which patches others need in a branch, and which must go with others that are taken out.
+-- Dependencies and dependents of patches in a branch.
 use Rattle.std.specs.Prelude.{◌≡◌, ℕ, List, [], ◌∷◌, ◌++◌, filter, Ok, Err}
 use Rattle.camp_prim.specs.declared.labels.Key.{Key}
 use Rattle.camp_catch.specs.Arranging.{Arrange, ArrangeSticks}
@@ -9,11 +9,12 @@ use Rattle.camp_branch.specs.declared.faults.Blocked.TheVariants.{Depends}
 use Rattle.camp_repo.specs.States.{Contents}
 use Rattle.camp_questions.specs.Answers.{AnswerOf, OfBranch, OfPatches}
 
--- the patches of these names come to the front of a branch
+-- the patches of these names can be moved to the front of a branch
 abbrev pub ComeToFront : List Catch → List (List ℕ) → Type 0
 ComeToFront branch names = (first : List Catch) × (rest : List Catch) × Arrange names branch first rest
 
--- on their way to the front of a branch the patches of these names stick: one of them can not pass that of this name
+-- the patches of these names can't be moved to the front of a branch: one of them is blocked by the patch of this
+-- name
 abbrev pub StickOn : List Catch → List (List ℕ) → List ℕ → Type 0
 StickOn branch names name = (patch : Key) × (on : Key) × ArrangeSticks names branch patch on × (name ≡ on.name)
 
@@ -21,12 +22,12 @@ StickOn branch names name = (patch : Key) × (on : Key) × ArrangeSticks names b
 abbrev pub CanGo : List Catch → List (List ℕ) → Type 0
 CanGo branch names = (left : List Catch) × ObliterateGives branch names (Ok left)
 
--- the patches of these names are held in a branch: the patch of this name depends on one of them
+-- the patches of these names can't be taken out of a branch: the patch of this name depends on one of them
 abbrev pub AreHeldIn : List Catch → List (List ℕ) → List ℕ → Type 0
 AreHeldIn branch names name = (on : List ℕ) × ObliterateGives branch names (Err (Depends name on))
 
--- the names that are added one after the other: none where what there is does it, and else the one that stops it, and
--- then those that are added to what there is with that one
+-- the names that are added one after the other: none if the names do, else the one that stops them, followed by those
+-- that are added to the names with that one
 abbrev pub AreAdded :
     (List (List ℕ) → Type 0) → (List (List ℕ) → List ℕ → Type 0) → List (List ℕ) → List (List ℕ) → Type 0
 AreAdded Done Stops names [] = Done names
@@ -42,16 +43,17 @@ abbrev pub AreGrown :
 AreGrown branch Done Stops names grown =
     (added : List (List ℕ)) × AreAdded Done Stops names added × (grown ≡ in_order branch (names ++ added))
 
--- what these names need in a branch: while they do not come to its front, the name on which they stick is added
+-- the dependencies of these names in a branch: while they can't be moved to its front, the name of the patch that
+-- blocks them is added
 abbrev pub Needs : List Catch → List (List ℕ) → List (List ℕ) → Type 0
 Needs branch names needed = AreGrown branch (ComeToFront branch) (StickOn branch) names needed
 
--- what is held by these names in a branch: while they can not be taken out, the name of a patch that depends on one of
--- them is added
+-- the dependents of these names in a branch: while they can't be taken out, the name of a patch that depends on one
+-- of them is added
 abbrev pub HeldBy : List Catch → List (List ℕ) → List (List ℕ) → Type 0
 HeldBy branch names held = AreGrown branch (CanGo branch) (AreHeldIn branch) names held
 
--- a question for names that have some relation to these in a branch, which has the patches of these
+-- a question for names that have a relation to these in a branch, which has the patches of these
 abbrev pub OfNames :
     (List Catch → List (List ℕ) → List (List ℕ) → Type 0) → Contents → List ℕ → List (List ℕ)
     → AnswerOf (List (List ℕ)) → Type 0
@@ -59,10 +61,10 @@ OfNames Relates state branch names =
     OfBranch state branch (λ catches.
     OfPatches catches names (λ answer. (related : List (List ℕ)) × (answer ≡ Ok related) × Relates catches names related))
 
--- what these names need in a branch
+-- the dependencies of these names in a branch
 abbrev pub AreNeeded : Contents → List ℕ → List (List ℕ) → AnswerOf (List (List ℕ)) → Type 0
 AreNeeded = OfNames Needs
 
--- the names that must go with these where they are taken out of a branch
+-- the names that must be taken out of a branch together with these
 abbrev pub AreHeldBy : Contents → List ℕ → List (List ℕ) → AnswerOf (List (List ℕ)) → Type 0
 AreHeldBy = OfNames HeldBy

@@ -1,4 +1,4 @@
--- What one branch has and another lacks.
+-- The patches that one branch has and another lacks.
 use Rattle.std.specs.Prelude.{◌≡◌, ℕ, not, List, filter, Ok}
 use Rattle.camp_catch.specs.declared.catches.Catch.{Catch}
 use Rattle.camp_branch.specs.Branches.{has_patch, names_of}
@@ -9,7 +9,7 @@ use Rattle.camp_questions.specs.Answers.{AnswerOf, OfBranch}
 abbrev pub missing_in : List Catch → List Catch → List (List ℕ)
 missing_in ours theirs = filter (λ name. not (has_patch ours name)) (names_of theirs)
 
--- what the branch `from` has and `to` lacks
+-- the patches that the branch `from` has and `to` lacks
 abbrev pub IsMissing : Contents → List ℕ → List ℕ → AnswerOf (List (List ℕ)) → Type 0
 IsMissing state from to =
     OfBranch state from (λ theirs. OfBranch state to (λ ours answer. answer ≡ Ok (missing_in ours theirs)))

@@ -1,4 +1,4 @@
--- What a repository and its branches have.
+-- The contents of a repository and its branches.
 use Rattle.std.specs.Prelude.{◌≡◌, ℕ, List, map, Option, Ok}
 use Rattle.std.specs.FinMap.{get}
 use Rattle.camp_base.specs.Trees.{Files, Lines}
@@ -11,7 +11,7 @@ use Rattle.camp_questions.specs.Answers.{AnswerOf, OfBranch}
 abbrev pub branch_names : Contents → List (List ℕ)
 branch_names state = map (λ branch. branch.0) state.branches
 
--- a branch has this at a path: the lines of its file there, or no file
+-- the lines of the file of a path in a branch, or no file
 abbrev pub HasAt : List Catch → List ℕ → Option Lines → Type 0
 HasAt branch path lines = (tree : Files) × LeadsTo branch tree × (lines ≡ get tree path)
 

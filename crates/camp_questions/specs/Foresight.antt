@@ -1,4 +1,4 @@
--- What a call would come to, which is told without asking it.
+-- The result that a call would have, without executing it.
 use Rattle.std.specs.Prelude.{◌≡◌, ◌⊎◌, ℕ, List, Option, None, Some}
 use Rattle.camp_call.specs.declared.calls.Call.{Call}
 use Rattle.camp_call.specs.declared.calls.Call.TheVariants as call
@@ -18,12 +18,12 @@ branch_written (call.Pull from to names) = Some to
 branch_written (call.Obliterate branch names) = Some branch
 branch_written other = None
 
--- a branch stands so in a state: with the tree and the conflicts that the questions for them are answered
+-- the state of a branch: the tree and the conflicts with which questions for them are answered
 pub record StandsIn (state : Contents) (standing : Standing) : Type 0 where
   pub tree : step state (call.Tree standing.branch) ≡ Answer (reply.Tree standing.tree)
   pub conflicts : step state (call.Conflicts standing.branch) ≡ Answer (reply.Conflicts standing.conflicts)
 
--- a call would be accepted: it is told its number, and the branch that it writes to stands so in the next state
+-- a call would be accepted: its reply has this number, and the branch that it writes to has this state then
 pub record IsAcceptedSo (call : Call) (next : Contents) (seen : Foreseen) : Type 0 where
   pub told : seen.reply ≡ reply.Done next.count
   pub standing : Standing
@@ -31,15 +31,15 @@ pub record IsAcceptedSo (call : Call) (next : Contents) (seen : Foreseen) : Type
   pub written : branch_written call ≡ Some standing.branch
   pub stands : StandsIn next standing
 
--- what is foreseen of a decision: that of a call that is accepted, or the answer alone
+-- the foreseen result of a decision: that of a call that is accepted, or the reply alone
 abbrev pub ForeseesOf : Call → Decision → Foreseen → Type 0
 ForeseesOf call (Next next) seen = IsAcceptedSo call next seen
 ForeseesOf call (Answer answer) seen = (seen.reply ≡ answer) × (seen.changed ≡ None)
 
--- what is foreseen of a call at a state
+-- the foreseen result of a call at a state
 abbrev pub Foresees : Contents → Call → Foreseen → Type 0
 Foresees state call seen = ForeseesOf call (step state call) seen
 
--- to foresee a call may want memory where the call may want it, or is accepted
+-- foreseeing a call may run out of memory if the call may, or if it is accepted
 abbrev pub MayWantForesight : Contents → Call → Type 0
 MayWantForesight state call = MayWant state call ⊎ ((next : Contents) × (step state call ≡ Next next))

@@ -1,30 +1,30 @@
--- Pictures as text, in DOT, the language of Graphviz.
+-- Graphs as text, in DOT, the language of Graphviz.
 use Rattle.std.specs.Prelude.{ℕ, Bool, ◌&&◌, List, ◌++◌, bytes_eq, codes, if◌then◌else◌}
 use Rattle.std.specs.List.{flat_map, list_any}
 use Rattle.camp_questions.specs.Pictures.{Picture}
 use Rattle.camp_questions.specs.declared.graphs.Node.{Node}
 
--- a name between quotes; no byte of a name has a meaning there
+-- a name in quotes; no byte of a name has a special meaning there
 abbrev pub quoted : List ℕ → List ℕ
 quoted name = codes "\"" ++ name ++ codes "\""
 
--- two spaces, "NAME" -> "NAME", and what stands behind that on its line
+-- two spaces, "NAME" -> "NAME", and the attributes at the end of the line
 abbrev pub arrow_text : List ℕ → List ℕ → List ℕ → List ℕ
 arrow_text name other behind = codes "  " ++ quoted name ++ codes " -> " ++ quoted other ++ behind ++ codes "\n"
 
--- a line for a patch, and one for each that it needs directly
+-- a line for a patch, and one for each of its direct dependencies
 abbrev pub node_text : Node → List ℕ
 node_text node =
     codes "  " ++ quoted node.name ++ codes ";\n" ++ flat_map (λ on. arrow_text node.name on (codes ";")) node.needs
 
--- how a conflict is drawn: without a head and without influence on where patches stand; one that is open bold and red, and
--- one that is settled dashed and pale
+-- the attributes of a conflict: without arrowhead and without influence on the layout; an unresolved one is bold and
+-- red, a resolved one dashed and pale
 abbrev pub conflict_style : Bool → List ℕ
 conflict_style is_open =
     if is_open then codes " [dir=none, constraint=false, color=red, style=bold];"
     else codes " [dir=none, constraint=false, color=rosybrown2, style=dashed];"
 
--- whether a pair is one of some
+-- a pair is in a list of pairs
 abbrev pub is_pair_among : List (List ℕ × List ℕ) → List ℕ × List ℕ → Bool
 is_pair_among pairs pair = list_any (λ other. bytes_eq pair.0 other.0 && bytes_eq pair.1 other.1) pairs
 
@@ -32,12 +32,12 @@ is_pair_among pairs pair = list_any (λ other. bytes_eq pair.0 other.0 && bytes_
 abbrev pub conflict_text : List (List ℕ × List ℕ) → List ℕ × List ℕ → List ℕ
 conflict_text pairs pair = arrow_text pair.0 pair.1 (conflict_style (is_pair_among pairs pair))
 
--- from left to right a patch, what it needs, and what that needs, with names in boxes
+-- the header: from left to right a patch, its dependencies, and theirs, with names in boxes
 abbrev pub heading : List ℕ
 heading =
     codes "digraph {\n  rankdir=LR;\n  node [shape=box, style=rounded, height=0.3];\n  edge [color=gray50, arrowsize=0.6];\n"
 
--- the patches in their order, and then the pairs in conflict
+-- the patches in order, followed by the pairs in conflict
 abbrev pub graph_text : Picture → List ℕ
 graph_text picture =
     heading ++ flat_map node_text picture.patches ++ flat_map (conflict_text picture.unsettled) picture.conflicts

@@ -1,4 +1,4 @@
--- The patches of a branch, what each needs directly, and which are in conflict.
+-- The patches of a branch, their direct dependencies, and the conflicts between them.
 use Rattle.std.specs.Prelude.{◌≡◌, ℕ, Bool, not, ◌&&◌, List, [], ◌∷◌, map, filter, bytes_eq, Ok}
 use Rattle.std.specs.List.{AllByRecursion, list_any}
 use Rattle.camp_catch.specs.declared.catches.Catch.{Catch}
@@ -9,40 +9,40 @@ use Rattle.camp_questions.specs.Answers.{AnswerOf, OfBranch}
 use Rattle.camp_questions.specs.Dependencies.{Needs}
 use Rattle.camp_questions.specs.declared.graphs.Node.{Node}
 
--- a patch with the names of all that it needs, its own among them
+-- a patch with the names of all its dependencies, and its own
 pub record Needing : Type 0 where
   pub name : List ℕ
   pub needs : List (List ℕ)
 
--- a patch of a branch needs these
+-- these are the dependencies of a patch in a branch
 abbrev pub NeedsThese : List Catch → Needing → Type 0
 NeedsThese branch patch =
     (needed : List (List ℕ)) × Needs branch (patch.name ∷ []) needed
     × ((name : List ℕ) → is_among patch.needs name ≡ is_among needed name)
 
--- whether a patch needs another one
+-- a patch depends on another
 abbrev pub needs_other : Needing → List ℕ → Bool
 needs_other patch name = not (bytes_eq name patch.name) && is_among patch.needs name
 
--- whether another one that a patch needs needs this one
+-- another dependency of a patch depends on this one
 abbrev pub goes_between : Needing → List ℕ → Needing → Bool
 goes_between patch name other = needs_other patch other.name && needs_other other name
 
--- whether a patch needs another one directly: it needs it, and no other one that it needs does
+-- a patch depends directly on another: no other dependency of it does
 abbrev pub needs_directly : List Needing → Needing → List ℕ → Bool
 needs_directly all patch name = needs_other patch name && not (list_any (goes_between patch name) all)
 
--- a patch of a branch with what it needs directly, in the order of the branch
+-- a patch of a branch with its direct dependencies, in the order of the branch
 abbrev pub node_of : List Catch → List Needing → Needing → Node
 node_of branch all patch =
     record { name = patch.name; needs = filter (needs_directly all patch) (names_of branch) }
 
--- patches with what they need, and the pairs of those that are in conflict
+-- patches with their dependencies, and the pairs of those that are in conflict
 pub record Drawn : Type 0 where
   pub patches : List Node
   pub conflicts : List (List ℕ × List ℕ)
 
--- the patches of a branch in its order, with what they need directly, and the pairs that are in conflict
+-- the patches of a branch in its order, with their direct dependencies, and the pairs that are in conflict
 pub record IsGraph (branch : List Catch) (graph : Drawn) : Type 0 where
   pub all : List Needing
   pub names : map (λ (patch : Needing). patch.name) all ≡ names_of branch

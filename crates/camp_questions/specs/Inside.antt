@@ -1,4 +1,4 @@
--- What only functions that stay within the crate say.
+-- Definitions that only private functions use.
 pub mod Alongside
 pub mod ByPatch
 pub mod ByPlace

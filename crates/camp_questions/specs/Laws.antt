@@ -48,8 +48,8 @@ use Rattle.camp_questions.specs.declared.foresight.Foreseen.{Foreseen}
 use Rattle.camp_questions.specs.declared.foresight.Standing.{Standing}
 use Rattle.camp_questions.specs.declared.graphs.Node.{Node}
 
--- a pull without names that is accepted gives a branch its old names and then those that it was missing; where it is
--- missing none, such a pull has nothing to do
+-- a pull without names that is accepted appends to a branch the names that it was missing; if it misses none, such a
+-- pull has nothing to do
 pub record MissingIsPulled : Type 0 where
   pub comes :
       (state next : Contents) (from to : List ℕ) (theirs ours new : List Catch) → IsLawfulState state →
@@ -60,80 +60,82 @@ pub record MissingIsPulled : Type 0 where
       Has state from theirs → Has state to ours → from ≢ to → missing_in ours theirs ≡ [] →
       step state (call.Pull from to None) ≡ refused NothingToDo
 
--- some names are all among others
+-- each of some names is among others
 abbrev pub AreAmong : List (List ℕ) → List (List ℕ) → Type 0
 AreAmong names others = (name : List ℕ) → is_among names name ≡ true → is_among others name ≡ true
 
--- a name was met on the way from some names to others: by names between the two, which it stops
+-- a name was added on the way from some names to others: it stops some names between the two
 abbrev pub WasMet : (List (List ℕ) → List ℕ → Type 0) → List (List ℕ) → List (List ℕ) → List ℕ → Type 0
 WasMet Stops names grown name =
     (between : List (List ℕ)) × AreAmong names between × AreAmong between grown × Stops between name
 
--- what was grown from some names has these, and each other name of it was met on the way
+-- the grown names have all they started from, and each other one was added on the way
 pub record GrewFrom (Stops : List (List ℕ) → List ℕ → Type 0) (names grown : List (List ℕ)) : Type 0 where
   pub has : AreAmong names grown
   pub met :
       (name : List ℕ) → is_among grown name ≡ true → is_among names name ≡ false → WasMet Stops names grown name
 
--- what patches of a branch need comes to the front of it, and has grown from them by what they stick on
+-- the dependencies of patches of a branch can be moved to its front, and have grown from the patches by what blocks
+-- them
 abbrev pub NeedsComeFirst : Type 0
 NeedsComeFirst =
     (branch : List Catch) (names needed : List (List ℕ)) → first_lacked branch names ≡ None → Needs branch names needed →
     ComeToFront branch needed × GrewFrom (StickOn branch) names needed
 
--- of some names, one list is needed
+-- each list of names has exactly one list of dependencies
 abbrev pub NeedsAreDetermined : Type 0
 NeedsAreDetermined = (branch : List Catch) (names : List (List ℕ)) → ExactlyOne (Needs branch names)
 
--- a branch has plain catches alone, and their patches have room
+-- a branch has plain catches only, and their patches have headroom
 pub record IsPlain (branch : List Catch) : Type 0 where
   pub patches : List Named
   pub are : branch ≡ map Plain patches
   pub room : HasRoom patches
 
--- of a branch with plain catches alone that have room, what names need is among all others that have these names among
--- them and come to its front
+-- in a branch with plain catches only that have headroom, the dependencies of names are among all names that contain
+-- these and can be moved to its front
 abbrev pub NeedsAreLeast : Type 0
 NeedsAreLeast =
     (branch : List Catch) (names needed others : List (List ℕ)) → IsPlain branch → Needs branch names needed →
     AreAmong names others → ComeToFront branch others → AreAmong needed others
 
--- of a branch with plain catches alone that have room, what names hold is among all others that have these names among
--- them and can go
+-- in a branch with plain catches only that have headroom, the dependents of names are among all names that contain
+-- these and can be taken out
 abbrev pub HeldIsLeast : Type 0
 HeldIsLeast =
     (branch : List Catch) (names held others : List (List ℕ)) → IsPlain branch → HeldBy branch names held →
     AreAmong names others → CanGo branch others → AreAmong held others
 
--- of a branch with plain catches alone that have room, what is needed can be pulled into a branch that has none of it:
--- such a pull does not fail because one of its patches depends on another patch
+-- in a branch with plain catches only that have headroom, the dependencies can be pulled into a branch that has none
+-- of them: such a pull does not fail because one of its patches depends on another patch
 abbrev pub NeedsCanBePulled : Type 0
 NeedsCanBePulled =
     (from to : List Catch) (names needed : List (List ℕ)) → IsPlain from → first_lacked from names ≡ None →
     Needs from names needed → ((name : List ℕ) → is_among needed name ≡ true → has_patch to name ≡ false) →
     (patch on : List ℕ) → ¬ (PullGives from to needed (Err (blocked.Depends patch on)))
 
--- of a branch with plain catches alone that have room, one patch needs another exactly where the other holds it
+-- in a branch with plain catches only that have headroom, one patch depends on another exactly if it is a dependent
+-- of the other
 abbrev pub NeedsAndHeldAreOne : Type 0
 NeedsAndHeldAreOne =
     (branch : List Catch) (name other : List ℕ) (needed held : List (List ℕ)) → IsPlain branch →
     has_patch branch name ≡ true → has_patch branch other ≡ true → Needs branch (other ∷ []) needed →
     HeldBy branch (name ∷ []) held → (is_among needed name ≡ true) ↔ (is_among held other ≡ true)
 
--- an obliteration of what is held by patches of a branch is accepted, and it has grown from them by what depends on
--- them
+-- an obliteration of patches of a branch together with their dependents is accepted, and these have grown from the
+-- patches by what depends on them
 abbrev pub HeldCanGo : Type 0
 HeldCanGo =
     (state : Contents) (name : List ℕ) (branch : List Catch) (names held : List (List ℕ)) → Has state name branch →
     first_lacked branch names ≡ None → names ≢ [] → HeldBy branch names held →
     ((next : Contents) × (step state (call.Obliterate name held) ≡ Next next)) × GrewFrom (AreHeldIn branch) names held
 
--- by some names, one list is held
+-- each list of names has exactly one list of dependents
 abbrev pub HeldIsDetermined : Type 0
 HeldIsDetermined = (branch : List Catch) (names : List (List ℕ)) → ExactlyOne (HeldBy branch names)
 
--- each line of a file has a name, and each name is that of a patch of the branch; and where a hunk that takes away what
--- is there is undone, all lines have the names that they had
+-- each line of a file has a name, and each name is that of a patch of the branch; when a hunk is undone, all lines
+-- have the names that they had
 pub record LinesHaveNames : Type 0 where
   pub each :
       (branch : List Catch) (path : List ℕ) (tree : Files) (lines : Lines) → LeadsTo branch tree →
@@ -145,47 +147,47 @@ pub record LinesHaveNames : Type 0 where
       hunk.line - 1 + length hunk.old ≤ length known.names →
       (behind_hunk other key (flipped hunk) (behind_hunk name key hunk known)).names ≡ known.names
 
--- a line is among those that a hunk of a file brings, which is among the changes that a patch has in a branch
+-- a line is one that a hunk of a file adds, and the hunk is among the changes that a patch has in a branch
 pub record IsBrought (branch : List Catch) (path name line : List ℕ) : Type 0 where
   pub hunk : Edit
   pub change : Contains (patch_in branch name).changes (Hunk hunk)
   pub file : hunk.path ≡ path
   pub brings : Contains (brought_by hunk) line
 
--- a hunk of the file of another one puts back the lines that this took away
+-- a hunk of the file of another one restores the lines that this one removed
 abbrev pub PutsBack : Edit → Primitive → Type 0
 PutsBack hunk (Add path) = Unit {0}
 PutsBack hunk (Remove path) = Unit {0}
 PutsBack hunk (Hunk other) = other.path ≡ hunk.path → other.new ≡ hunk.old
 
--- whatever comes again under the absolute label of a hunk puts back the lines that the hunk took away
+-- whatever comes again under the absolute label of a hunk restores the lines that the hunk removed
 abbrev pub ComeAgainAsInverses : List Named → Type 0
 ComeAgainAsInverses [] = Unit {0}
 ComeAgainAsInverses (p ∷ s) =
     ((hunk : Edit) → p.prim ≡ Hunk hunk → AllByRecursion (λ q. SameKey p q → PutsBack hunk q.prim) s)
     × ComeAgainAsInverses s
 
--- each line that is told of the file of a path was brought by a hunk of the patch whose name it has
+-- each line in the answer for a path was added by a hunk of the patch whose name it has
 abbrev pub EachIsBrought : List Catch → List ℕ → Type 0
 EachIsBrought branch path =
     (lines : Lines) (names : List (List ℕ)) → Annotates branch path (File lines names) →
     AllZip (IsBrought branch path) names lines
 
--- each line was brought by its patch where the effects of a branch come again as inverses; so do those of a lawful
--- branch with plain catches alone
+-- each line was added by its patch if the effects of a branch come again only as inverses, as those of a lawful
+-- branch with plain catches only do
 pub record LinesAreBrought : Type 0 where
   pub come_again :
       (branch : List Catch) (path : List ℕ) → ComeAgainAsInverses (flat_map effect_of branch) → EachIsBrought branch path
   pub plain :
       (patches : List Named) (path : List ℕ) → IsLawfulBranch (map Plain patches) → EachIsBrought (map Plain patches) path
 
--- two branches tell the same of each path: the same lines, with the same names
+-- two branches give the same answer for each path: the same lines, with the same names
 abbrev pub AnnotateAlike : List Catch → List Catch → Type 0
 AnnotateAlike branch other =
     (path : List ℕ) (told : Annotated) → Annotates branch path told ↔ Annotates other path told
 
--- plain patches tell the same in whatever order they come: where they become others by commuting neighbours, and where
--- they are brought into the order of some labels, as a pull does with those that two branches have
+-- plain patches give the same answer in whatever order they are: after commutes of neighbours, and after reordering
+-- by labels, as a pull does with common patches
 pub record OrderKeepsNames : Type 0 where
   pub swapped :
       (patches others : List Named) → patches ~ others → AnnotateAlike (map Plain patches) (map Plain others)
@@ -193,24 +195,24 @@ pub record OrderKeepsNames : Type 0 where
       (patches : List Named) (order : List Key) (other : List Catch) → Align order (map Plain patches) other →
       AnnotateAlike (map Plain patches) other
 
--- a patch is shown, in the state after its record, with the changes that were recorded
+-- in the state after its record, a patch is shown with the changes that were recorded
 abbrev pub RecordedIsShown : Type 0
 RecordedIsShown =
     (state next : Contents) (branch name : List ℕ) (changes : List Primitive) (catches : List Catch) → IsLawfulState state →
     step state (call.Record branch name changes) ≡ Next next → Has next branch catches →
     patch_in catches name ≡ record { catches = recorded name 1 changes; changes = changes }
 
--- a patch of a branch needs another one
+-- a patch of a branch depends on another one
 abbrev pub NeedsPatch : List Catch → List ℕ → List ℕ → Type 0
 NeedsPatch branch name other =
     (other ≢ name) × ((needed : List (List ℕ)) × Needs branch (name ∷ []) needed × (is_among needed other ≡ true))
 
--- it needs it directly: no other one that it needs needs that one
+-- it depends on it directly: no other dependency of it does
 pub record NeedsDirectly (branch : List Catch) (name other : List ℕ) : Type 0 where
   pub needs : NeedsPatch branch name other
   pub none_between : (between : List ℕ) → NeedsPatch branch name between → ¬ (NeedsPatch branch between other)
 
--- the arrows of a graph lead from each patch to just those that it needs directly
+-- the arrows of a graph lead from each patch to exactly its direct dependencies
 abbrev pub ArrowsAreDirectNeeds : Type 0
 ArrowsAreDirectNeeds =
     (branch : List Catch) (graph : Drawn) → IsGraph branch graph →
@@ -222,26 +224,26 @@ abbrev pub Arrow : Drawn → List ℕ → List ℕ → Type 0
 Arrow graph name other =
     (node : Node) × Contains graph.patches node × (node.name ≡ name) × (is_among node.needs other ≡ true)
 
--- one name stands before another among some
+-- one name comes before another in a list
 pub record StandsBefore (names : List (List ℕ)) (first second : List ℕ) : Type 0 where
   pub before : List (List ℕ)
   pub between : List (List ℕ)
   pub behind : List (List ℕ)
   pub are : names ≡ before ++ first ∷ (between ++ second ∷ behind)
 
--- in the graph of a lawful branch, arrows lead backwards: each from a patch to one that stands before it
+-- in the graph of a lawful branch, arrows lead backwards: each from a patch to one before it
 abbrev pub ArrowsLeadBackwards : Type 0
 ArrowsLeadBackwards =
     (branch : List Catch) (graph : Drawn) → IsLawfulBranch branch → IsGraph branch graph → (name other : List ℕ) →
     Arrow graph name other → StandsBefore (names_of branch) other name
 
--- what is reached from a patch along arrows: the patch, and what is reached from where an arrow of it leads
+-- the patches reached from a patch along arrows: itself, and those reached from the heads of its arrows
 pub data IsReached : Drawn → List ℕ → List ℕ → Type 0 where
   itself : {graph : Drawn} {name : List ℕ} → IsReached graph name name
   along : {graph : Drawn} {name between other : List ℕ} → Arrow graph name between → IsReached graph between other → IsReached graph name other
 
--- in the graph of a lawful branch with plain catches alone that have room, what a patch needs is what is reached from
--- it
+-- in the graph of a lawful branch with plain catches only that have headroom, the dependencies of a patch are the
+-- patches reached from it
 abbrev pub NeedsAreReached : Type 0
 NeedsAreReached =
     (branch : List Catch) (graph : Drawn) (name : List ℕ) (needed : List (List ℕ)) → IsLawfulBranch branch →
@@ -253,26 +255,27 @@ abbrev pub HangTogether : Drawn → List (List ℕ) → List ℕ → Type 0
 HangTogether graph names other =
     (name : List ℕ) × (is_among names name ≡ true) × (IsReached graph name other ⊎ IsReached graph other name)
 
--- in the graph of a lawful branch, what hangs on some patches is what is reached from one of them, and what reaches one
+-- in the graph of a lawful branch, the part that belongs to some patches consists of those reached from one of them
+-- and those that reach one
 abbrev pub PartsAreReached : Type 0
 PartsAreReached =
     (branch : List Catch) (graph : Drawn) (names : List (List ℕ)) → IsLawfulBranch branch → IsGraph branch graph →
     (other : List ℕ) → (hangs_on graph.patches names other ≡ true) ↔ HangTogether graph names other
 
--- the changes of a side apply, one after the other, to the tree that the branch leads to
+-- the changes of a side apply, one after the other, to the tree of the branch
 abbrev pub SidesApply : Type 0
 SidesApply =
     (branch : List Catch) (tree : Files) (name : List ℕ) (side : List Named) → LeadsTo branch tree → IsSideIn branch name side →
     (after : Files) × AppliesEach (changes_in side) tree after
 
--- from a tree on, none of some changes leaves a file that is longer than a record leaves
+-- from a tree on, no change leaves a file that is longer than a record allows
 abbrev pub KeepFilesShort : List Primitive → Files → Type 0
 KeepFilesShort [] tree = Unit {0}
 KeepFilesShort (change ∷ changes) tree =
     (next : Files) → Applies change tree next → (has_long_file (path_of change) next ≡ false) × KeepFilesShort changes next
 
--- the changes of a side are accepted under a name that no branch has, where they are not too many for a patch or for
--- the branch, and no side of a hunk and no file gets too long; and where they are refused, they are too large
+-- the changes of a side are accepted under a name that no branch has, if they are not too many for a patch or for the
+-- branch, and no side of a hunk and no file gets too long; if they are refused, they are too large
 pub record SidesAreAccepted : Type 0 where
   pub within :
       (state : Contents) (branch name new_name : List ℕ) (catches : List Catch) (tree : Files) (side : List Named) →
@@ -286,15 +289,15 @@ pub record SidesAreAccepted : Type 0 where
       ((next : Contents) × (step state (call.Record branch new_name (changes_in side)) ≡ Next next))
       ⊎ (step state (call.Record branch new_name (changes_in side)) ≡ refused TooLarge)
 
--- a pull of what comes along is refused neither for a patch that is not there nor for one that another stands on
+-- a pull of the names of `AreAlong` is refused neither for a missing patch nor because one depends on another
 abbrev pub AlongIsEnough : Type 0
 AlongIsEnough =
     (state : Contents) (from to : List ℕ) (names told : List (List ℕ)) → AreAlong state from to names (Ok told) →
     ((name : List ℕ) → ¬ (step state (call.Pull from to (Some told)) ≡ refused (NoPatch name)))
     × ((patch on : List ℕ) → ¬ (step state (call.Pull from to (Some told)) ≡ refused (Depends patch on)))
 
--- what is foreseen of a call is what comes of it: it gets this reply; where no branch is told, nothing changes; and
--- where one is told, the questions for its tree and its conflicts, asked right behind the call, are answered with these
+-- the foreseen result of a call is its result: it gets this reply; if no branch is given, nothing changes; and if one
+-- is given, the questions for its tree and its conflicts, asked directly after the call, have these answers
 pub record ComesAsForeseen (state : Contents) (asked : Call) (seen : Foreseen) : Type 0 where
   pub replied : reply_of (step state asked) ≡ seen.reply
   pub stays : seen.changed ≡ None → state_behind state (step state asked) ≡ state
@@ -303,6 +306,6 @@ pub record ComesAsForeseen (state : Contents) (asked : Call) (seen : Foreseen) :
       replies_to state (asked ∷ call.Tree standing.branch ∷ call.Conflicts standing.branch ∷ [])
       ≡ seen.reply ∷ reply.Tree standing.tree ∷ reply.Conflicts standing.conflicts ∷ []
 
--- it is so of every call at every state
+-- this holds of every call at every state
 abbrev pub ForeseenComes : Type 0
 ForeseenComes = (state : Contents) (asked : Call) (seen : Foreseen) → Foresees state asked seen → ComesAsForeseen state asked seen

@@ -1,4 +1,4 @@
--- A file with the open sides of its conflicts.
+-- A file with the unresolved sides of its conflicts.
 use Rattle.std.specs.Prelude.{◌≡◌, ℕ, Bool, ◌||◌, List, [], ◌∷◌, filter, bytes_eq, Option, None, Some, Ok, if◌then◌else◌}
 use Rattle.std.specs.Cmp.Lexicographic.{pointwise}
 use Rattle.std.specs.FinMap.{get}
@@ -18,12 +18,12 @@ use Rattle.camp_questions.specs.declared.marking.Marked.{Marked}
 use Rattle.camp_questions.specs.declared.marking.Marked.TheVariants as marked
 use Rattle.camp_questions.specs.declared.marking.Version.{Version}
 
--- what a patch would make of a path: what is there behind the changes of its side
+-- the version of a file that a patch would make: the file after the changes of its side
 abbrev pub Makes : ContextedPatches → Files → List ℕ → List ℕ → Option Lines → Type 0
 Makes seen tree path name made =
     (side : List Named) × (next : Files) × IsSideAmong seen name side × AppliesAll side tree next × (made ≡ get next path)
 
--- versions, and before them that of a patch that makes a file, and another one than there is
+-- versions, preceded by that of a patch if it makes a file that differs from the present one
 abbrev pub with_made : Lines → List ℕ → Option Lines → List Version → List Version
 with_made lines name None versions = versions
 with_made lines name (Some made) versions =
@@ -36,7 +36,7 @@ AreVersions seen tree path lines (name ∷ names) versions =
     (made : Option Lines) × (others : List Version) × Makes seen tree path name made
     × AreVersions seen tree path lines names others × (versions ≡ with_made lines name made others)
 
--- whether a name is in one of some pairs
+-- a name is in one of some pairs
 abbrev pub is_in_pair : List (List ℕ × List ℕ) → List ℕ → Bool
 is_in_pair pairs name = list_any (λ pair. bytes_eq name pair.0 || bytes_eq name pair.1) pairs
 
@@ -44,14 +44,14 @@ is_in_pair pairs name = list_any (λ pair. bytes_eq name pair.0 || bytes_eq name
 abbrev pub names_in_pairs : List Catch → List (List ℕ × List ℕ) → List (List ℕ)
 names_in_pairs branch pairs = filter (is_in_pair pairs) (names_of branch)
 
--- a file of a branch is marked with the versions that its patches in open conflicts would make of it
+-- a file of a branch is marked with the versions that its patches in unresolved conflicts would make of it
 abbrev pub IsMarked : List Catch → Files → List ℕ → Lines → File → Type 0
 IsMarked branch tree path lines file =
     (seen : ContextedPatches) × (pairs : List (List ℕ × List ℕ)) × (versions : List Version)
     × AreSeen branch seen × AreOpenAmong branch seen pairs
     × AreVersions seen tree path lines (names_in_pairs branch pairs) versions × (file ≡ with_marks lines versions)
 
--- what is told of a path of a branch: its file with marks, or that there is none
+-- the answer for a path of a branch: its file with marks, or that there is none
 abbrev pub MarksAt : List Catch → Files → List ℕ → Option Lines → Marked → Type 0
 MarksAt branch tree path None told = told ≡ marked.NoFile
 MarksAt branch tree path (Some lines) told =

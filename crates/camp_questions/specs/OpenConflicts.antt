@@ -1,4 +1,4 @@
--- Which conflicts of a branch are still open.
+-- The unresolved conflicts of a branch.
 use Rattle.std.specs.Prelude.{◌≡◌, ◌⊎◌, ◌↔◌, ℕ, Bool, true, false, not, List, Option, None, Some, Ok, Contains, AllPairs}
 use Rattle.std.specs.Ordering.{nat_cmp}
 use Rattle.std.specs.Cmp.Lexicographic.{slice_cmp}
@@ -14,44 +14,44 @@ use Rattle.camp_repo.specs.States.{Contents}
 use Rattle.camp_questions.specs.Answers.{AnswerOf, OfBranch}
 use Rattle.camp_questions.specs.Sides.{AreSeen}
 
--- whether an inverse stands in a context: to put the patch in, something that stands in the tree has to be taken back
+-- a context has an inverse: to insert the patch, something in the tree has to be undone
 abbrev pub takes_back : ContextedPatch → Bool
 takes_back x = list_any (λ p. p.inverse) x.context
 
--- whether nothing has to be taken back to put in what is seen
+-- nothing has to be undone to insert the contexted patch
 abbrev pub is_free : Option ContextedPatch → Bool
 is_free None = false
 is_free (Some x) = not (takes_back x)
 
--- whether a label is open: it is seen, and nothing has to be taken back to put it in
+-- a label is unresolved: it is in conflict, and nothing has to be undone to insert its patch
 abbrev pub is_open : ContextedPatches → Key → Bool
 is_open seen key = is_free (get seen key)
 
--- a catch is a conflictor of the patch of one name with a member of the other, and both labels are open
+-- a catch is a conflictor of the patch of one name with a member of the other, and both labels are unresolved
 abbrev pub OpensWith : ContextedPatches → List ℕ → List ℕ → Catch → Type 0
 OpensWith seen first second (Plain a) = ⊥
 OpensWith seen first second (Catch.Conflictor k) =
     ((context_key k.identity).name ≡ first) × (is_open seen (context_key k.identity) ≡ true)
     × ((key : Key) × (x : ContextedPatch) × (get k.conflicts key ≡ Some x) × (key.name ≡ second) × (is_open seen key ≡ true))
 
--- the conflict of two patches is open in a branch
+-- the conflict of two patches is unresolved in a branch
 abbrev pub AreInOpenConflict : List Catch → ContextedPatches → List ℕ → List ℕ → Type 0
 AreInOpenConflict branch seen first second =
     (k : Catch) × Contains branch k × (OpensWith seen first second k ⊎ OpensWith seen second first k)
 
--- the open conflicts among labels as seen from the end of a branch: each pair once, the lesser name first, in ascending
--- order
+-- the unresolved conflicts among labels as seen from the end of a branch: each pair once, the lesser name first, in
+-- ascending order
 pub record AreOpenAmong (branch : List Catch) (seen : ContextedPatches) (pairs : List (List ℕ × List ℕ)) : Type 0 where
   pub ascending : AllPairs IsBefore pairs
   pub listed :
       (first second : List ℕ) →
       Contains pairs (first, second) ↔ ((slice_cmp nat_cmp first second ≡ Less) × AreInOpenConflict branch seen first second)
 
--- the open conflicts of a branch
+-- the unresolved conflicts of a branch
 abbrev pub AreOpenIn : List Catch → List (List ℕ × List ℕ) → Type 0
 AreOpenIn branch pairs = (seen : ContextedPatches) × AreSeen branch seen × AreOpenAmong branch seen pairs
 
--- the question for the open conflicts of a branch
+-- the question for the unresolved conflicts of a branch
 abbrev pub AreOpen : Contents → List ℕ → AnswerOf (List (List ℕ × List ℕ)) → Type 0
 AreOpen state branch =
     OfBranch state branch (λ catches answer.

@@ -1,4 +1,4 @@
--- Pictures of branches: how their patches hang together, and which conflicts are open.
+-- Graphs of branches with their unresolved conflicts.
 use Rattle.std.specs.Prelude.{◌≡◌, ℕ, Bool, ◌&&◌, List, [], ◌∷◌, ◌++◌, map, filter, Ok, if◌then◌else◌}
 use Rattle.std.specs.List.{list_any}
 use Rattle.camp_branch.specs.Branches.{is_among}
@@ -8,40 +8,42 @@ use Rattle.camp_questions.specs.Graphs.{Drawn, IsGraph}
 use Rattle.camp_questions.specs.OpenConflicts.{AreOpenIn}
 use Rattle.camp_questions.specs.declared.graphs.Node.{Node}
 
--- patches with what they need directly, the pairs of those that are in conflict, and the pairs that are in an open one
+-- patches with their direct dependencies, the pairs of those that are in conflict, and the pairs that are in an
+-- unresolved one
 pub record Picture : Type 0 where
   pub patches : List Node
   pub conflicts : List (List ℕ × List ℕ)
   pub unsettled : List (List ℕ × List ℕ)
 
--- names, and what a patch needs directly, where it is one of them
+-- names, and the direct dependencies of a patch if it is one of them
 abbrev pub with_needs_of : Node → List (List ℕ) → List (List ℕ)
 with_needs_of node names = if is_among names node.name then names ++ node.needs else names
 
--- names and what they need: from the last patch to the first, each that is one of them brings what it needs directly
+-- names and their dependencies: from the last patch to the first, each that is one of them adds its direct
+-- dependencies
 abbrev pub with_needs : List Node → List (List ℕ) → List (List ℕ)
 with_needs [] names = names
 with_needs (node ∷ nodes) names = with_needs_of node (with_needs nodes names)
 
--- names, and a patch, where it needs one of them directly
+-- names, and a patch if it depends directly on one of them
 abbrev pub with_needing_one : List (List ℕ) → Node → List (List ℕ)
 with_needing_one names node = if list_any (is_among names) node.needs then names ++ node.name ∷ [] else names
 
--- names and what needs them: from the first patch to the last, each that needs one of them directly is one, too
+-- names and their dependents: from the first patch to the last, each that depends directly on one of them is added
 abbrev pub with_needing : List Node → List (List ℕ) → List (List ℕ)
 with_needing [] names = names
 with_needing (node ∷ nodes) names = with_needing nodes (with_needing_one names node)
 
--- whether a patch is one of these, is needed by one of them, or needs one
+-- a patch is one of these, or a dependency or dependent of one of them
 abbrev pub hangs_on : List Node → List (List ℕ) → List ℕ → Bool
 hangs_on nodes names name = is_among (with_needs nodes names ++ with_needing nodes names) name
 
--- a patch with those arrows that lead to patches of names that are kept
+-- a patch with those arrows that lead to patches of the kept names
 abbrev pub kept_node : (List ℕ → Bool) → Node → Node
 kept_node keeps node = record { name = node.name; needs = filter keeps node.needs }
 
--- the part of a picture with patches of some names alone, with the arrows and the pairs between these; which pairs are
--- open is told of all
+-- the part of a graph with patches of some names only, with the arrows and pairs between these; all unresolved pairs
+-- stay listed
 abbrev pub part_with : (List ℕ → Bool) → Picture → Picture
 part_with keeps whole =
     record {
@@ -50,16 +52,16 @@ part_with keeps whole =
       unsettled = whole.unsettled;
     }
 
--- the part of a picture with what these patches need, and what needs them; the whole, where there are none of these
+-- the part of a graph with these patches, their dependencies and dependents; the whole if no patch is given
 abbrev pub drawn_about : List (List ℕ) → Picture → Picture
 drawn_about [] whole = whole
 drawn_about (name ∷ names) whole = part_with (hangs_on whole.patches (name ∷ names)) whole
 
--- the picture of a graph with these open conflicts
+-- the graph with these unresolved conflicts
 abbrev pub whole_picture : Drawn → List (List ℕ × List ℕ) → Picture
 whole_picture graph pairs = record { patches = graph.patches; conflicts = graph.conflicts; unsettled = pairs }
 
--- the question for the picture of a branch, or of what hangs on some of its patches
+-- the question for the graph of a branch, or of the part that belongs to some of its patches
 abbrev pub IsPictured : Contents → List ℕ → List (List ℕ) → AnswerOf Picture → Type 0
 IsPictured state branch names =
     OfBranch state branch (λ catches. OfPatches catches names (λ answer.

@@ -1,4 +1,4 @@
--- A patch as it stands in a branch.
+-- A patch as it is in a branch.
 use Rattle.std.specs.Prelude.{◌≡◌, ℕ, List, [], ◌∷◌, map, Ok}
 use Rattle.std.specs.List.{flat_map}
 use Rattle.camp_prim.specs.declared.named.Named.{Named}
@@ -9,25 +9,25 @@ use Rattle.camp_repo.specs.States.{Contents}
 use Rattle.camp_repo.specs.Steps.{catches_named}
 use Rattle.camp_questions.specs.Answers.{AnswerOf, OfBranch, OfPatches}
 
--- the changes of an effect, in their order
+-- the changes of an effect, in order
 abbrev pub changes_in : List Named → List Primitive
 changes_in effect = map (λ (p : Named). p.prim) effect
 
--- what catches change: the changes of their effects, one after the other
+-- the changes of catches: those of their effects, one after the other
 abbrev pub changes_of : List Catch → List Primitive
 changes_of catches = flat_map (λ k. changes_in (effect_of k)) catches
 
--- a patch: its catches, and what they change
+-- a patch: its catches and their changes
 pub record Patch : Type 0 where
   pub catches : List Catch
   pub changes : List Primitive
 
--- the patch of a name as it stands in a branch: its catches in the order of the branch, and what they change
+-- the patch of a name as it is in a branch: its catches in the order of the branch, and their changes
 abbrev pub patch_in : List Catch → List ℕ → Patch
 patch_in branch name =
     let catches = catches_named (name ∷ []) branch in record { catches = catches; changes = changes_of catches }
 
--- the question for a patch as it stands in a branch, which has it
+-- the question for a patch of a branch
 abbrev pub IsShown : Contents → List ℕ → List ℕ → AnswerOf Patch → Type 0
 IsShown state branch name =
     OfBranch state branch (λ catches. OfPatches catches (name ∷ []) (λ answer. answer ≡ Ok (patch_in catches name)))

@@ -1,4 +1,4 @@
--- What a patch in conflict says: the changes that would put it in at the end of a branch.
+-- The side of a patch in conflict: the changes that would apply it at the end of a branch.
 use Rattle.std.specs.Prelude.{◌≡◌, ℕ, Bool, true, false, List, [], ◌∷◌, ◌++◌, filter, Option, None, Some, MatchOption, Ok, bytes_eq, if◌then◌else◌}
 use Rattle.std.specs.FinMap.{get, values}
 use Rattle.std.specs.List.{AllByRecursion, flat_map, list_any}
@@ -17,19 +17,18 @@ use Rattle.camp_repo.specs.States.{Contents}
 use Rattle.camp_questions.specs.Answers.{AnswerOf, OfBranch, OfPatches}
 use Rattle.camp_questions.specs.Showing.{changes_in}
 
--- what a catch tells of an absolute label that is in conflict there: its identity, or the member of its set
+-- what a catch says of an absolute label in conflict there: its identity, or the member of its set
 abbrev pub told_by : Catch → Key → Option ContextedPatch
 told_by (Plain a) key = None
 told_by (Catch.Conflictor k) key =
     if eq_by_cmp key_cmp key (context_key k.identity) then Some k.identity else get k.conflicts key
 
--- catches tell nothing of a label
+-- no catch says anything of a label
 abbrev pub TellNothing : List Catch → Key → Type 0
 TellNothing catches key = AllByRecursion (λ k. told_by k key ≡ None) catches
 
--- a label in conflict as seen from the end of a branch: what the last catch that tells it has, and the effects behind that
--- catch taken back before it
--- branch = before k behind
+-- a label in conflict as seen from the end of a branch: what the last catch says that has it, with the inverses of
+-- the effects after that catch added; branch = before k behind
 pub record IsSeen (branch : List Catch) (key : Key) (seen : ContextedPatch) : Type 0 where
   pub before : List Catch
   pub k : Catch
@@ -44,22 +43,22 @@ pub record IsSeen (branch : List Catch) (key : Key) (seen : ContextedPatch) : Ty
 abbrev pub AreSeen : List Catch → ContextedPatches → Type 0
 AreSeen branch seen = (key : Key) → MatchOption (get seen key) (TellNothing branch key) (IsSeen branch key)
 
--- whether a primitive of a list has an absolute label
+-- a primitive of a list has an absolute label
 abbrev pub has_key : List Named → Key → Bool
 has_key s key = list_any (λ p. eq_by_cmp key_cmp key (key_of (label_of p))) s
 
--- a contexted patch comes behind changes: with them taken back before it, its context and its patch are put there; none,
--- where its label stands there already
+-- a contexted patch is appended to changes: their inverses are added to it, and its context and patch come after
+-- them; it is left out if its label is there already
 abbrev pub ComesUnless : Bool → List Named → ContextedPatch → List Named → Type 0
 ComesUnless true changes x next = next ≡ changes
 ComesUnless false changes x next =
     (y : ContextedPatch) × AddsAll (inverse_all changes) x y × (next ≡ changes ++ whole y)
 
--- whether it stands there is told by its absolute label
+-- it is there if its absolute label is
 abbrev pub ComesBehind : List Named → ContextedPatch → List Named → Type 0
 ComesBehind changes x next = ComesUnless (has_key changes (context_key x)) changes x next
 
--- contexted patches come behind changes, one after the other
+-- contexted patches are appended to changes, one after the other
 abbrev pub ComeBehind : List Named → List ContextedPatch → List Named → Type 0
 ComeBehind changes [] side = side ≡ changes
 ComeBehind changes (x ∷ xs) side =
@@ -69,7 +68,7 @@ ComeBehind changes (x ∷ xs) side =
 abbrev pub labels_of_patch : List ℕ → ContextedPatches → List ContextedPatch
 labels_of_patch name seen = filter (λ x. bytes_eq name x.patch.name) (values seen)
 
--- the side of a patch among labels as seen from the end of a branch: its labels come behind one another
+-- the side of a patch among labels as seen from the end of a branch: its labels, appended one after the other
 abbrev pub IsSideAmong : ContextedPatches → List ℕ → List Named → Type 0
 IsSideAmong seen name side = ComeBehind [] (labels_of_patch name seen) side
 

@@ -1,3 +1,4 @@
+//! Annotation: which patch added each line of a file.
 ghost use Rattle.std.specs.FinMap.{get};
 ghost use Rattle.std.specs.Prelude.{◌≡◌, IfOk};
 ghost use Rattle.camp_branch.specs.Branches.{LeadsTo};
@@ -14,10 +15,10 @@ use camp_repo::State;
 use camp_share::{Share, Shared, SharedList};
 use std::alloc::AllocError;
 
-/// What is told of the lines of a path.
+/// The answer for the lines of a path.
 #[derive(Drop)]
 pub enum Annotated {
-    /// The lines of its file, and of each the name of the patch that put it there.
+    /// The lines of its file, each with the name of the patch that added it.
     File {
         lines: SharedList<Line>,
         names: SharedList<Name>,
@@ -26,7 +27,7 @@ pub enum Annotated {
     NoFile,
 }
 
-/// Of each line of the file of a path the name of the patch that put it there. The lines are shared
+/// Returns each line of the file of a path with the name of the patch that added it. The lines are shared
 /// with the tree of the branch.
 pub fn annotate(state: &State, branch: &Name, path: &Path) -> Result<Annotated, Unanswered>
     ensures exact { Tells (AreAnnotated state.now branch.now path.now) result }
@@ -35,7 +36,7 @@ pub fn annotate(state: &State, branch: &Name, path: &Path) -> Result<Annotated, 
     told(with_names(branch.catches(), branch.tree(), path))
 }
 
-/// The same of catches that lead to a tree.
+/// The same for catches that lead to a tree.
 fn with_names(
     catches: &SharedList<Shared<Catch>>,
     tree: &Tree,

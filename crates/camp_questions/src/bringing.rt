@@ -1,4 +1,4 @@
-//! What comes along with patches on their way from one branch into another.
+//! The patches that a pull from one branch into another has to list.
 ghost use Rattle.std.specs.Prelude.{◌≡◌, ℕ, List, IfOk};
 ghost use Rattle.std.specs.Result.{MatchResult};
 ghost use Rattle.camp_branch.specs.Branches.{is_among};
@@ -20,9 +20,9 @@ use camp_repo::{Branch, Names, Refusal, State};
 use camp_share::Shared;
 use std::alloc::{AllocError, Global};
 
-/// The names that a pull of these from one branch into another has to list: those that `to` lacks, and
-/// each on which bringing them behind the patches that both have sticks. They are told in the order
-/// of `from`.
+/// Returns the names that a pull of these from one branch into another has to list: those that `to` lacks,
+/// and each patch that blocks them on their way to the front after the common patches. In the order of
+/// `from`.
 pub fn along(state: &State, from: &Name, to: &Name, names: &[Name]) -> Result<Names, Unanswered>
     ensures exact { TellsAlong state.now from.now to.now names.now result }
 {
@@ -38,7 +38,7 @@ pub fn along(state: &State, from: &Name, to: &Name, names: &[Name]) -> Result<Na
     told(brought(theirs, ours, &behind, names))
 }
 
-/// The names that come along behind the patches that both branches have.
+/// Returns the names to pull, given the catches after the common patches.
 fn brought(
     from: &Branch,
     to: &Branch,
@@ -54,7 +54,7 @@ fn brought(
     in_order(from, &grown)
 }
 
-/// The catches of a branch behind those of the patches that both branches have.
+/// Returns the catches of a branch after those of the patches that both branches have.
 fn behind_common(from: &Branch, to: &Branch) -> Result<Vec<Shared<Catch>>, Unanswered>
     ensures { MatchResult result (λ behind. StandBehind from.now to.now behind.items) (DoNotStand from.now to.now) }
 {
@@ -69,7 +69,7 @@ fn behind_common(from: &Branch, to: &Branch) -> Result<Vec<Shared<Catch>>, Unans
     }
 }
 
-/// The names of the patches that both branches have.
+/// Returns the names of the patches that both branches have.
 fn common(from: &Branch, to: &Branch) -> Result<NameSet, AllocError>
     ensures { IfOk result (λ set. (name : List ℕ) → is_among (names_in set) name ≡ is_among (common_names from.now to.now) name) }
 {
@@ -78,7 +78,7 @@ fn common(from: &Branch, to: &Branch) -> Result<NameSet, AllocError>
     set_of(from.catches().allocator(), &names)
 }
 
-/// Those of the names of which a branch has no patch.
+/// Returns those of the names of which a branch has no patch.
 fn wanted(alloc: Global, to: &Branch, names: &[Name]) -> Result<NameSet, AllocError>
     ensures { IfOk result (λ set. (name : List ℕ) → is_among (names_in set) name ≡ is_among (wanted to.now names.now) name) }
 {

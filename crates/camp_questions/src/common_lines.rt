@@ -1,10 +1,10 @@
-//! What two lists of lines have in common at their ends.
+//! The common lines of two lists at their start and end.
 ghost use Rattle.std.specs.Prelude.{◌≡◌, ◌≤◌, length, bytes_eq};
 ghost use Rattle.camp_questions.specs.CommonLines.{common_end, common_front};
 
 use camp_base::Line;
 
-/// How many lines are the same at the beginning of both.
+/// Returns the number of equal lines at the start of both.
 pub(crate) fn common_front(lines: &[Line], others: &[Line]) -> usize
     ensures exact { result ≡ common_front lines.now others.now }
     ensures within { result ≤ length lines.now }
@@ -19,7 +19,7 @@ pub(crate) fn common_front(lines: &[Line], others: &[Line]) -> usize
     most
 }
 
-/// How many lines are the same at the end of both.
+/// Returns the number of equal lines at the end of both.
 pub(crate) fn common_end(lines: &[Line], others: &[Line]) -> usize
     ensures exact { result ≡ common_end lines.now others.now }
     ensures within { result ≤ length lines.now }

@@ -1,4 +1,4 @@
-//! What a repository and its branches have.
+//! The contents of a repository and its branches.
 ghost use Rattle.std.specs.FinMap.{get};
 ghost use Rattle.std.specs.Prelude.{◌≡◌, IfOk};
 ghost use Rattle.camp_questions.specs.Answers.{Tells};
@@ -12,7 +12,7 @@ use camp_repo::{Names, State};
 use camp_share::{Share, SharedList};
 use std::alloc::{AllocError, Global};
 
-/// The names of the branches, in order of creation.
+/// Returns the names of the branches, in order of creation.
 pub fn branches(alloc: Global, state: &State) -> Result<Names, AllocError>
     ensures exact { IfOk result (λ names. names ≡ branch_names state.now) }
 {
@@ -20,8 +20,8 @@ pub fn branches(alloc: Global, state: &State) -> Result<Names, AllocError>
     Ok(Names::new(names))
 }
 
-/// The lines of the file of a path, which are shared with the tree of the branch. None where the
-/// branch has no such file.
+/// Returns the lines of the file of a path, shared with the tree of the branch; `None` if the branch has no
+/// such file.
 pub fn file(
     state: &State,
     branch: &Name,
@@ -33,7 +33,7 @@ pub fn file(
     told(file_at(branch.tree(), path))
 }
 
-/// The lines of the file of a path, shared with the tree.
+/// Returns the lines of the file of a path, shared with the tree.
 pub(crate) fn file_at(tree: &Tree, path: &Path) -> Result<Option<SharedList<Line>>, AllocError>
     ensures { IfOk result (λ lines. lines ≡ get tree.now path.now) }
 {

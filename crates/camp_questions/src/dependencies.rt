@@ -1,3 +1,4 @@
+//! Dependencies and dependents of patches in a branch.
 ghost use Rattle.std.specs.Prelude.{◌≡◌, IfOk};
 ghost use Rattle.camp_branch.specs.Fields.{names_in};
 ghost use Rattle.camp_questions.specs.Answers.{Tells};
@@ -16,9 +17,9 @@ use camp_repo::{Branch, Names, State};
 use camp_share::Shared;
 use std::alloc::{AllocError, Global};
 
-/// What these names need in a branch: the names themselves, and each patch that stops them on their way
-/// to its front. They are told in the order of the branch. A pull into another branch may want others,
-/// which `along` tells.
+/// Returns the dependencies of these names in a branch: the names themselves, and each patch that blocks them
+/// on their way to its front. In the order of the branch. A pull into another branch may need others, which
+/// `along` returns.
 pub fn needs(state: &State, branch: &Name, names: &[Name]) -> Result<Names, Unanswered>
     ensures exact { Tells (AreNeeded state.now branch.now names.now) result }
 {
@@ -26,7 +27,7 @@ pub fn needs(state: &State, branch: &Name, names: &[Name]) -> Result<Names, Unan
     told(needed_in(branch, names))
 }
 
-/// What names of a branch need there.
+/// Returns the dependencies of names of a branch.
 fn needed_in(branch: &Branch, names: &[Name]) -> Result<Names, AllocError>
     ensures { IfOk result (Needs branch.now names.now) }
 {
@@ -35,8 +36,8 @@ fn needed_in(branch: &Branch, names: &[Name]) -> Result<Names, AllocError>
     in_order(branch, &needed)
 }
 
-/// The names that must go with these where they are taken out of a branch: the names themselves, and
-/// each patch that depends on one of them. They are told in the order of the branch.
+/// Returns the names that must be taken out of a branch together with these: the names themselves, and each
+/// patch that depends on one of them. In the order of the branch.
 pub fn held_by(state: &State, branch: &Name, names: &[Name]) -> Result<Names, Unanswered>
     ensures exact { Tells (AreHeldBy state.now branch.now names.now) result }
 {
@@ -44,7 +45,7 @@ pub fn held_by(state: &State, branch: &Name, names: &[Name]) -> Result<Names, Un
     told(held_there(branch, names))
 }
 
-/// What names of a branch hold there.
+/// Returns the dependents of names of a branch.
 fn held_there(branch: &Branch, names: &[Name]) -> Result<Names, AllocError>
     ensures { IfOk result (HeldBy branch.now names.now) }
 {
@@ -55,8 +56,9 @@ fn held_there(branch: &Branch, names: &[Name]) -> Result<Names, AllocError>
     in_order(branch, &held)
 }
 
-/// The names, and those that are added until they come to the front of the branch: where all its patches are
-/// plain and have room for sure, those that the names hold in the branch taken back.
+/// Returns the names, and those that are added until they can be moved to the front of the branch. If all its
+/// patches are plain and certainly have headroom, these are the dependents of the names in the inverted
+/// branch.
 pub(crate) fn grown_to_front(branch: &Branch, names: NameSet) -> Result<NameSet, AllocError>
     ensures { IfOk result (λ grown. GrowsToFront branch.now (names_in names) (names_in grown)) }
 {
@@ -71,8 +73,8 @@ pub(crate) fn grown_to_front(branch: &Branch, names: NameSet) -> Result<NameSet,
     }
 }
 
-/// The names, and those that are added until they come to the front of a list. Each that is added costs
-/// an arranging, and one tells that none is left.
+/// Returns the names, and those that are added until they can be moved to the front of a list. Each added
+/// name costs one arranging, and one more finds that nothing is missing.
 pub(crate) fn stuck_to_front(
     alloc: Global,
     list: &[Shared<Catch>],
@@ -90,7 +92,7 @@ pub(crate) fn stuck_to_front(
     }
 }
 
-/// The names of the patches of a branch that are in a set, in the order of the branch.
+/// Returns the names of the patches of a branch that are in a set, in the order of the branch.
 pub(crate) fn in_order(branch: &Branch, set: &NameSet) -> Result<Names, AllocError>
     ensures { IfOk result (λ names. names ≡ in_order branch.now (names_in set.now)) }
 {

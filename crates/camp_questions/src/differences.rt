@@ -1,3 +1,4 @@
+//! The patches that one branch has and another lacks.
 ghost use Rattle.std.specs.Prelude.{◌≡◌, IfOk};
 ghost use Rattle.camp_questions.specs.Answers.{Tells};
 ghost use Rattle.camp_questions.specs.Differences.{IsMissing, missing_in};
@@ -10,8 +11,8 @@ use camp_base::Name;
 use camp_repo::{Branch, Names, State};
 use std::alloc::AllocError;
 
-/// The names of the patches that the branch `from` has and `to` lacks, in the order of `from`: none,
-/// where the two are one. Where nothing refuses it, a pull without names brings these.
+/// Returns the names of the patches that the branch `from` has and `to` lacks, in the order of `from`; none
+/// if the two are one. A pull without names brings these, unless it is refused.
 pub fn missing(state: &State, from: &Name, to: &Name) -> Result<Names, Unanswered>
     ensures exact { Tells (IsMissing state.now from.now to.now) result }
 {
@@ -20,7 +21,7 @@ pub fn missing(state: &State, from: &Name, to: &Name) -> Result<Names, Unanswere
     told(missing_in(ours, theirs))
 }
 
-/// The names of the patches that one branch lacks, in the order of the other.
+/// Returns the names of the patches that one branch lacks, in the order of the other.
 fn missing_in(ours: &Branch, theirs: &Branch) -> Result<Names, AllocError>
     ensures { IfOk result (λ names. names ≡ missing_in ours.now theirs.now) }
 {

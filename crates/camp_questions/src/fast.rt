@@ -1,11 +1,11 @@
-//! Faster ways to what the definitions say: each gives what growing name by name gives.
+//! Faster ways to what the definitions say: each gives the result of growing name by name.
 //!
-//! - What is held goes in one walk over the patches of a branch, from the first to the last: one that comes
-//!   before all that go stays, and any other goes too.
-//! - What plain patches need is what they hold in the branch taken back, the last patch first and each
-//!   change inverted. It is so where all have room, both ways. Elsewhere the names grow one by one.
-//! - A patch of plain changes to other files than those of all that go comes before them as it is. Files
-//!   are told apart by small numbers.
+//! - Dependents are found in one pass over the patches of a branch, from the first to the last: one that can
+//!   be moved in front of all that go stays, and any other goes too.
+//! - The dependencies of plain patches are their dependents in the inverted branch, the last patch first and
+//!   each change inverted, if all have headroom, both ways. Otherwise the names grow one by one.
+//! - A patch of plain changes to other files than those of all that go is moved in front of them unchanged.
+//!   Files are compared by small hash numbers of their paths.
 mod changed_files;
 mod going;
 mod patch_catches;

@@ -1,3 +1,4 @@
+//! Why a question has no answer.
 ghost use Rattle.std.specs.Prelude.{◌≡◌};
 ghost use Rattle.camp_questions.specs.declared.faults.Unanswered.TheVariants as fault;
 
@@ -8,7 +9,7 @@ use thiserror::Error;
 /// Why a question has no answer.
 #[derive(Clone, Copy, PartialEq, Eq, Debug, Error)]
 pub enum Unanswered {
-    /// A refusal, which is one that calls get, too. A call with the same names may get another.
+    /// A refusal of the same kind as those of calls. A call with the same names may get another.
     #[error("refused")]
     Refused(Refusal),
     #[error("out of memory")]

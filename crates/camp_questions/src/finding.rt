@@ -1,3 +1,4 @@
+//! The branch that a question is about.
 ghost use Rattle.std.specs.Prelude.{◌≡◌, None, Some};
 ghost use Rattle.std.specs.Result.{MatchResult};
 ghost use Rattle.camp_repo.specs.States.{catches_of};
@@ -6,7 +7,7 @@ ghost use Rattle.camp_questions.specs.Inside.Finding.{IsFound, IsRefused};
 use camp_base::Name;
 use camp_repo::{Branch, Refusal, State};
 
-/// The branch of a name, or the refusal where there is none.
+/// Returns the branch of a name, or the refusal if there is none.
 pub(crate) fn branch_of<'a>(state: &'a State, name: &Name) -> Result<&'a Branch, Refusal>
     ensures { MatchResult result
         (λ branch. catches_of state.now.branches name.now ≡ Some branch.now)
@@ -18,8 +19,8 @@ pub(crate) fn branch_of<'a>(state: &'a State, name: &Name) -> Result<&'a Branch,
     }
 }
 
-/// The branch of a name that has the patches of these names, or the refusal where there is none, or
-/// where it lacks one of them.
+/// Returns the branch of a name that has the patches of these names, or the refusal if there is none or it
+/// lacks one of them.
 pub(crate) fn branch_with<'a>(
     state: &'a State,
     name: &Name,

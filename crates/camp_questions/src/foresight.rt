@@ -1,3 +1,4 @@
+//! The result that a call would have, without executing it.
 ghost use Rattle.std.specs.Prelude.{◌≡◌, ◌-◌, ◌^◌, ◌<◌, IfErr, IfOk};
 ghost use Rattle.camp_questions.specs.Foresight.{Foresees, IsAcceptedSo, MayWantForesight, branch_written};
 ghost use Rattle.camp_questions.specs.Inside.Foresight.{LedTo};
@@ -6,16 +7,16 @@ use camp_base::{Name, Tree};
 use camp_repo::{Call, Conflicts, Decided, Reply, State};
 use std::alloc::AllocError;
 
-/// What a call would lead to.
+/// The result that a call would have.
 #[derive(Drop)]
 pub struct Foreseen {
     /// The reply that it would get.
     pub reply: Reply,
-    /// Where it would be accepted: the branch that it would write to, as that would stand then.
+    /// If it would be accepted: the branch that it would write to, in its state after the call.
     pub changed: Option<Standing>,
 }
 
-/// How a branch stands.
+/// The state of a branch.
 #[derive(Drop)]
 pub struct Standing {
     pub branch: Name,
@@ -23,14 +24,14 @@ pub struct Standing {
     pub conflicts: Conflicts,
 }
 
-/// The reply that a call would get, and the branch that it would write to, as it would stand. Nothing
-/// changes.
+/// Returns the reply that a call would get, and the branch that it would write to, in its state after the
+/// call. Nothing changes.
 pub fn what_if(state: &State, call: &Call) -> Result<Foreseen, AllocError>
     requires { state.now.count < 2 ^ 64 - 1 }
     ensures exact { IfOk result (λ seen. Foresees state.now call.now seen) }
     ensures memory { IfErr result (λ error. MayWantForesight state.now call.now) }
 {
-    // Its clauses show the proof that the state is lawful.
+    // Its clauses show the prover that the state is lawful.
     let _lawful = state.count();
     match state.decide(call)? {
         Decided::Answer(reply) => Ok(Foreseen {
@@ -41,8 +42,8 @@ pub fn what_if(state: &State, call: &Call) -> Result<Foreseen, AllocError>
     }
 }
 
-/// The number of an accepted call, and the branch that it wrote to, as that stands in the state that the call led
-/// to.
+/// Returns the number of an accepted call, and the branch that it wrote to, as it is in the state after the
+/// call.
 fn written(next: &State, call: &Call) -> Result<Foreseen, AllocError>
     requires { LedTo call.now next.now }
     ensures { IfOk result (IsAcceptedSo call.now next.now) }
@@ -66,7 +67,7 @@ fn written(next: &State, call: &Call) -> Result<Foreseen, AllocError>
     })
 }
 
-/// The branch that a call writes to.
+/// Returns the branch that a call writes to.
 fn branch_written(call: &Call) -> Option<Name>
     ensures { result ≡ branch_written call.now }
 {

@@ -1,3 +1,4 @@
+//! Graphs as text in DOT.
 ghost use Rattle.std.specs.Prelude.{◌≡◌, ◌++◌, IfOk, OnOk, codes, string_bytes};
 ghost use Rattle.std.specs.List.{flat_map};
 ghost use Rattle.camp_questions.specs.GraphTexts.{arrow_text, conflict_style, conflict_text, graph_text, is_pair_among, node_text};
@@ -7,8 +8,9 @@ use camp_base::Name;
 use std::alloc::{AllocError, Global};
 use std::fmt::Write;
 
-/// A picture in DOT, which Graphviz draws: an arrow leads from a patch to each that it needs directly,
-/// and a line joins two that are in conflict, bold where it is open and dashed where it is settled.
+/// Renders a graph in DOT, which Graphviz draws: an arrow leads from a patch to each of its direct
+/// dependencies, and a line joins two that are in conflict, bold if it is unresolved and dashed if it is
+/// resolved.
 pub fn graph_text(alloc: Global, picture: &Picture) -> Result<String, AllocError>
     ensures exact { IfOk result (λ text. string_bytes text ≡ graph_text picture.now) }
 {
@@ -73,7 +75,7 @@ fn append_conflict(
     append_arrow(text, &pair.0, &pair.1, style)
 }
 
-/// How a conflict is drawn that is open, or settled.
+/// Returns the attributes of an unresolved or a resolved conflict.
 fn conflict_style(is_open: bool) -> &'static str
     ensures { result.now ≡ conflict_style is_open }
 {

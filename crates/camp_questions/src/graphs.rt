@@ -1,3 +1,4 @@
+//! The graph of a branch.
 ghost use Rattle.std.specs.Prelude.{◌≡◌, IfOk};
 ghost use Rattle.camp_questions.specs.Answers.{Tells};
 ghost use Rattle.camp_questions.specs.Graphs.{IsGraph, IsGraphOf};
@@ -12,7 +13,7 @@ use camp_repo::{Branch, Conflicts, Names, State};
 use std::alloc::AllocError;
 use std::marker::Model;
 
-/// The patches of a branch, what each needs directly, and which are in conflict.
+/// The patches of a branch, their direct dependencies, and the conflicts between them.
 #[derive(Drop)]
 pub struct PatchGraph {
     pub(crate) patches: Vec<Node>,
@@ -23,7 +24,7 @@ pub struct PatchGraph {
 #[derive(Drop)]
 pub struct Node {
     pub name: Name,
-    /// What it needs directly: no other patch that it needs does.
+    /// Its direct dependencies: no other dependency of it depends on one of these.
     pub needs: Names,
 }
 
@@ -36,21 +37,21 @@ impl Model for PatchGraph {
 }
 
 impl PatchGraph {
-    /// The patches, in the order of the branch.
+    /// Returns the patches, in the order of the branch.
     pub fn patches(&self) -> &[Node]
         ensures value { result.now ≡ self.now.patches }
     {
         &self.patches
     }
 
-    /// The pairs of patches that are in conflict.
+    /// Returns the pairs of patches that are in conflict.
     pub fn conflicts(&self) -> &Conflicts
         ensures value { result.now ≡ self.now.conflicts }
     {
         &self.conflicts
     }
 
-    /// The patches and the pairs, given away.
+    /// Returns the patches and the pairs, and consumes the graph.
     pub fn into_parts(self) -> (Vec<Node>, Conflicts)
         ensures patches { result.0.items ≡ self.patches }
         ensures conflicts { result.1 ≡ self.conflicts }
@@ -60,7 +61,8 @@ impl PatchGraph {
     }
 }
 
-/// The patches of a branch in its order, what each needs directly, and which are in conflict.
+/// Returns the patches of a branch in its order, their direct dependencies, and the pairs that are in
+/// conflict.
 pub fn graph(state: &State, branch: &Name) -> Result<PatchGraph, Unanswered>
     ensures exact { Tells (IsGraphOf state.now branch.now) result }
 {

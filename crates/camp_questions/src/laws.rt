@@ -1,99 +1,100 @@
+//! The laws of questions, as functions whose contracts state them.
 ghost use Rattle.camp_questions.specs.Laws.{AlongIsEnough, ArrowsAreDirectNeeds, ArrowsLeadBackwards, ForeseenComes, HeldCanGo, HeldIsDetermined, HeldIsLeast, LinesAreBrought, LinesHaveNames, MissingIsPulled, NeedsAndHeldAreOne, NeedsAreDetermined, NeedsAreLeast, NeedsAreReached, NeedsCanBePulled, NeedsComeFirst, OrderKeepsNames, PartsAreReached, RecordedIsShown, SidesApply, SidesAreAccepted};
 
-/// A pull without names that is accepted brings what is missing, in this order; where nothing is
-/// missing, it is refused as having nothing to do.
+/// A pull without names that is accepted brings what is missing, in this order; if nothing is missing, it is
+/// refused as having nothing to do.
 #[tactic(auto, using(crate::proofs::MissingNames::missing_is_pulled))]
 pub fn missing_is_pulled()
     ensures law { MissingIsPulled }
 {}
 
-/// What some patches need comes to the front of their branch, has the patches, and each other one of
-/// it was met by a part of it that stuck.
+/// The dependencies of patches can be moved to the front of their branch, contain the patches, and each other
+/// one of them blocks a part of them.
 pub fn needs_come_first()
     ensures law { NeedsComeFirst }
 {}
 
-/// Where all catches of a branch are plain and have room, what some patches need is the least that has
-/// them and comes to the front of the branch.
+/// If all catches of a branch are plain and have headroom, the dependencies of patches are the least list
+/// that contains them and can be moved to the front.
 pub fn needs_are_least()
     ensures law { NeedsAreLeast }
 {}
 
-/// Patches need exactly one list of names.
+/// Patches have exactly one list of dependencies.
 #[tactic(auto, using(crate::proofs::BranchGrowths::needs_are_determined))]
 pub fn needs_are_determined()
     ensures law { NeedsAreDetermined }
 {}
 
-/// An obliteration of what is held by some patches is accepted; it has the patches, and each other one
-/// of it depends on a part of it.
+/// Obliterating patches together with everything that depends on them is accepted; each of the dependents
+/// depends on a part of them.
 pub fn held_can_go()
     ensures law { HeldCanGo }
 {}
 
-/// What is held by patches is exactly one list of names.
+/// Patches have exactly one list of dependents.
 #[tactic(auto, using(crate::proofs::BranchGrowths::held_is_determined))]
 pub fn held_is_determined()
     ensures law { HeldIsDetermined }
 {}
 
-/// Where all catches of a branch are plain and have room, what is held by some patches is the least that
-/// has them and can go.
+/// If all catches of a branch are plain and have headroom, the dependents of patches are the least list that
+/// contains them and can be taken out.
 pub fn held_is_least()
     ensures law { HeldIsLeast }
 {}
 
-/// Where all catches of a branch are plain and have room, a pull of what is needed into a branch that has
-/// none of it does not fail because one of its patches depends on another patch.
+/// If all catches of a branch are plain and have headroom, a pull of the dependencies into a branch that has
+/// none of them does not fail because one of its patches depends on another patch.
 pub fn needs_can_be_pulled()
     ensures law { NeedsCanBePulled }
 {}
 
-/// Where all catches of a branch are plain and have room, one patch needs another exactly where the other
-/// holds it.
+/// If all catches of a branch are plain and have headroom, one patch depends on another exactly if it is a
+/// dependent of the other.
 pub fn needs_and_held_are_one()
     ensures law { NeedsAndHeldAreOne }
 {}
 
-/// Each line of a file of a branch has a name, which is that of one of its patches; and where a hunk is
-/// undone, all lines have the names that they had.
+/// Each line of a file of a branch has a name, which is that of one of its patches; when a hunk is undone,
+/// all lines have the names that they had.
 #[tactic(auto, using(crate::proofs::AnnotationLaws::lines_have_names))]
 pub fn lines_have_names()
     ensures law { LinesHaveNames }
 {}
 
-/// Each line of a file was brought by a hunk of the patch whose name it has, where what comes again under
-/// a label puts back what was taken away. In a lawful branch with plain catches alone none comes again.
+/// Each line of a file was added by a hunk of the patch whose name it has, if what comes again under a label
+/// restores what was removed. In a lawful branch with plain catches only, no label comes again.
 #[tactic(auto, using(crate::proofs::BroughtLines::lines_are_brought))]
 pub fn lines_are_brought()
     ensures law { LinesAreBrought }
 {}
 
-/// Plain patches give the files the same lines, with the same names, in whatever order they come.
+/// Plain patches give the files the same lines, with the same names, in whatever order they are.
 #[tactic(auto, using(crate::proofs::SwappedNames::order_keeps_names))]
 pub fn order_keeps_names()
     ensures law { OrderKeepsNames }
 {}
 
-/// A patch is shown, in the state after its record, with the changes that were recorded.
+/// In the state after its record, a patch is shown with the changes that were recorded.
 pub fn recorded_is_shown()
     ensures law { RecordedIsShown }
 {}
 
-/// The arrows of a graph lead from each patch to just those that it needs directly.
+/// The arrows of a graph lead from each patch to exactly its direct dependencies.
 #[tactic(auto, using(crate::proofs::Arrows::arrows_are_direct_needs))]
 pub fn arrows_are_direct_needs()
     ensures law { ArrowsAreDirectNeeds }
 {}
 
-/// In the graph of a lawful branch, where all catches are plain and have room, what a patch needs is
-/// what is reached from it along the arrows.
+/// In the graph of a lawful branch whose catches are all plain and have headroom, the dependencies of a patch
+/// are the patches reached from it along the arrows.
 pub fn needs_are_reached()
     ensures law { NeedsAreReached }
 {}
 
-/// In the graph of a lawful branch, what hangs on some patches is what is reached from one of them along
-/// the arrows, and what reaches one of them.
+/// In the graph of a lawful branch, the part that belongs to some patches consists of those reached from one
+/// of them along the arrows and those that reach one of them.
 pub fn parts_are_reached()
     ensures law { PartsAreReached }
 {}
@@ -103,27 +104,27 @@ pub fn sides_apply()
     ensures law { SidesApply }
 {}
 
-/// The changes of a side are accepted where they are recorded within the limits; and where they are refused
-/// under a new name, they are too large.
+/// The changes of a side are accepted if they are recorded within the limits; if they are refused under a new
+/// name, they are too large.
 #[tactic(auto, using(crate::proofs::SidesAccepted::sides_are_accepted))]
 pub fn sides_are_accepted()
     ensures law { SidesAreAccepted }
 {}
 
-/// A pull of what comes along is refused neither for a patch that is not there nor for one that
-/// another stands on.
+/// A pull of the names that `along` returns is refused neither for a missing patch nor because one depends on
+/// another.
 #[tactic(auto, using(crate::proofs::AlongEnough::along_is_enough))]
 pub fn along_is_enough()
     ensures law { AlongIsEnough }
 {}
 
-/// The arrows of a graph of a lawful branch lead backwards: each to a patch that stands before.
+/// The arrows of a graph of a lawful branch lead backwards: each to a patch that comes before.
 pub fn arrows_lead_backwards()
     ensures law { ArrowsLeadBackwards }
 {}
 
-/// What is foreseen of a call is what comes of it: the reply that it gets, and the tree and the conflicts
-/// of the branch that it writes to, as they are told right behind it.
+/// The foreseen result of a call is its result: the reply that it gets, and the tree and the conflicts of the
+/// branch that it writes to, as questions directly after it return them.
 #[tactic(auto, using(crate::proofs::Foreseeing::foreseen_comes))]
 pub fn foreseen_comes()
     ensures law { ForeseenComes }

@@ -1,4 +1,4 @@
-//! A file with the open sides of its conflicts.
+//! A file with the unresolved sides of its conflicts.
 ghost use Rattle.std.specs.Prelude.{◌≡◌, ◌++◌, [], ℕ, List, IfOk, OnOk};
 ghost use Rattle.std.specs.FinMap.{get};
 ghost use Rattle.camp_branch.specs.Branches.{LeadsTo};
@@ -25,7 +25,7 @@ use camp_share::SharedList;
 use std::alloc::{AllocError, Global};
 use std::marker::Model;
 
-/// What is told of the marks of a path.
+/// The answer for the marks of a path.
 #[derive(Drop)]
 pub enum Marked {
     File(MarkedFile),
@@ -33,7 +33,7 @@ pub enum Marked {
     NoFile,
 }
 
-/// A file with its places, and the lines behind them.
+/// A file as hunks, and the lines after the last one.
 #[derive(Drop)]
 pub struct MarkedFile {
     pub(crate) places: Vec<Place>,
@@ -49,14 +49,14 @@ impl Model for MarkedFile {
 }
 
 impl MarkedFile {
-    /// The places, from the top.
+    /// Returns the hunks, from the top.
     pub fn places(&self) -> &[Place]
         ensures value { result.now ≡ self.now.places }
     {
         &self.places
     }
 
-    /// The lines behind the last place.
+    /// Returns the lines after the last hunk.
     pub fn rest(&self) -> &SharedList<Line>
         ensures value { result.now ≡ self.now.rest }
     {
@@ -64,8 +64,7 @@ impl MarkedFile {
     }
 }
 
-/// A place of a file: its lines, those before it, up to the place above, and what the sides of patches
-/// have there.
+/// A hunk: its lines, the context lines since the hunk above, and the lines of each side there.
 #[derive(Drop)]
 pub struct Place {
     pub(crate) before: SharedList<Line>,
@@ -82,21 +81,21 @@ impl Model for Place {
 }
 
 impl Place {
-    /// The lines before it, up to the place above.
+    /// Returns the context lines since the hunk above.
     pub fn before(&self) -> &SharedList<Line>
         ensures value { result.now ≡ self.now.before }
     {
         &self.before
     }
 
-    /// Its lines. There may be none, where sides only put lines in.
+    /// Returns its lines; empty if the sides only insert lines.
     pub fn lines(&self) -> &SharedList<Line>
         ensures value { result.now ≡ self.now.lines }
     {
         &self.lines
     }
 
-    /// What each side has there, in the order of the patches in the branch.
+    /// Returns the lines of each side there, in the order of the patches in the branch.
     pub fn sides(&self) -> &[Version]
         ensures value { result.now ≡ self.now.sides }
     {
@@ -104,14 +103,14 @@ impl Place {
     }
 }
 
-/// Lines that a patch has in place of those of a file.
+/// The lines that a patch has for those of a file.
 #[derive(Drop)]
 pub struct Version {
     pub name: Name,
     pub lines: SharedList<Line>,
 }
 
-/// A file of a branch with the open sides of its conflicts.
+/// Returns a file of a branch with the unresolved sides of its conflicts.
 pub fn marks(state: &State, branch: &Name, path: &Path) -> Result<Marked, Unanswered>
     ensures exact { TellsOrWants (AreMarked state.now branch.now path.now) result }
 {
@@ -119,7 +118,7 @@ pub fn marks(state: &State, branch: &Name, path: &Path) -> Result<Marked, Unansw
     told(marks_at(branch, branch.tree(), path))
 }
 
-/// The same of a branch that leads to a tree.
+/// The same for a branch that leads to a tree.
 fn marks_at(branch: &Branch, tree: &Tree, path: &Path) -> Result<Marked, AllocError>
     requires { LeadsTo branch.now tree.now }
     ensures { IfOk result (MarksAt branch.now tree.now path.now (get tree.now path.now)) }
@@ -132,7 +131,8 @@ fn marks_at(branch: &Branch, tree: &Tree, path: &Path) -> Result<Marked, AllocEr
     Ok(Marked::File(file))
 }
 
-/// The versions of a file that the patches of a branch in open conflicts would make, in their order.
+/// Returns the versions of a file that the patches of a branch in unresolved conflicts would make, in their
+/// order.
 fn versions_at(
     branch: &Branch,
     tree: &Tree,
@@ -149,7 +149,8 @@ fn versions_at(
     versions_of(&seen, tree, path, lines, names.as_slice())
 }
 
-/// The names of the patches of a branch that are in an open conflict, as these labels are seen.
+/// Returns the names of the patches of a branch that are in an unresolved conflict, given its labels in
+/// conflict.
 fn names_in_open(branch: &Branch, seen: &CtxSet) -> Result<Names, AllocError>
     ensures { IfOk result (λ names. (pairs : List (List ℕ × List ℕ)) × AreOpenAmong branch.now seen.now pairs
         × (names ≡ names_in_pairs branch.now pairs)) }
@@ -158,7 +159,7 @@ fn names_in_open(branch: &Branch, seen: &CtxSet) -> Result<Names, AllocError>
     names_in_pairs(branch, &pairs)
 }
 
-/// The names of the patches of a branch that are in one of some pairs.
+/// Returns the names of the patches of a branch that are in one of some pairs.
 fn names_in_pairs(branch: &Branch, pairs: &[(Name, Name)]) -> Result<Names, AllocError>
     ensures { IfOk result (λ names. names ≡ names_in_pairs branch.now pairs.now) }
 {
@@ -171,7 +172,7 @@ fn names_in_pairs(branch: &Branch, pairs: &[(Name, Name)]) -> Result<Names, Allo
     in_order(branch, &set)
 }
 
-/// The versions that patches would make of a file, in their order.
+/// Returns the versions that patches would make of a file, in their order.
 fn versions_of(
     seen: &CtxSet,
     tree: &Tree,
@@ -191,7 +192,7 @@ fn versions_of(
     Ok(versions)
 }
 
-/// Puts what a patch would make of a file behind the versions, where that is a file, and another one.
+/// Appends the version that a patch would make of a file, if it makes one that differs.
 fn push_made(
     versions: &mut Vec<Version>,
     lines: &SharedList<Line>,
@@ -213,7 +214,7 @@ fn push_made(
     Ok(())
 }
 
-/// What a patch would make of a path: what is there behind the changes of its side.
+/// Returns the version of a file that a patch would make: the file after the changes of its side.
 fn made_by(
     alloc: Global,
     seen: &CtxSet,

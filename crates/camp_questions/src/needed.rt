@@ -1,3 +1,4 @@
+//! The dependencies of each patch of a branch, as marks.
 ghost use Rattle.std.specs.Prelude.{◌≡◌, map, IfOk};
 ghost use Rattle.camp_branch.specs.Branches.{is_among, names_of};
 ghost use Rattle.camp_branch.specs.Fields.{names_in};
@@ -13,15 +14,15 @@ use camp_share::Shared;
 use std::alloc::{AllocError, Global};
 use std::slice;
 
-/// A patch with what it needs, and itself: whether the patch at each place of its branch is one of
-/// them. Behind the last mark none is.
+/// A patch with its dependencies and itself, as marks: for each index of the branch, whether the patch there
+/// is one of them. Indexes past the last mark are not marked.
 #[derive(Drop)]
 pub(crate) struct Needed {
     pub name: Name,
     pub needs: Vec<bool>,
 }
 
-/// The patches of a branch, which have these names, with what they need.
+/// Returns the patches of a branch, which have these names, with their dependencies.
 pub(crate) fn all_needed(branch: &Branch, names: &[Name]) -> Result<Vec<Needed>, AllocError>
     requires { names.now ≡ names_of branch.now }
     ensures { IfOk result (λ all. NeedEach branch.now names.now all.items) }
@@ -34,7 +35,7 @@ pub(crate) fn all_needed(branch: &Branch, names: &[Name]) -> Result<Vec<Needed>,
     }
 }
 
-/// The same, found by bringing each patch to the front: what stops it is needed.
+/// The same, by moving each patch to the front: what blocks it is a dependency.
 fn all_stuck(
     alloc: Global,
     catches: &[Shared<Catch>],
@@ -53,7 +54,7 @@ fn all_stuck(
     Ok(all)
 }
 
-/// Which of the names are in a set.
+/// Returns for each name whether it is in a set.
 fn marks_of(alloc: Global, names: &[Name], set: &NameSet) -> Result<Vec<bool>, AllocError>
     ensures { IfOk result (λ marks. marks.items ≡ map (is_among (names_in set.now)) names.now) }
 {

@@ -1,4 +1,4 @@
-//! The patches of a graph, found by their places.
+//! The patches of a graph, by their index.
 ghost use Rattle.std.specs.Prelude.{◌≡◌, ◌<◌, ◌≤◌, ◌&&◌, ℕ, false, not, map, filter, length, get_or, IfOk, IsTrue};
 ghost use Rattle.std.specs.List.{AllByRecursion};
 ghost use Rattle.camp_branch.specs.Branches.{AreDistinct};
@@ -12,7 +12,7 @@ use camp_base::Name;
 use camp_repo::Names;
 use std::alloc::{AllocError, Global};
 
-/// The patches of these names with what they need directly.
+/// Returns the patches of these names with their direct dependencies.
 pub(crate) fn nodes(alloc: Global, names: &[Name], all: &[Needed]) -> Result<Vec<Node>, AllocError>
     requires named { map (λ (patch : AnyNeeded). patch.name) all.now ≡ names.now }
     requires distinct { AreDistinct names.now }
@@ -31,7 +31,7 @@ pub(crate) fn nodes(alloc: Global, names: &[Name], all: &[Needed]) -> Result<Vec
     Ok(nodes)
 }
 
-/// Whether the marks of each patch end at its own place.
+/// True if the marks of each patch end at its own index.
 fn end_in_place(all: &[Needed]) -> bool
     ensures { IsTrue result → EndInPlace all.now }
 {
@@ -43,9 +43,9 @@ fn end_in_place(all: &[Needed]) -> bool
     true
 }
 
-/// What a patch, which stands at a place, needs directly: all that it needs, without what others need that it needs.
-/// The last of these are looked at first, since mostly they leave little of what stands before them. Where
-/// the marks of each end in its place, those before the first that is left leave out none.
+/// Returns the direct dependencies of the patch at an index: all its dependencies without those of its other
+/// dependencies. The last ones are tried first, since they usually remove most of those before them. If the
+/// marks of each patch end at its own index, those before the first that is left remove none.
 fn direct_needs(
     alloc: Global,
     names: &[Name],
@@ -76,7 +76,7 @@ fn direct_needs(
     Ok(Names::new(names))
 }
 
-/// The place behind the last one, of so many patches, that the patch at a place needs.
+/// Returns the index after the last dependency, among the first `n` patches, of the patch at an index.
 fn end_of_needed(marks: &[bool], at: usize, count: usize) -> usize
     ensures within { result ≤ count }
     ensures none { (place : ℕ) → result ≤ place → place < count → needs_place marks.now at place ≡ false }
@@ -91,8 +91,8 @@ fn end_of_needed(marks: &[bool], at: usize, count: usize) -> usize
     end
 }
 
-/// A place before which no patch leaves out one of these places: the first of them, where the marks of
-/// each patch end in its place.
+/// Returns an index before which no patch removes one of these: the first of them, if the marks of each patch
+/// end at its own index.
 fn settled_before(places: &[usize], in_place: bool) -> usize
     requires { AllByRecursion (λ place. get_or places.now 0 0 ≤ place) places.now }
     ensures { AreSettled in_place places.now result }
@@ -106,7 +106,7 @@ fn settled_before(places: &[usize], in_place: bool) -> usize
     0
 }
 
-/// The places of so many patches that the patch at a place needs, whose marks these are.
+/// Returns the indexes, among the first `n`, of the dependencies of the patch with these marks.
 fn needed_places(
     alloc: Global,
     marks: &[bool],
@@ -124,15 +124,15 @@ fn needed_places(
     Ok(places)
 }
 
-/// Whether the patch at a place needs the one at another.
+/// True if the patch at an index depends on the one at another.
 fn needs(marks: &[bool], at: usize, place: usize) -> bool
     ensures { result ≡ needs_place marks.now at place }
 {
     place != at && place < marks.len() && marks[place]
 }
 
-/// Leaves out the places of what the patch at a place needs. Where its marks end before the first of the
-/// places, that is none.
+/// Removes the indexes of the dependencies of the patch at an index. If its marks end before the first of the
+/// indexes, removes none.
 fn leave_out(places: &mut Vec<usize>, marks: &[bool], at: usize)
     requires { AllByRecursion (λ place. get_or places.old.items 0 0 ≤ place) places.old.items }
     ensures { places.new.items ≡ filter (λ place. not (needs_place marks.now at place)) places.old.items }
@@ -146,7 +146,7 @@ fn leave_out(places: &mut Vec<usize>, marks: &[bool], at: usize)
     places.retain(|place| !needs(marks, at, *place));
 }
 
-/// The names at some places.
+/// Returns the names at some indexes.
 fn names_at(alloc: Global, names: &[Name], places: &[usize]) -> Result<Vec<Name>, AllocError>
     requires { AllByRecursion (λ place. place < length names.now) places.now }
     ensures { IfOk result (λ chosen. chosen.items ≡ map (name_at names.now) places.now) }

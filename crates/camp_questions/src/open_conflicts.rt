@@ -1,4 +1,4 @@
-//! Which conflicts of a branch are still open.
+//! The unresolved conflicts of a branch.
 ghost use Rattle.std.specs.Prelude.{◌≡◌, ◌++◌, IfOk, OnOk};
 ghost use Rattle.std.specs.List.{flat_map};
 ghost use Rattle.camp_branch.specs.Inside.Collecting.{pair_of};
@@ -19,8 +19,8 @@ use camp_share::{Shared, SharedList};
 use std::alloc::AllocError;
 use std::cmp::Ordering;
 
-/// The pairs of patches that are in an open conflict: each once, the lesser name first, in ascending
-/// order.
+/// Returns the pairs of patches that are in an unresolved conflict: each once, the lesser name first, in
+/// ascending order.
 pub fn open_pairs(state: &State, branch: &Name) -> Result<Conflicts, Unanswered>
     ensures exact { TellsOrWants (AreOpen state.now branch.now) result }
 {
@@ -28,7 +28,7 @@ pub fn open_pairs(state: &State, branch: &Name) -> Result<Conflicts, Unanswered>
     told(open_in(branch))
 }
 
-/// The open conflicts of a branch.
+/// Returns the unresolved conflicts of a branch.
 pub(crate) fn open_in(branch: &Branch) -> Result<Conflicts, AllocError>
     ensures { IfOk result (AreOpenIn branch.now) }
 {
@@ -36,7 +36,7 @@ pub(crate) fn open_in(branch: &Branch) -> Result<Conflicts, AllocError>
     Ok(Conflicts::new(pairs))
 }
 
-/// The open conflicts among labels as seen from the end of a branch.
+/// Returns the unresolved conflicts among labels as seen from the end of a branch.
 pub(crate) fn open_among(
     catches: &SharedList<Shared<Catch>>,
     seen: &CtxSet,
@@ -49,7 +49,7 @@ pub(crate) fn open_among(
     Ok(pairs)
 }
 
-/// The pairs as the catches have them.
+/// Returns the pairs in the order of the catches.
 fn collected(
     catches: &SharedList<Shared<Catch>>,
     seen: &CtxSet,
@@ -111,7 +111,7 @@ fn collect_member(
     push_pair(name, member.name(), pairs)
 }
 
-/// The two names, the lesser first, unless they are one.
+/// Appends the pair of two names, the lesser first, unless they are equal.
 fn push_pair(name: &Name, other: &Name, pairs: &mut Vec<(Name, Name)>) -> Result<(), AllocError>
     ensures { OnOk result (pairs.new.items ≡ pairs.old.items ++ pair_of name.now other.now) }
 {
@@ -123,7 +123,7 @@ fn push_pair(name: &Name, other: &Name, pairs: &mut Vec<(Name, Name)>) -> Result
     Ok(())
 }
 
-/// Whether a label is seen, and to put it in nothing has to be taken back.
+/// True if a label is in conflict and its patch can be inserted without undoing anything.
 fn is_open(seen: &CtxSet, key: &Key) -> bool
     ensures { result ≡ is_open seen.now key.now }
 {

@@ -1,5 +1,5 @@
-//! Labels as they are seen from before changes. Most changes pass a label by, and at most move it to another
-//! line. Where one does more, it is added as the rules say.
+//! Labels as they are seen from before changes. Most changes leave a label as it is, or only move it to
+//! another line. Any other change is added by the definition.
 ghost use Rattle.std.specs.Prelude.{◌≡◌, ◌+◌, ◌<◌, ◌≤◌, ◌↔◌, [], drop, length, IfOk, IfSome, IsTrue};
 ghost use Rattle.camp_ctx.specs.Adding.{AddsAll};
 ghost use Rattle.camp_ctx.specs.Contexts.{bare};
@@ -18,8 +18,8 @@ use std::alloc::{AllocError, Global};
 /// The greatest sum of a hunk's line and the numbers of its old and of its new lines.
 const MOST_REACH: usize = 1 << 30;
 
-/// What is seen behind changes, as it is seen before them. Where nothing passes by, ever more changes are
-/// added at once.
+/// Moves contexted patches from after changes to before them. While no change is passed quickly, more and
+/// more of them are added at once.
 pub(crate) fn seen_before(
     alloc: Global,
     changes: &[Named],
@@ -40,7 +40,8 @@ pub(crate) fn seen_before(
     Ok(seen)
 }
 
-/// How many changes are added at once: one behind some that passed by, and else twice as many as before.
+/// Returns how many changes are added at once: one after some that were passed quickly, else twice as many as
+/// before.
 fn next_most(most: usize, none_passed: bool) -> usize
     requires { 1 ≤ most }
     ensures { 1 ≤ result }
@@ -58,7 +59,7 @@ fn added(alloc: Global, changes: &[Named], x: &Contexted) -> Result<Contexted, A
     Contexted::add_given(join(alloc, changes, &[])?, x)
 }
 
-/// How far a label is passed by changes, from the last to the first: where that ends, and what it is there.
+/// Returns how far a label passes changes quickly, from the last to the first, and the label there.
 fn passed_by(
     alloc: Global,
     changes: &[Named],
@@ -75,7 +76,7 @@ fn passed_by(
     Ok((stop, moved))
 }
 
-/// From which place on changes leave a label as it is.
+/// Returns the index from which changes leave a label as it is.
 fn stays_from(changes: &[Named], x: &Contexted) -> usize
     ensures within { result ≤ length changes.now }
     ensures added { AddsAll (drop result changes.now) x.now x.now }
@@ -88,7 +89,7 @@ fn stays_from(changes: &[Named], x: &Contexted) -> usize
     0
 }
 
-/// The hunk of a label that has no context.
+/// Returns the hunk of a label that has no context.
 fn hunk_alone(x: &Contexted) -> Option<&Hunk>
     ensures none { IfSome result (λ hunk. x.now.context ≡ []) }
     ensures is { IfSome result (λ hunk. x.now.patch.prim ≡ primitive.Hunk hunk.now) }
@@ -102,8 +103,8 @@ fn hunk_alone(x: &Contexted) -> Option<&Hunk>
     }
 }
 
-/// From which place on changes are passed by a hunk, from the last to the first, and the line to which it
-/// comes there.
+/// Returns the index from which a hunk commutes past changes, from the last to the first, and the line to
+/// which it moves.
 fn moves_from(changes: &[Named], patch: &Named, hunk: &Hunk) -> (usize, u32)
     requires { patch.now.prim ≡ primitive.Hunk hunk.now }
     ensures within { result.0 ≤ length changes.now }
@@ -120,7 +121,8 @@ fn moves_from(changes: &[Named], patch: &Named, hunk: &Hunk) -> (usize, u32)
     (0, line)
 }
 
-/// The line to which a hunk at a line comes before a change. None where it can't pass, or just may not.
+/// Returns the line to which a hunk at a line moves before a change; `None` if it can't commute past, or if
+/// that is not certain.
 fn line_before(change: &Named, patch: &Named, hunk: &Hunk, line: u32) -> Option<u32>
     requires { IsInRange (at_line line hunk.now) }
     ensures range { IfSome result (λ next. IsInRange (at_line next hunk.now)) }
@@ -151,8 +153,8 @@ fn is_in_file(change: &Primitive, hunk: &Hunk) -> bool
     change.path() == hunk.path()
 }
 
-/// The line to which a hunk at a line comes before another hunk of its file, where lines stand between the
-/// two.
+/// Returns the line to which a hunk at a line moves before another hunk of its file, if there are lines
+/// between the two.
 fn line_past(other: &Hunk, hunk: &Hunk, line: u32) -> Option<u32>
     requires range { IsInRange (at_line line hunk.now) }
     requires path { other.now.path ≡ hunk.now.path }
@@ -181,7 +183,7 @@ fn line_below(other: &Hunk, hunk: &Hunk, line: u32) -> Option<u32>
     Some(next as u32)
 }
 
-/// The line of a hunk above another one, which stays where the other one is in range behind it, too.
+/// Returns the line of a hunk above another one: unchanged, if the other one is in range after it too.
 fn line_above(other: &Hunk, hunk: &Hunk, line: u32) -> Option<u32>
     requires range { IsInRange (at_line line hunk.now) }
     requires path { other.now.path ≡ hunk.now.path }
@@ -196,7 +198,7 @@ fn line_above(other: &Hunk, hunk: &Hunk, line: u32) -> Option<u32>
     Some(line)
 }
 
-/// A label without a context whose hunk moves to a line.
+/// Returns a label without a context with its hunk at another line.
 fn moved_to(alloc: Global, x: &Contexted, hunk: &Hunk, line: u32) -> Result<Contexted, AllocError>
     requires none { x.now.context ≡ [] }
     requires is { x.now.patch.prim ≡ primitive.Hunk hunk.now }

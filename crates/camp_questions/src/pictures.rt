@@ -1,4 +1,4 @@
-//! Pictures of branches.
+//! Graphs of branches with their unresolved conflicts.
 ghost use Rattle.std.specs.Prelude.{◌≡◌, ◌++◌, ◌∷◌, ◌&&◌, [], ℕ, List, IfOk, OnOk, filter, map, if◌then◌else◌};
 ghost use Rattle.std.specs.List.{list_any};
 ghost use Rattle.camp_branch.specs.Branches.{is_among};
@@ -20,8 +20,8 @@ use camp_repo::{Branch, Conflicts, Names, State};
 use std::alloc::{AllocError, Global};
 use std::marker::Model;
 
-/// What is drawn of a branch: patches, what each needs directly, which are in conflict, and which
-/// conflicts of the branch are open.
+/// The graph of a branch: patches, their direct dependencies, the conflicts between them, and which conflicts
+/// of the branch are unresolved.
 #[derive(Drop)]
 pub struct Picture {
     patches: Vec<Node>,
@@ -42,21 +42,21 @@ impl Model for Picture {
 }
 
 impl Picture {
-    /// The patches, in the order of the branch.
+    /// Returns the patches, in the order of the branch.
     pub fn patches(&self) -> &[Node]
         ensures value { result.now ≡ self.now.patches }
     {
         &self.patches
     }
 
-    /// The pairs of patches that are in conflict.
+    /// Returns the pairs of patches that are in conflict.
     pub fn conflicts(&self) -> &Conflicts
         ensures value { result.now ≡ self.now.conflicts }
     {
         &self.conflicts
     }
 
-    /// The pairs of patches of the branch that are in an open conflict.
+    /// Returns the pairs of patches of the branch that are in an unresolved conflict.
     pub fn unsettled(&self) -> &Conflicts
         ensures value { result.now ≡ self.now.unsettled }
     {
@@ -64,7 +64,8 @@ impl Picture {
     }
 }
 
-/// The picture of a branch. Where patches are named, it has these, what they need, and what needs them.
+/// Returns the graph of a branch. If patches are named, it has these, their dependencies and their
+/// dependents.
 pub fn picture_of(state: &State, branch: &Name, names: &[Name]) -> Result<Picture, Unanswered>
     ensures exact { TellsOrWants (IsPictured state.now branch.now names.now) result }
 {
@@ -86,7 +87,7 @@ fn picture_in(branch: &Branch, names: &[Name]) -> Result<Picture, AllocError>
     })
 }
 
-/// The whole graph, or the part of it with what patches need, and what needs them.
+/// Returns the whole graph, or the part of it with patches, their dependencies and their dependents.
 fn drawn_about(alloc: Global, names: &[Name], whole: PatchGraph) -> Result<PatchGraph, AllocError>
     ensures { IfOk result (λ part. (pairs : List (List ℕ × List ℕ)) → whole_picture part pairs ≡ drawn_about names.now (whole_picture whole pairs)) }
 {
@@ -96,7 +97,7 @@ fn drawn_about(alloc: Global, names: &[Name], whole: PatchGraph) -> Result<Patch
     part_about(alloc, names, &whole)
 }
 
-/// The part of a graph with these patches, what they need, and what needs them.
+/// Returns the part of a graph with these patches, their dependencies and their dependents.
 fn part_about(alloc: Global, names: &[Name], whole: &PatchGraph) -> Result<PatchGraph, AllocError>
     ensures { IfOk result (λ part. (pairs : List (List ℕ × List ℕ)) →
         whole_picture part pairs ≡ part_with (hangs_on whole.now.patches names.now) (whole_picture whole.now pairs)) }
@@ -107,7 +108,7 @@ fn part_about(alloc: Global, names: &[Name], whole: &PatchGraph) -> Result<Patch
     Ok(PatchGraph { patches, conflicts })
 }
 
-/// The names of patches, of what they need, and of what needs them.
+/// Returns the names of patches, of their dependencies and of their dependents.
 fn hanging_on(alloc: Global, nodes: &[Node], names: &[Name]) -> Result<NameSet, AllocError>
     ensures { IfOk result (λ set. (name : List ℕ) → is_among (names_in set) name ≡ hangs_on nodes.now names.now name) }
 {
@@ -117,7 +118,7 @@ fn hanging_on(alloc: Global, nodes: &[Node], names: &[Name]) -> Result<NameSet, 
     set_of(alloc, &all)
 }
 
-/// The names, and what they need, from the last patch to the first.
+/// Returns the names and their dependencies, from the last patch to the first.
 fn needed(alloc: Global, nodes: &[Node], names: &[Name]) -> Result<Vec<Name>, AllocError>
     ensures { IfOk result (λ needed. needed.items ≡ with_needs nodes.now names.now) }
 {
@@ -128,7 +129,7 @@ fn needed(alloc: Global, nodes: &[Node], names: &[Name]) -> Result<Vec<Name>, Al
     Ok(needed)
 }
 
-/// Puts what a patch needs directly behind names, where it is one of them.
+/// Appends the direct dependencies of a patch to names, if it is one of them.
 fn bring_needs(names: &mut Vec<Name>, node: &Node) -> Result<(), AllocError>
     ensures { OnOk result (names.new.items ≡ with_needs_of node.now names.old.items) }
 {
@@ -138,7 +139,7 @@ fn bring_needs(names: &mut Vec<Name>, node: &Node) -> Result<(), AllocError>
     names.extend_from_slice(node.needs.as_slice())
 }
 
-/// The names, and what needs them, from the first patch to the last.
+/// Returns the names and their dependents, from the first patch to the last.
 fn needing(alloc: Global, nodes: &[Node], names: &[Name]) -> Result<Vec<Name>, AllocError>
     ensures { IfOk result (λ needing. needing.items ≡ with_needing nodes.now names.now) }
 {
@@ -149,7 +150,7 @@ fn needing(alloc: Global, nodes: &[Node], names: &[Name]) -> Result<Vec<Name>, A
     Ok(needing)
 }
 
-/// Puts a patch behind names, where it needs one of them directly.
+/// Appends a patch to names, if it depends directly on one of them.
 fn join_needing(names: &mut Vec<Name>, node: &Node) -> Result<(), AllocError>
     ensures { OnOk result (names.new.items ≡ with_needing_one names.old.items node.now) }
 {
@@ -160,7 +161,7 @@ fn join_needing(names: &mut Vec<Name>, node: &Node) -> Result<(), AllocError>
     Ok(())
 }
 
-/// Whether one of what a patch needs is among names.
+/// True if one of the direct dependencies of a patch is among names.
 fn needs_one(names: &[Name], needs: &[Name]) -> bool
     ensures { result ≡ list_any (is_among names.now) needs.now }
 {
@@ -173,7 +174,7 @@ fn has(names: &[Name], name: &Name) -> bool
     names.iter().any(|other| name == other)
 }
 
-/// The patches of names that are kept, with the arrows between these.
+/// Returns the patches of the kept names, with the arrows between these.
 fn kept_nodes(alloc: Global, kept: &NameSet, nodes: &[Node]) -> Result<Vec<Node>, AllocError>
     ensures { IfOk result (λ left. left.items ≡ map (kept_node (has_name kept.now)) (filter (λ node. has_name kept.now node.name) nodes.now)) }
 {
@@ -200,7 +201,7 @@ fn push_kept(left: &mut Vec<Node>, kept: &NameSet, node: &Node) -> Result<(), Al
     Ok(())
 }
 
-/// The pairs of which both names are kept.
+/// Returns the pairs of which both names are kept.
 fn kept_pairs(kept: &NameSet, conflicts: &Conflicts) -> Result<Conflicts, AllocError>
     ensures { IfOk result (λ left. left ≡ filter (λ pair. has_name kept.now pair.0 && has_name kept.now pair.1) conflicts.now) }
 {

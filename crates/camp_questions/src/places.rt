@@ -1,4 +1,4 @@
-//! The places of a file where versions of it differ from it.
+//! The hunks of a file with marks: the ranges of lines where versions of it differ.
 ghost use Rattle.std.specs.Prelude.{◌≡◌, [], ◌∷◌, ◌++◌, map, filter, fold, if◌then◌else◌, IfOk, OnOk};
 ghost use Rattle.std.specs.List.{slice_range};
 ghost use Rattle.camp_questions.specs.Places.{at_place, differs_within, file_from, is_within, joined, place_from, range_of, touch, with_marks, with_range};
@@ -9,14 +9,14 @@ use camp_base::Line;
 use camp_share::SharedList;
 use std::alloc::{AllocError, Global};
 
-/// Lines of a file, from one place up to another; none, where the two are one.
+/// Lines of a file, from one index up to another; empty if the two are equal.
 #[derive(Clone, Copy)]
 pub struct Range {
     pub from: usize,
     pub to: usize,
 }
 
-/// A file with what versions of it have at the places where they differ from it.
+/// Returns a file with the lines of its versions in the ranges where they differ.
 pub(crate) fn with_marks(
     lines: &SharedList<Line>,
     versions: &[Version],
@@ -29,7 +29,7 @@ pub(crate) fn with_marks(
     file_with(lines, versions, &ranges, &found)
 }
 
-/// A file with what versions of it, which differ from it in these ranges, have at some places.
+/// The same, given the range in which each version differs, and the hunks.
 fn file_with(
     lines: &SharedList<Line>,
     versions: &[Version],
@@ -50,7 +50,7 @@ fn file_with(
     Ok(MarkedFile { places, rest })
 }
 
-/// The lines of a file where each version differs from it.
+/// Returns for each version the range in which it differs from the file.
 fn ranges_of(
     alloc: Global,
     lines: &SharedList<Line>,
@@ -67,8 +67,8 @@ fn ranges_of(
     Ok(ranges)
 }
 
-/// The lines of a file that stand behind what it has in common with another at the beginning, and
-/// before what the two have in common behind that at the end.
+/// Returns the range of a file that differs from another list of lines: without the common lines at the start
+/// and, after those, at the end.
 fn range_of(lines: &[Line], others: &[Line]) -> Range
     ensures { result ≡ range_of lines.now others.now }
 {
@@ -80,7 +80,7 @@ fn range_of(lines: &[Line], others: &[Line]) -> Range
     }
 }
 
-/// The places that ranges make: those that overlap or touch are one.
+/// Joins ranges that overlap or touch.
 fn places_of(alloc: Global, ranges: &[Range]) -> Result<Vec<Range>, AllocError>
     ensures { IfOk result (λ places. places.items ≡ fold with_range [] ranges.now) }
 {
@@ -91,8 +91,8 @@ fn places_of(alloc: Global, ranges: &[Range]) -> Result<Vec<Range>, AllocError>
     Ok(places)
 }
 
-/// A range among places that lie apart, from the top: those before it, the one that it makes with those
-/// that it touches, and those behind it.
+/// Adds a range to disjoint ranges in ascending order: those before it, the union with those that it touches,
+/// and those after it.
 fn with_range(alloc: Global, places: &[Range], range: Range) -> Result<Vec<Range>, AllocError>
     ensures { IfOk result (λ new. new.items ≡ with_range places.now range) }
 {
@@ -105,7 +105,7 @@ fn with_range(alloc: Global, places: &[Range], range: Range) -> Result<Vec<Range
     Ok(new)
 }
 
-/// A range and those that it touches, as one.
+/// Returns the union of a range and those that it touches.
 fn joined_with(range: Range, places: &[Range]) -> Range
     ensures { result ≡ fold joined range (filter (touch range) places.now) }
 {
@@ -118,14 +118,14 @@ fn joined_with(range: Range, places: &[Range]) -> Range
     whole
 }
 
-/// Whether two ranges overlap or touch.
+/// True if two ranges overlap or touch.
 fn touch(range: Range, other: Range) -> bool
     ensures { result ≡ touch range other }
 {
     range.from <= other.to && other.from <= range.to
 }
 
-/// The two as one.
+/// Returns the union of two ranges.
 fn join(range: Range, other: Range) -> Range
     ensures { result ≡ joined range other }
 {
@@ -135,7 +135,7 @@ fn join(range: Range, other: Range) -> Range
     }
 }
 
-/// A place, with what stands between an earlier line and it.
+/// Makes a hunk, with the context lines from an earlier line on.
 fn place_from(
     lines: &SharedList<Line>,
     versions: &[Version],
@@ -156,7 +156,7 @@ fn place_from(
     })
 }
 
-/// What those versions have at a place that differ within it.
+/// Returns the lines for a hunk of those versions that differ within it.
 fn sides_at(
     lines: &SharedList<Line>,
     versions: &[Version],
@@ -173,7 +173,7 @@ fn sides_at(
     Ok(sides)
 }
 
-/// Puts what a version has at a place behind the sides, where it differs within it.
+/// Appends the lines of a version for a hunk to the sides, if it differs within it.
 fn push_within(
     sides: &mut Vec<Version>,
     lines: &SharedList<Line>,
@@ -192,14 +192,14 @@ fn push_within(
     Ok(())
 }
 
-/// Whether a range lies within a place.
+/// True if a range is within another.
 fn is_within(range: Range, place: Range) -> bool
     ensures { result ≡ is_within range place }
 {
     place.from <= range.from && range.to <= place.to
 }
 
-/// What a version has at a place.
+/// Returns the lines of a version for a hunk.
 fn at_place(
     lines: &SharedList<Line>,
     place: Range,
@@ -216,7 +216,7 @@ fn at_place(
     })
 }
 
-/// Lines from one place up to another; none, where there are none.
+/// Returns the lines from one index up to another; empty past the end.
 fn part(lines: &SharedList<Line>, from: usize, to: usize) -> Result<SharedList<Line>, AllocError>
     ensures { IfOk result (λ part. part ≡ slice_range lines.now from to) }
 {

@@ -1,3 +1,4 @@
+//! A patch as it is in a branch.
 ghost use Rattle.std.specs.Prelude.{◌≡◌, ◌++◌, [], ◌∷◌, IfOk, OnOk};
 ghost use Rattle.camp_repo.specs.Steps.{catches_named};
 ghost use Rattle.camp_questions.specs.Answers.{Tells};
@@ -15,7 +16,7 @@ use std::alloc::{AllocError, Global};
 use std::marker::Model;
 use std::slice;
 
-/// A patch as it stands in a branch: its catches, and what they change.
+/// A patch as it is in a branch: its catches and their changes.
 #[derive(Drop)]
 pub struct Shown {
     catches: Vec<Shared<Catch>>,
@@ -35,21 +36,21 @@ impl Model for Shown {
 }
 
 impl Shown {
-    /// Its catches, which are shared with the branch.
+    /// Returns its catches, which are shared with the branch.
     pub fn catches(&self) -> &[Shared<Catch>]
         ensures value { result.now ≡ self.now.catches }
     {
         &self.catches
     }
 
-    /// What they change, as a script has changes: each effect, one change after the other.
+    /// Returns its changes, in the form of a script: those of each effect, in order.
     pub fn changes(&self) -> &[Primitive]
         ensures value { result.now ≡ self.now.changes }
     {
         &self.changes
     }
 
-    /// What they change, given away.
+    /// Returns its changes, and consumes the patch.
     pub fn into_changes(self) -> Vec<Primitive>
         ensures value { result.items ≡ self.changes }
     {
@@ -58,8 +59,7 @@ impl Shown {
     }
 }
 
-/// A patch as it stands in a branch. Its catches and the lines of its changes are shared with the
-/// branch.
+/// Returns a patch as it is in a branch. Its catches and the lines of its changes are shared with the branch.
 pub fn show(state: &State, branch: &Name, name: &Name) -> Result<Shown, Unanswered>
     ensures exact { Tells (IsShown state.now branch.now name.now) result }
 {
@@ -67,7 +67,7 @@ pub fn show(state: &State, branch: &Name, name: &Name) -> Result<Shown, Unanswer
     told(patch_in(branch.catches(), name))
 }
 
-/// The patch of a name as it stands in a list.
+/// Returns the patch of a name as it is in a list.
 fn patch_in(list: &SharedList<Shared<Catch>>, name: &Name) -> Result<Shown, AllocError>
     ensures { IfOk result (λ shown. shown ≡ patch_in list.now name.now) }
 {
@@ -76,7 +76,7 @@ fn patch_in(list: &SharedList<Shared<Catch>>, name: &Name) -> Result<Shown, Allo
     Ok(Shown { catches, changes })
 }
 
-/// The catches of the patch of a name.
+/// Returns the catches of the patch of a name.
 fn catches_named(
     list: &SharedList<Shared<Catch>>,
     name: &Name,
@@ -92,7 +92,7 @@ fn catches_named(
     Ok(catches)
 }
 
-/// What catches change.
+/// Returns the changes of catches.
 fn changes_of(alloc: Global, catches: &[Shared<Catch>]) -> Result<Vec<Primitive>, AllocError>
     ensures { IfOk result (λ changes. changes.items ≡ changes_of catches.now) }
 {
@@ -103,7 +103,7 @@ fn changes_of(alloc: Global, catches: &[Shared<Catch>]) -> Result<Vec<Primitive>
     Ok(changes)
 }
 
-/// The changes of a list, without their labels.
+/// Returns the changes of a list, without their labels.
 pub(crate) fn changes_in(alloc: Global, effect: &[Named]) -> Result<Vec<Primitive>, AllocError>
     ensures { IfOk result (λ changes. changes.items ≡ changes_in effect.now) }
 {
@@ -112,7 +112,7 @@ pub(crate) fn changes_in(alloc: Global, effect: &[Named]) -> Result<Vec<Primitiv
     Ok(changes)
 }
 
-/// Puts changes behind others, each without its label.
+/// Appends changes to others, each without its label.
 fn append_changes(changes: &mut Vec<Primitive>, effect: &[Named]) -> Result<(), AllocError>
     ensures { OnOk result (changes.new.items ≡ changes.old.items ++ changes_in effect.now) }
 {

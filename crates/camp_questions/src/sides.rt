@@ -1,4 +1,4 @@
-//! What patches in conflict say, as seen from the end of a branch.
+//! The sides of patches in conflict, as seen from the end of a branch.
 ghost use Rattle.std.specs.Prelude.{◌≡◌, List, [], ◌∷◌, ◌++◌, is_some, IfOk, OnOk};
 ghost use Rattle.std.specs.FinMap.{get};
 ghost use Rattle.std.specs.Ordering.{eq_by_cmp};
@@ -27,7 +27,7 @@ use std::alloc::{AllocError, Global};
 use std::marker::Model;
 use std::slice;
 
-/// What a patch in conflict says.
+/// The side of a patch in conflict.
 #[derive(Drop)]
 pub struct Said {
     changes: Vec<Primitive>,
@@ -43,15 +43,15 @@ impl Model for Said {
 }
 
 impl Said {
-    /// The changes that put the patch in at the end of the branch, one after the other. There may be
-    /// more than a patch has room for.
+    /// Returns the changes that apply the patch at the end of the branch, in order. They may be more than fit
+    /// in one patch.
     pub fn changes(&self) -> &[Primitive]
         ensures value { result.now ≡ self.now }
     {
         &self.changes
     }
 
-    /// The changes, given away.
+    /// Returns the changes, and consumes the side.
     pub fn into_changes(self) -> Vec<Primitive>
         ensures value { result.items ≡ self }
     {
@@ -59,7 +59,7 @@ impl Said {
     }
 }
 
-/// The side of a patch in a branch. A patch that is in no conflict has the empty one.
+/// Returns the side of a patch in a branch; empty if the patch is in no conflict.
 pub fn side(state: &State, branch: &Name, name: &Name) -> Result<Said, Unanswered>
     ensures exact { TellsOrWants (IsSide state.now branch.now name.now) result }
 {
@@ -67,7 +67,7 @@ pub fn side(state: &State, branch: &Name, name: &Name) -> Result<Said, Unanswere
     told(said_in(branch, name))
 }
 
-/// What a patch of a branch says.
+/// The same for a patch of a branch that was found.
 fn said_in(branch: &Branch, name: &Name) -> Result<Said, AllocError>
     ensures { IfOk result (λ changes. (side : List AnyNamed) × (changes ≡ changes_in side) × IsSideIn branch.now name.now side) }
 {
@@ -76,7 +76,7 @@ fn said_in(branch: &Branch, name: &Name) -> Result<Said, AllocError>
     Ok(Said { changes })
 }
 
-/// The side of a patch in a branch.
+/// Returns the side of a patch in a branch.
 fn side_in(branch: &Branch, name: &Name) -> Result<Seq, AllocError>
     ensures { IfOk result (IsSideIn branch.now name.now) }
 {
@@ -84,8 +84,8 @@ fn side_in(branch: &Branch, name: &Name) -> Result<Seq, AllocError>
     side_among(branch.catches().allocator(), &seen, name)
 }
 
-/// The labels in conflict of a branch, as seen from its end: from the last catch to the first, with
-/// the inverses of the effects behind it.
+/// Returns the labels in conflict of a branch, as seen from its end: from the last catch to the first, with
+/// the inverses of the effects after it added.
 pub(crate) fn labels_seen(branch: &Branch) -> Result<CtxSet, AllocError>
     ensures { IfOk result (λ seen. AreSeen branch.now seen) }
 {
@@ -101,7 +101,7 @@ pub(crate) fn labels_seen(branch: &Branch) -> Result<CtxSet, AllocError>
     Ok(seen)
 }
 
-/// The labels that are seen, and those that a catch tells too.
+/// Returns the labels that were gathered, and those of one more catch.
 fn with_told(alloc: Global, seen: CtxSet, catch: &Catch, undone: &Seq) -> Result<CtxSet, AllocError>
     ensures { IfOk result (λ next. (key : AnyKey) →
         SeenToo undone.now (get seen key) (told_by catch.now key) (get next key)) }
@@ -130,7 +130,7 @@ fn with_conflictor(
     Ok(seen)
 }
 
-/// The labels that are seen, and one more, unless it is seen already.
+/// Returns the labels that were gathered, and one more unless it is among them.
 fn with_label(
     alloc: Global,
     seen: CtxSet,
@@ -152,7 +152,7 @@ fn is_seen(seen: &CtxSet, key: &Key) -> bool
     seen.get(key).is_some()
 }
 
-/// The list with the inverses of another behind it, from the last to the first.
+/// Appends the inverses of another list, from the last to the first.
 fn append_inverse(list: &mut Seq, effect: &[Named]) -> Result<(), AllocError>
     ensures { OnOk result (list.new ≡ list.old ++ inverse_all effect.now) }
 {
@@ -162,7 +162,7 @@ fn append_inverse(list: &mut Seq, effect: &[Named]) -> Result<(), AllocError>
     Ok(())
 }
 
-/// The side of a patch among labels as seen from the end of a branch.
+/// Returns the side of a patch among labels as seen from the end of a branch.
 pub(crate) fn side_among(alloc: Global, seen: &CtxSet, name: &Name) -> Result<Seq, AllocError>
     ensures { IfOk result (λ side. IsSideAmong seen.now name.now side) }
 {
@@ -175,7 +175,7 @@ pub(crate) fn side_among(alloc: Global, seen: &CtxSet, name: &Name) -> Result<Se
     Ok(side)
 }
 
-/// Puts a contexted patch of a name behind changes.
+/// Appends a contexted patch to changes if it is of a name.
 fn append_named(side: &mut Seq, name: &Name, x: &Contexted) -> Result<(), AllocError>
     ensures { OnOk result (ComesIfNamed side.old name.now x.now side.new) }
 {
@@ -185,7 +185,7 @@ fn append_named(side: &mut Seq, name: &Name, x: &Contexted) -> Result<(), AllocE
     append_label(side, x)
 }
 
-/// Puts a contexted patch behind changes, unless its label stands there already.
+/// Appends a contexted patch to changes, unless its label is there already.
 fn append_label(side: &mut Seq, x: &Contexted) -> Result<(), AllocError>
     ensures { OnOk result (ComesBehind side.old x.now side.new) }
 {

@@ -1,9 +1,10 @@
+//! The result of a question whose answer was computed.
 ghost use Rattle.camp_questions.specs.Inside.Telling.{IsTold};
 
 use crate::Unanswered;
 use std::alloc::AllocError;
 
-/// What is told of an answer that was made: the answer, or that memory ran out.
+/// Returns the computed answer, or out of memory.
 pub(crate) fn told<T>(made: Result<T, AllocError>) -> Result<T, Unanswered>
     ensures { IsTold made result }
 {

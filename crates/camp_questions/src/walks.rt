@@ -1,3 +1,4 @@
+//! The state of an annotation along the effects of a branch.
 ghost use Rattle.std.specs.Prelude.{◌≡◌, length, IfOk, OnOk};
 ghost use Rattle.std.specs.FinMap.{get, insert};
 ghost use Rattle.camp_base.specs.Trees.{Files};
@@ -14,7 +15,7 @@ use camp_share::{Shared, SharedList};
 use std::alloc::{AllocError, Global};
 use std::collections::BTreeMap;
 
-/// Of each line of the file of a path the name of the patch that put it there.
+/// Returns for each line of the file of a path the name of the patch that added it.
 pub(crate) fn names_of_lines(
     catches: &SharedList<Shared<Catch>>,
     path: &Path,
@@ -29,8 +30,8 @@ pub(crate) fn names_of_lines(
     Ok(walk.names)
 }
 
-/// What is known along the effects of a branch: of each line of a file the name of the patch that put
-/// it there, and for each hunk the names of the lines that it took away.
+/// The state of an annotation along the effects of a branch: for each line of a file the name of the patch
+/// that added it, and for each hunk the names of the lines that it removed.
 #[derive(Drop)]
 struct Walk {
     names: SharedList<Name>,
@@ -47,7 +48,7 @@ impl Walk {
         }
     }
 
-    /// Goes on behind an effect of a patch of this name.
+    /// Advances the state past an effect of a patch of this name.
     fn behind_all(&mut self, path: &Path, name: &Name, effect: &[Named]) -> Result<(), AllocError>
         requires { FollowsOn path.now effect.now (known_in self.old) }
         ensures { OnOk result (known_in self.new ≡ behind_all path.now name.now effect.now (known_in self.old)) }
@@ -58,7 +59,7 @@ impl Walk {
         Ok(())
     }
 
-    // Goes on behind a primitive: no other one than a hunk of the file tells more.
+    // Advances the state past a primitive: only hunks of the file change it.
     fn behind_change(&mut self, path: &Path, name: &Name, p: &Named) -> Result<(), AllocError>
         requires { AppliesOn path.now p.now.prim (known_in self.old) }
         ensures { OnOk result (known_in self.new ≡
@@ -72,8 +73,8 @@ impl Walk {
         }
     }
 
-    // Goes on behind a hunk of the file. It costs what the hunk changes, a search among the hunks
-    // before it, and a count for each part of the list.
+    // Advances the state past a hunk of the file. Costs time for the hunk's own lines, a search among the
+    // hunks before it, and a reference count for each chunk of the list.
     fn behind_hunk(&mut self, name: &Name, key: Key, hunk: &Hunk) -> Result<(), AllocError>
         requires { StandsWithin hunk.now (known_in self.old) }
         ensures { OnOk result (known_in self.new ≡ behind_hunk name.now key hunk.now (known_in self.old)) }
@@ -87,7 +88,7 @@ impl Walk {
     }
 }
 
-// The names of the lines that come with a hunk. Those of the lines that go are kept under its key.
+// Returns the names of the new lines of a hunk. Those of the old lines are stored under its key.
 fn names_behind(
     taken: &mut BTreeMap<Key, SharedList<Name>>,
     name: &Name,
@@ -105,7 +106,7 @@ fn names_behind(
     names_coming(before, own, hunk.new().len()).to_vec()
 }
 
-// Keeps names under a key, and gives those that were kept there.
+// Stores names under a key, and returns those that were stored there.
 fn keep(
     taken: &mut BTreeMap<Key, SharedList<Name>>,
     key: Key,
@@ -118,8 +119,8 @@ fn keep(
     Ok(before)
 }
 
-// The names of the lines that come with a hunk: those that its inverse took away, where these are as
-// many, and else its own.
+// Returns the names of the new lines of a hunk: those that its inverse removed, if there are as many, else
+// its own.
 fn names_coming(
     taken: Option<SharedList<Name>>,
     own: SharedList<Name>,
@@ -133,8 +134,8 @@ fn names_coming(
     }
 }
 
-// The names that a hunk itself gives to its new lines: those that are on both of its sides at their
-// beginnings or at their ends keep theirs, and all others have the name of the patch.
+// Returns the names that a hunk itself gives to its new lines: those that are on both of its sides at the
+// start or at the end keep theirs, and all others have the name of the patch.
 fn own_names(
     gone: &SharedList<Name>,
     name: &Name,

@@ -14,7 +14,7 @@ module _ {A : Type 0} where
   pub shorter_begins : (xs ys : List A) → IsShorter xs ys → IsBeginning xs ys
   shorter_begins xs ys s = record { rest = s.next ∷ s.rest; is = s.is }
 
-  -- a beginning is the whole list, or shorter
+  -- a prefix is the whole list, or shorter
   pub begins_cases : (xs ys : List A) → IsBeginning xs ys → (xs ≡ ys) ⊎ (IsShorter xs ys)
   begins_cases xs ys f = at f.rest f.is where
     at : (rest : List A) → xs ++ rest ≡ ys → (xs ≡ ys) ⊎ (IsShorter xs ys)
@@ -33,7 +33,7 @@ module _ {A : Type 0} where
         absurd (omega arith)
   ]
 
-  -- a list cut at an element goes on with the longer list
+  -- a list split at an element is continued by the longer list
   pub cut_longer : (before : List A) (x : A) (after whole rest longer : List A) → before ++ x ∷ after ≡ whole → whole ++ rest ≡ longer → before ++ x ∷ (after ++ rest) ≡ longer
   cut_longer before x after whole rest longer cut more = sym (append_assoc before (x ∷ after) rest) ∙ (ap (λ l. l ++ rest) cut ∙ more)
 
@@ -57,7 +57,7 @@ module _ {A : Type 0} where
         | inr more ↦ inr (more.0, λ k. first k ∷ more.1 k)
       ]
 
-  -- of two beginnings of one list, one begins the other
+  -- of two prefixes of one list, one is a prefix of the other
   pub beginnings_meet : (xs ys whole : List A) → IsBeginning xs whole → IsBeginning ys whole → (IsBeginning xs ys) ⊎ (IsShorter ys xs)
   beginnings_meet [] ys whole f g = inl (begins_nil ys)
   beginnings_meet (x ∷ xs) [] whole f g = inr (record { next = x; rest = xs; is = refl })
@@ -69,6 +69,6 @@ module _ {A : Type 0} where
         | inr h ↦ inr (record { next = h.next; rest = h.rest; is = λ k. sym same k ∷ h.is k })
       ]
 
-  -- what follows a beginning of a list is one list
+  -- a prefix of a list is followed by one rest only
   pub next_is : (xs : List A) (x y : A) (later rest whole : List A) → xs ++ x ∷ later ≡ whole → xs ++ y ∷ rest ≡ whole → x ≡ y
   next_is xs x y later rest whole e f = let same = append_cancel_left xs (x ∷ later) (y ∷ rest) (e ∙ sym f) in cc

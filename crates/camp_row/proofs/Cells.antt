@@ -1,4 +1,5 @@
--- The cells of a chain: no two entries have one, and the word that names the last tells the chain among its beginnings.
+-- The cells of a chain: no two entries have the same one, and the word of the last cell identifies the chain among
+-- its prefixes.
 use Rattle.camp_row.proofs.Words.{◌≡◌, ◌≢◌, ℕ, suc, ◌+◌, ◌<◌, ◌≤◌, ◌⊎◌, inl, inr, List, [], ◌∷◌, ◌++◌, length, ◌==◌, sym, refl, ap, ◌∙◌, subst, arith, length-append, append-nil, append_assoc, append_cancel_left, filter-append, eq-eqb, ne_eqb, cond-true, cond-false, same_from_place, Entry, IsBeginning, IsShorter, own, turns, cell_of, head_after, head_word, Fits}
 use Rattle.camp_row.proofs.Beginnings.{begins_cases, cut_longer, cut_push, beginnings_meet, next_is}
 
@@ -34,7 +35,7 @@ turns_front seat xs ys f =
 pub own_push_other : (seat : ℕ) (chain : List Entry) (e : Entry) → e.seat ≢ seat → own seat (chain ++ e ∷ []) ≡ own seat chain
 own_push_other seat chain e ne = own-append seat chain (e ∷ []) ∙ (ap (λ l. own seat chain ++ l) (own-other seat e [] ne) ∙ append-nil (own seat chain))
 
--- where a seat has no entry that was not seen, what comes next is another seat's
+-- if a seat has no entry that was not seen, the next entry is another seat's
 module _ (seat : ℕ) (seen : List Entry) (e : Entry) (later ahead : List Entry) (cut : seen ++ e ∷ later ≡ ahead) (same : own seat ahead ≡ own seat seen) where
   rest_is_nil : own seat (e ∷ later) ≡ []
   rest_is_nil = append_cancel_left (own seat seen) (own seat (e ∷ later)) [] (sym (own-append seat seen (e ∷ later)) ∙ (ap (own seat) cut ∙ (same ∙ sym (append-nil (own seat seen)))))
@@ -67,14 +68,14 @@ last_cases (x ∷ xs) = inr (elim (last_cases xs) [
 ])
 
 module _ (seats per_seat : ℕ) (chain : List Entry) (fits : Fits seats per_seat chain) where
-  -- two entries of one seat that have one turn, where the chain goes on to the second from behind the first
+  -- two entries of one seat with the same turn, of which the second comes after the first in the chain
   none_between : (b : List Entry) (e : Entry) (a c : List Entry) (f : Entry) (d : List Entry) → b ++ e ∷ a ≡ chain → c ++ f ∷ d ≡ chain → turns e.seat b ≡ turns e.seat c → IsShorter b c → ⊥
   none_between b e a c f d at_e at_f same s =
       let next : s.next ≡ e = next_is b s.next e (s.rest ++ f ∷ d) a chain (cut_longer b s.next s.rest c (f ∷ d) chain s.is at_f) at_e in
       let more : turns e.seat b < turns e.seat c = subst (λ (x : Entry). turns x.seat b < turns x.seat c) next (turns_cut b s.next s.rest c s.is) in
       omega arith
 
-  -- two entries of one cell stand at one place of the chain
+  -- two entries of one cell are at the same position of the chain
   pub one_place : (b : List Entry) (e : Entry) (a : List Entry) (c : List Entry) (f : Entry) (d : List Entry) → b ++ e ∷ a ≡ chain → c ++ f ∷ d ≡ chain → cell_of seats b e ≡ cell_of seats c f → b ≡ c
   one_place b e a c f d at_e at_f same =
       let apart = same_from_place (turns e.seat b) e.seat (turns f.seat c) f.seat seats (fits b e a at_e).0 (fits c f d at_f).0 same in
@@ -87,7 +88,7 @@ module _ (seats per_seat : ℕ) (chain : List Entry) (fits : Fits seats per_seat
         | inr shorter ↦ absurd (none_between c f d b e a at_f at_e (sym apart.0 ∙ ap (λ s. turns s b) seat_is) shorter)
       ]
 
-  -- two beginnings of the chain whose last cell has one name are one
+  -- two prefixes of the chain with the same last cell are equal
   pub same_front : (xs ys : List Entry) → IsBeginning xs chain → IsBeginning ys chain → head_word seats xs ≡ head_word seats ys → xs ≡ ys
   same_front xs ys f g same = at (last_cases xs) (last_cases ys) where
     named : (zs : List Entry) (l : HasLast zs) → head_word seats zs ≡ cell_of seats l.before l.last + 1

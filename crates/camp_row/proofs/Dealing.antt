@@ -1,4 +1,4 @@
--- The rule at the opening, after a split and after a join; the parts that are dealt out.
+-- The invariant for a new row, after a split and after a join; and the parts of the seats that are dealt out.
 use Rattle.camp_row.proofs.Words.{◌≡◌, ℕ, zero, suc, ◌+◌, ◌-◌, ◌*◌, ◌<◌, ◌≤◌, inl, inr, List, [], ◌∷◌, ◌++◌, replicate, cond, ◌==◌, sym, refl, ap, ◌∙◌, subst, arith, set, slice_index, sum_by, All, map, take, drop, length-replicate, sum_by-cons, sum_by_push, sum_by-append, All-cons, All-nil, All-map, All-take, All-drop, All-append, All-weaker, cases_eq, range_with_len, some, some-injective, some-ne-none, get_elem?, Splits, Joins, at_set, at_snoc, set_else, Knowledge, Part, parts_of, fresh, all_fresh, parent_word, place_word, Holds, Knows, IsRuled, first_apart, without_first, joined, spent}
 use Rattle.std.proofs.lemmas.List.Sums.{sum_by-take-drop}
 use Rattle.camp_row.proofs.Beginnings.{begins_nil, no_cut}
@@ -54,7 +54,7 @@ zero_at zero i = refl
 zero_at (suc n) zero = refl
 zero_at (suc n) (suc i) = zero_at n i
 
--- a range from a number on: that number, and the range from the next one on
+-- a range of numbers: the first one, followed by the range from the next one on
 pub range_more : (from len : ℕ) → 0 < len → range_with_len from len ≡ from ∷ range_with_len (from + 1) (len - 1)
 range_more from zero positive = absurd (omega arith)
 range_more from (suc len) positive = let e : suc len - 1 ≡ len = omega arith in ap (λ n. from ∷ range_with_len (from + 1) n) (sym e)

@@ -1,9 +1,9 @@
--- Stores to a seat's next cell keep the rule: that cell is not in the chain, and no other seat's.
+-- Stores to a seat's next cell keep the invariant: that cell is not in the chain, and belongs to no other seat.
 use Rattle.camp_row.proofs.Words.{◌≡◌, ◌≢◌, ℕ, ◌+◌, ◌*◌, ◌<◌, List, [], ◌∷◌, ◌++◌, length, sym, refl, ap, ◌∙◌, subst, arith, set, get_or, get_or-set_same, get_or-set_other, length-set, same_from_place, row_fits, some, get_elem?, Entry, Knowledge, turns, cell_of, head_word, Part, parent_word, place_word, Holds, IsRuled, StoredParent, StoredPlace}
 use Rattle.camp_row.proofs.Cells.{turns_cut}
 use Rattle.camp_row.proofs.Ruling.{Owes, only, knows, keep_one, holds_other}
 
--- the seat's next cell, and the room for it
+-- the seat's next cell, which the row has
 abbrev pub next_cell : Part → ℕ
 next_cell p = turns p.number p.seen * p.seats + p.number
 

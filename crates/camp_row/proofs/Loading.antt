@@ -1,4 +1,4 @@
--- Loads keep the rule, and tell what `specs/Inside/Steps` says.
+-- Loads keep the invariant, and teach what `specs/Inside/Steps` says.
 use Rattle.camp_row.proofs.Words.{◌≡◌, ℕ, ◌+◌, ◌*◌, ◌<◌, List, [], ◌∷◌, ◌++◌, length, cond, ◌==◌, sym, refl, ap, ◌∙◌, subst, arith, set, slice_index, All, map, All-weaker, All-map, Entry, Knowledge, IsShorter, own, turns, cell_of, head_word, Fits, Part, parts_of, finds, place_word, Holds, Knows, IsRuled, Sees, Looked, Walked, Advanced, sum_by, spent}
 use Rattle.camp_row.proofs.Beginnings.{begins_refl, cut_longer, cut_pushed}
 use Rattle.camp_row.proofs.Cells.{own_of_next}

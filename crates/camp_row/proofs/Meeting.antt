@@ -1,4 +1,4 @@
--- Two passes that find one chain.
+-- Two passes that found the same chain.
 use Rattle.camp_row.proofs.Words.{subst, ◌≡◌, ◌≢◌, inl, inr, ℕ, ◌+◌, ◌≤◌, List, [], ◌∷◌, All, map, sym, ap, ◌∙◌, arith, All-head, All-tail, All-same, Seat, Entry, Knowledge, PassInside, IsBeginning, Known, FindsChain, OneBegins, Part, part_of, known_of, parts_of, finds, part, known, IsPass, Sees, Looked, ◌++◌}
 use Rattle.camp_row.proofs.PassOfRow.{known_at, beginnings_meet, shorter_begins}
 use Rattle.camp_row.proofs.Ruling.{parts_of-self}
@@ -30,7 +30,7 @@ met {found} {b} {a} {old} {new} joined b_is a_is looked =
           absurd (omega arith);
     }
 
--- what contracts see of a pass that found the chain
+-- a pass that found the chain, as contracts see it
 pub finds_known : (pass : PassInside) (seat : Seat (Unit {0}) Knowledge) (found : ℕ) (chain : List Entry) → seat.table_id ≡ pass.seat.table_id → seat.me.0.parts ≡ finds chain (part pass) ∷ [] → Sees found chain (part pass)
     → FindsChain (known pass) (known_of seat.table_id (part_of seat.me.0.parts))
 finds_known pass seat found chain table alone sees =

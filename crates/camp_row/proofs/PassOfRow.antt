@@ -1,4 +1,4 @@
--- A pass over its fields, and the row that it is of.
+-- A pass and its fields, and the row that it is of.
 use Rattle.camp_row.proofs.Words.{◌≡◌, ℕ, ◌+◌, ◌*◌, ◌<◌, ◌≤◌, List, [], ◌∷◌, sym, refl, ap, ◌∙◌, subst, arith, row_fits, TableId, Seat, Knowledge, Next, IsShorter, turns, cell_of, RowId, Known, ComesNext, Part, part_of, known_of, IsSoundPart, part, known, IsPass, id_of, IsRow, PassInside, RowInside, ◌%◌, ◌++◌, mod-mul-add, Allows, Splits, head_word, finds, Looked, Sees, Walked, first_apart, without_first, Entry}
 use Rattle.std.proofs.Math.Nat.{mul-le-mul_left}
 use Rattle.camp_row.proofs.Drafting.{next_cell, HasRoom}
@@ -15,7 +15,7 @@ pub record IsOf (pass : PassInside) (row : RowInside) : Type 0 where
   pub words : row.table.shared.table_id.words ≡ 1 + 2 * (row.per_seat * row.seats)
   pub few : row.per_seat * row.seats ≤ 4194304
 
--- the cell is the next one of the pass's seat, for which there is room
+-- the cell is the next one of the pass's seat, which has one left
 pub record AtOwn (pass : PassInside) (row : RowInside) (cell : ℕ) : Type 0 where
   pub of : IsOf pass row
   pub own : cell ≡ next_cell (part pass)
@@ -103,7 +103,7 @@ next_of {pass} {next = next} of same sound comes =
     let n : ComesNext (known pass) next = subst (λ x. ComesNext x next) (sym same) comes in
     record { shorter = record { next = next.entry; rest = n.later; is = n.is }; entry = refl; held = held n.later of sound n.is n.cell }
 
--- what the table asks of a step of a seat
+-- the obligations of a step of a seat
 abbrev pub MaySplit : RowInside → Seat (Unit {0}) Knowledge → Type 0
 MaySplit row seat =
     let shared = row.table.shared in

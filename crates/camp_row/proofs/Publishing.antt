@@ -1,4 +1,5 @@
--- A compare_exchange of the head keeps the rule: it lengthens the chain by the drafted cell where the chain is just what was seen, and else finds a longer one.
+-- A compare_exchange of the head keeps the invariant: it adds the drafted cell to the chain if the chain is exactly
+-- what was seen, and else finds a longer one.
 use Rattle.camp_row.proofs.Words.{◌≡◌, ◌≢◌, ℕ, ◌+◌, ◌*◌, ◌<◌, inl, inr, List, [], ◌∷◌, ◌++◌, Bool, true, false, ◌==◌, sym, refl, ap, ◌∙◌, subst, arith, set, slice_index, MatchBool, get_or-set_same, length-set, eq-eqb, ne_eqb, cases_eq, some, either, get_elem?, Entry, Knowledge, IsBeginning, turns, cell_of, head_word, Fits, Part, finds, Holds, Knows, IsRuled, drafted_part, won_part, WonPart, LostPart}
 use Rattle.camp_row.proofs.Beginnings.{begins_refl, begins_both, begins_push, begins_cases, cut_push}
 use Rattle.camp_row.proofs.Cells.{turns_cut, own_push_other, head_word-push, same_front, fits_push}

@@ -1,7 +1,7 @@
 -- The rule of the row, when a step changes one view and perhaps one word.
 use Rattle.camp_row.proofs.Words.{◌≡◌, ◌≢◌, ℕ, zero, suc, ◌+◌, ◌≤◌, inl, inr, List, [], ◌∷◌, length, cond, ◌==◌, sym, refl, ap, ◌∙◌, subst, arith, zero-add, set, get_or, slice_index, sum_by, All, get_or-set_other, set-get_or, sum_by-cons, All-head, All-cons, All-nil, eq-eqb, ne_eqb, cond-true, cond-false, some, some-injective, some-ne-none, get_elem?, State, Me, keeps, Allows, at_set, set_else, spent, Entry, Knowledge, head_word, Fits, Part, parts_of, parent_word, place_word, Holds, IsLinked, Knows, IsRuled}
 
--- what a step owes that takes no slot: whatever the words and the views are, there is a view that keeps the rule
+-- the obligation of a step that takes no slot: whatever the words and the views are, some view keeps the invariant
 abbrev pub Owes : ℕ → ℕ → ℕ → Knowledge → ℕ → (ℕ → ℕ) → (ℕ → Knowledge → Type 0) → Type 0
 Owes seats per_seat id v i f then = (words : List ℕ) (views : List Knowledge) → IsRuled seats per_seat words views → get_elem? views id ≡ some v
     → (w : Knowledge) × IsRuled seats per_seat (set words i (f (slice_index words i))) (set views id w) × then (slice_index words i) w
@@ -13,7 +13,7 @@ pub allows : (seats per_seat slots id : ℕ) (me : Me (Unit {0}) Knowledge) (i :
     → Owes seats per_seat id me.0 i f then → Allows (Ruled seats per_seat) slots id me i f (λ n m. (m.1 ≡ me.1) × then n m.0)
 allows seats per_seat slots id me i f then owes s ruled homes at fits = let o = owes s.words s.views ruled at in (o.0, keeps, tt, o.1, (refl, o.2))
 
--- a view with one part, and the same of it
+-- a view with one part
 abbrev pub only : Part → Knowledge
 only p = record { parts = p ∷ [] }
 
@@ -79,7 +79,7 @@ module _ (seats per_seat : ℕ) (words : List ℕ) (views : List Knowledge) (rul
     ];
   }
 
--- the rule where no word changes, over other views
+-- the invariant for other views, if no word changes
 pub with_views : {seats per_seat : ℕ} {words : List ℕ} {views : List Knowledge} (others : List Knowledge) (ruled : IsRuled seats per_seat words views)
     → ((number : ℕ) → sum_by (λ (view : Knowledge). parts_of number view.parts) others ≤ 1)
     → ((seat : ℕ) (view : Knowledge) → get_elem? others seat ≡ some view → All (Knows seats per_seat words ruled.chain) view.parts) → IsRuled seats per_seat words others
@@ -95,7 +95,7 @@ holds_other words i x cell parent place apart apart' h = record {
   places = get_or-set_other words i (place_word cell) x 0 (λ e. apart' (sym e)) ∙ h.places;
 }
 
--- the rule after a step by a seat with one part
+-- the invariant after a step by a seat with one part
 module _ (seats per_seat : ℕ) (words : List ℕ) (views : List Knowledge) (ruled : IsRuled seats per_seat words views) (id : ℕ) (p : Part) (at : get_elem? views id ≡ some (only p)) where
   pub knows : Knows seats per_seat words ruled.chain p
   knows = All-head (Knows seats per_seat words ruled.chain) p [] (ruled.known id (only p) at)

@@ -1,11 +1,11 @@
--- A place of a trail, before the entries that lie before it are seen.
+-- A position of a trail, before the entries before it are seen.
 use Rattle.camp_row.proofs.Words.{◌≡◌, ℕ, zero, suc, ◌+◌, ◌-◌, ◌<◌, List, [], ◌∷◌, ◌++◌, length, slice_get, Some, sym, refl, ap, ◌∙◌, subst, arith, length-append, append-nil, append_assoc, same_Some, Entry, cell_of, Known, Leads, Stands, cells_back, get_or, slice_get_read}
 use Rattle.std.proofs.Math.Seq.{get_or-append_seam}
 use Rattle.std.proofs.lemmas.List.{get_or_append_left}
 use Rattle.std.proofs.lemmas.Option.{get_or_from_slice_get, slice_get-get_or}
 use Rattle.camp_row.proofs.TrailSteps.{length-cells_back}
 
--- the entry at a place of a list, and its cell
+-- the entry at an index of a list, and its cell
 record Placed (seats : ℕ) (before left : List Entry) (index cell : ℕ) : Type 0 where
   pub mid : List Entry
   pub entry : Entry
@@ -14,13 +14,13 @@ record Placed (seats : ℕ) (before left : List Entry) (index cell : ℕ) : Type
   pub place : length mid ≡ index
   pub cell_is : cell ≡ cell_of seats (before ++ mid) entry
 
--- an element stands at the length of what stands before it
+-- the index of an element is the number of elements before it
 get_after : {A : Type 0} (before : List A) (x : A) (after : List A) (i : ℕ) → length before ≡ i → slice_get (before ++ x ∷ after) i ≡ Some x
 get_after before x after i at =
     subst (λ n. slice_get (before ++ x ∷ after) n ≡ Some x) at
     (slice_get-get_or (before ++ x ∷ after) (length before) x (omega (arith, length-append before (x ∷ after))) ∙ ap Some (get_or-append_seam before x after x))
 
--- the cells lie in the order of the entries, the last on the ground
+-- the cells of the trail are in the order of the entries, the last entry at the bottom
 placed : (seats : ℕ) (before left : List Entry) (index up cell : ℕ) → up + index + 1 ≡ length left
     → slice_get (cells_back seats before left) up ≡ Some cell → Placed seats before left index cell
 placed seats before [] index up cell sum at = absurd (omega arith)
@@ -45,7 +45,7 @@ placed seats before (x ∷ left) (suc index) up cell sum at =
       cell_is = rest.cell_is ∙ ap (λ b. cell_of seats b rest.entry) (append_assoc before (x ∷ []) rest.mid);
     }
 
--- the entry at a place of the trail
+-- the entry at a position of the trail
 pub record StandsAt (known : Known) (index cell : ℕ) : Type 0 where
   pub stands : Stands known cell
   pub place : slice_get known.ahead (length known.seen + index) ≡ Some stands.entry

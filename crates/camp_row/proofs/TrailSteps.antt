@@ -40,7 +40,7 @@ comes_next {known} {row} {rest} {cell} {e} top e_is sound row_is below = (
   subst (λ (x : Entry). Leads known (known.seen ++ x ∷ []) rest) (sym e_is) (record { left = top.later; is = cut_pushed known.seen top.later top.entry ∙ top.is; cells = top.rest_is }),
 )
 
--- a walk that has come to a beginning of the chain, with the cells behind it on the stack
+-- a walk that has reached a prefix of the chain, with the cells after it on the stack
 pub record Climbs (part : Part) (word : ℕ) (stack : List ℕ) : Type 0 where
   pub mid : List Entry
   pub rest : List Entry
@@ -61,7 +61,7 @@ pub length-cells_back : (seats : ℕ) (before left : List Entry) → length (cel
 length-cells_back seats before [] = refl
 length-cells_back seats before (e ∷ left) = let more = length_push (cells_back seats (before ++ e ∷ []) left) (cell_of seats before e) in let rest = length-cells_back seats (before ++ e ∷ []) left in omega arith
 
--- the cell that the walk has come to, while it is not at what was seen
+-- the cell that the walk has reached, while it is past what was seen
 pub record Above (pass : PassInside) (row : RowInside) (word : ℕ) (stack : List ℕ) : Type 0 where
   pub mid : List Entry
   pub entry : Entry

@@ -1,13 +1,13 @@
--- The chain of cells as a list of entries, oldest first, and the words of the row that stand for it.
+-- The chain of cells as a list of entries, oldest first, and the words of the row that represent it.
 use Rattle.std.specs.Prelude.{◌≡◌, ℕ, ◌+◌, ◌*◌, ◌<◌, ◌==◌, List, [], ◌∷◌, ◌++◌, length, filter}
 use Rattle.camp_row.specs.declared.entries.Entry.{Entry}
 
--- one list begins another
+-- one list is a prefix of another
 pub record IsBeginning {A : Type 0} (beginning whole : List A) : Type 0 where
   pub rest : List A
   pub is : beginning ++ rest ≡ whole
 
--- one list begins another, which goes on
+-- one list is a proper prefix of another
 pub record IsShorter {A : Type 0} (beginning whole : List A) : Type 0 where
   pub next : A
   pub rest : List A
@@ -17,7 +17,7 @@ pub record IsShorter {A : Type 0} (beginning whole : List A) : Type 0 where
 abbrev pub own : ℕ → List Entry → List Entry
 own seat chain = filter (λ entry. entry.seat == seat) chain
 
--- how many they are
+-- their number
 abbrev pub turns : ℕ → List Entry → ℕ
 turns seat chain = length (own seat chain)
 
@@ -25,7 +25,7 @@ turns seat chain = length (own seat chain)
 abbrev pub cell_of : ℕ → List Entry → Entry → ℕ
 cell_of seats before entry = turns entry.seat before * seats + entry.seat
 
--- the word that names the last cell: 0 where there is none, else its number and 1
+-- the word that names the last cell: 0 if there is none, else its number plus 1
 abbrev pub head_after : ℕ → List Entry → ℕ → List Entry → ℕ
 head_after seats before word [] = word
 head_after seats before word (entry ∷ later) =
@@ -34,7 +34,7 @@ head_after seats before word (entry ∷ later) =
 abbrev pub head_word : ℕ → List Entry → ℕ
 head_word seats chain = head_after seats [] 0 chain
 
--- each entry is of a seat of the row, which has cells enough
+-- each entry is of a seat of the row that has a cell for it
 abbrev pub Fits : ℕ → ℕ → List Entry → Type 0
 Fits seats per_seat chain = (before : List Entry) (entry : Entry) (after : List Entry) → before ++ entry ∷ after ≡ chain
     → (entry.seat < seats) × (turns entry.seat before < per_seat)

@@ -1,4 +1,4 @@
--- What contracts see of a row, of a pass to it, and of a walk back along its chain.
+-- A row, a pass to it, and a walk back along its chain, as contracts see them.
 use Rattle.std.specs.Prelude.{◌≡◌, ◌≢◌, ◌⊎◌, ℕ, ◌<◌, List, [], ◌∷◌, ◌++◌}
 use Rattle.atomic_table.specs.Seated.{TableId}
 use Rattle.camp_row.specs.declared.entries.Entry.{Entry}
@@ -13,7 +13,7 @@ most_seats = 64
 abbrev pub most_cells : ℕ
 most_cells = 65_536
 
--- which row it is, how many seats it has, and how many cells each of them has
+-- a row: its identity, the number of seats, and the number of cells of each seat
 pub record RowId : Type 0 where
   pub table : TableId
   pub seats : ℕ
@@ -65,7 +65,7 @@ pub record Stands (known : Known) (cell : ℕ) : Type 0 where
   pub is : before ++ entry ∷ later ≡ known.ahead
   pub cell_is : cell ≡ cell_of known.row.seats before entry
 
--- the entry comes next in the chain that was found; another seat of the row made it
+-- the entry comes next in the chain that was found, and is of a seat of the row
 pub record ComesNext (known : Known) (next : Next) : Type 0 where
   pub later : List Entry
   pub is : known.seen ++ next.entry ∷ later ≡ known.ahead
@@ -73,7 +73,7 @@ pub record ComesNext (known : Known) (next : Next) : Type 0 where
   pub other : next.entry.seat ≢ known.number
   pub seat_below : next.entry.seat < known.row.seats
 
--- the draft names the last cell that was seen as the one before
+-- the draft names the last cell that was seen as its parent
 abbrev pub IsDrafted : Known → Type 0
 IsDrafted known = known.parent ≡ head_word known.row.seats known.seen
 
@@ -85,13 +85,13 @@ with_draft known place = record known { parent = head_word known.row.seats known
 abbrev pub drafted : Known → Entry
 drafted known = record { seat = known.number; place = known.place }
 
--- the pass when the drafted cell has become the last of the chain
+-- the pass after the drafted cell became the last of the chain
 abbrev pub won : Known → Known
 won known =
     let entries = known.seen ++ drafted known ∷ [] in
     record known { seen = entries; ahead = entries; parent = 0; place = 0 }
 
--- the chain was just what was seen; the drafted cell is its last now, and was seen
+-- the chain was exactly what was seen; the drafted cell is now its last, and was seen
 pub record Won (old new : Known) : Type 0 where
   pub whole : old.ahead ≡ old.seen
   pub is : new ≡ won old
@@ -103,6 +103,6 @@ pub record Lost (old new : Known) : Type 0 where
   pub sound : IsSound new
   pub longer : IsShorter old.seen new.ahead
 
--- of two passes, what one has seen begins what the other has seen
+-- of what two passes have seen, one is a prefix of the other
 abbrev pub OneBegins : Known → Known → Type 0
 OneBegins a b = (IsBeginning a.seen b.seen) ⊎ (IsBeginning b.seen a.seen)

@@ -1,4 +1,4 @@
-//! The rule of the table, and its six kinds of atomic step; there are no others.
+//! The invariant of the table, and its six kinds of atomic step; there are no others.
 ghost use Rattle.camp_row.specs.Inside.Parts.{all_fresh};
 ghost use Rattle.camp_row.specs.Inside.Rule.{IsRuled};
 ghost use Rattle.std.specs.Prelude.{◌≡◌};

@@ -1,4 +1,4 @@
--- A reader comes to the script that is defined.
+-- A reader gives the script of the definitions.
 use Rattle.camp_script.proofs.Common.{◌≡◌, ℕ, ◌+◌, Bool, true, false, not, ◌&&◌, ◌||◌, ◌==◌, nat_le, cond, List, [], ◌∷◌, ◌++◌, length, codes, refl, sym, ap, ◌∙◌, Option, None, Some, Result, Ok, Err, arith, length-append, cond-false, nat_tests, Edit, Primitive, Hunk, is_writing, Call, Command, Nothing, Ask, BeginEdit, BeginGroup, BeginSection, command_of, words_of, OpenEdit, OpenRecord, Progress, start, after_change, obey, heed, read_from, LineFault, bytes_eq, if◌then◌else◌, GroupLine, NoChange, WholeChange, EditChange, EndGroup, group_line_of, grown, ended, edit_of, group_of, after_body_line, after_entry, with_change, ◌>>=◌, in_turn, NumberedLine, Entry, Item, numbered, up_to, pieces, begins_with, begins_edit, begins_group, words_on, ends_body, entries_of, entry_words, ends_group, items_of, first_section, clients_of, is_full, with_asked, after_item, after_client, script_of_lines}
 use Rattle.std.specs.List.{list_any}
 use Rattle.camp_call.specs.declared.calls.Call.TheVariants as call
@@ -8,9 +8,9 @@ use Rattle.camp_script.proofs.EndSteps.{has_one}
 use Rattle.camp_script.proofs.Holding.{Holds}
 use Rattle.camp_script.proofs.Asked.{Fits, is_edit, is_group, is_section, fits, FitsGroup, is_edit_change, is_end, fits_group}
 
--- ---- where a reader stands, and what the rest of the lines means there
+-- ---- the state of a reader, and the meaning of the rest of the lines there
 
--- sections that are closed, and the calls of this one
+-- finished sections, and the calls of this one
 abbrev outside : List (List Call) → List Call → Progress
 outside closed calls = record { closed = closed; calls = calls; open_record = None }
 
@@ -22,7 +22,7 @@ inside closed calls branch name opened grouped changes edit = record {
   open_record = Some (record { branch = branch; name = name; opened = opened; grouped = grouped; changes = changes; open_edit = edit });
 }
 
--- the rest of a script: items of this section, and then those of clients
+-- the rest of a script: items of this section, followed by those of clients
 abbrev rest_of_script : List (List Call) → List Call → List Item → Result (List (List Call)) LineFault
 rest_of_script closed calls items =
     in_turn after_item calls (first_section items) >>= λ calls. in_turn after_client (closed ++ calls ∷ []) (clients_of items)
@@ -39,7 +39,7 @@ rest_of_body begun edit body =
     in_turn after_body_line edit body >>= λ edit.
     if list_any ends_body body then Ok (Hunk edit) else fault_at begun EditNotEnded
 
--- the items behind entries, of which the first ones are in a group or not
+-- the items of entries, of which the first ones are in a group or not
 abbrev items_from : Bool → List Entry → List Item
 items_from in_group entries = pieces (λ entry. begins_group (entry_words entry)) ends_group in_group entries
 
@@ -53,7 +53,7 @@ from_group closed calls branch name opened changes entries =
     rest_of_group opened changes (up_to ends_group entries) >>= λ changes.
     rest_of_script closed (calls ++ call.Record branch name changes ∷ []) (items_from true entries)
 
--- the rest of a script behind a body: a group goes on, and an edit that stands alone ends its record
+-- the rest of a script after a body: a group continues, and a single edit ends its record
 abbrev behind_body : List (List Call) → List Call → List ℕ → List ℕ → ℕ → Bool → List Primitive → List Entry → Result (List (List Call)) LineFault
 behind_body closed calls branch name opened true changes entries = from_group closed calls branch name opened changes entries
 behind_body closed calls branch name opened false changes entries =
@@ -65,7 +65,7 @@ from_body closed calls branch name opened grouped changes begun edit lines =
     rest_of_body begun edit (up_to ends_body lines) >>= λ change.
     behind_body closed calls branch name opened grouped (changes ++ change ∷ []) (entries_from true lines)
 
--- wherever a reader stands, it comes to what the rest of the lines means
+-- from each state a reader gives what the rest of the lines means
 record Agrees (n : ℕ) (lines : List (List ℕ)) : Type 0 where
   pub beyond : (closed : List (List Call)) (calls : List Call) → read_from n (outside closed calls) lines ≡ rest_of_script closed calls (items_of (entries_of (numbered n lines)))
   pub in_group : (closed : List (List Call)) (calls : List Call) (branch name : List ℕ) (opened : ℕ) (changes : List Primitive)
@@ -74,7 +74,7 @@ record Agrees (n : ℕ) (lines : List (List ℕ)) : Type 0 where
       → read_from n (inside closed calls branch name opened grouped changes (Some (record { opened = begun; edit = edit }))) lines
       ≡ from_body closed calls branch name opened grouped changes begun edit (numbered n lines)
 
--- ---- steps one behind the other
+-- ---- steps one after the other
 
 twice : {A B C : Type 0} (r : Result A LineFault) (f : A → Result B LineFault) (g : B → Result C LineFault) → ((r >>= f) >>= g) ≡ (r >>= λ x. f x >>= g)
 twice (Ok x) f g = refl
@@ -87,7 +87,7 @@ behind_step (Err fault) f g h = refl
 -- ---- a body
 
 module _ (n : ℕ) (bytes : List ℕ) (lines : List (List ℕ)) (next : Agrees (n + 1) lines) (closed : List (List Call)) (calls : List Call) (branch name : List ℕ) (opened : ℕ) where
-  -- behind the line `end`
+  -- after the line `end`
   body_ends : (grouped : Bool) (changes : List Primitive) (begun : ℕ) (edit : Edit) (r : Result Edit LineFault)
       → ((r >>= λ edit. after_change n (inside closed calls branch name opened grouped changes (Some (record { opened = begun; edit = edit }))) (record { branch = branch; name = name; opened = opened; grouped = grouped; changes = changes; open_edit = Some (record { opened = begun; edit = edit }) }) (Hunk edit)) >>= λ p. read_from (n + 1) p lines)
       ≡ (((r >>= λ edit. Ok edit) >>= λ edit. Ok (Hunk edit)) >>= λ change. behind_body closed calls branch name opened grouped (changes ++ change ∷ []) (entries_of (numbered (n + 1) lines)))
@@ -97,7 +97,7 @@ module _ (n : ℕ) (bytes : List ℕ) (lines : List (List ℕ)) (next : Agrees (
       ap (λ (r : Result Progress LineFault). r >>= λ p. read_from (n + 1) p lines) (cond-false (length (changes ++ Hunk more ∷ []) == 0) _ _ (has_one changes (Hunk more)))
       ∙ next.beyond closed (calls ++ call.Record branch name (changes ++ Hunk more ∷ []) ∷ [])
 
-  -- behind another line
+  -- after another line
   body_grows : (grouped : Bool) (changes : List Primitive) (begun : ℕ) (r : Result Edit LineFault)
       → ((r >>= λ edit. Ok (inside closed calls branch name opened grouped changes (Some (record { opened = begun; edit = edit })))) >>= λ p. read_from (n + 1) p lines)
       ≡ (((r >>= λ edit. in_turn after_body_line edit (up_to ends_body (numbered (n + 1) lines))) >>= λ edit. cond (list_any ends_body (up_to ends_body (numbered (n + 1) lines))) (Ok (Hunk edit)) (fault_at begun EditNotEnded))
@@ -126,7 +126,7 @@ module _ (n : ℕ) (bytes : List ℕ) (lines : List (List ℕ)) (next : Agrees (
   abbrev entry : Bool → Entry
   entry edits = record { head = record { number = n; bytes = bytes }; rest = cond edits (up_to ends_body (numbered (n + 1) lines)) [] }
 
-  -- the rest of the group, where its first line says this, and begins an edit or not, and ends the group or not
+  -- the rest of the group, if its first line has this meaning, begins an edit or not, and ends the group or not
   abbrev group_where : Bool → Bool → Result GroupLine LineFault → Result (List (List Call)) LineFault
   group_where edits ends said =
       (((said >>= with_change changes (entry edits)) >>= λ changes. in_turn after_entry changes (cond ends [] (up_to ends_group (entries_from edits (numbered (n + 1) lines)))))
@@ -177,13 +177,13 @@ module _ (n : ℕ) (bytes : List ℕ) (lines : List (List ℕ)) (next : Agrees (
     rest = cond groups (up_to ends_group (behind_line edits)) [];
   }
 
-  -- the rest of the script, where its first line asks for this in its section, and begins an edit or a group or not
+  -- the rest of the script, if its first line has this meaning in its section, and begins an edit or a group or not
   abbrev section_where : Bool → Bool → Result Command LineFault → Result (List (List Call)) LineFault
   section_where edits groups asked =
       ((asked >>= with_asked calls (item edits groups)) >>= λ calls. in_turn after_item calls (first_section (items_from groups (behind_line edits))))
       >>= λ calls. in_turn after_client (closed ++ calls ∷ []) (clients_of (items_from groups (behind_line edits)))
 
-  -- the same, where the line is one of a client
+  -- the same if the line is one of a client
   abbrev client_where : Bool → Bool → Result Command LineFault → Result (List (List Call)) LineFault
   client_where edits groups asked =
       (asked >>= λ begins. cond (nat_le 64 (length (closed ++ calls ∷ []))) (fault_at n TooManyClients)

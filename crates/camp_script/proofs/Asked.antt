@@ -1,4 +1,4 @@
--- What a line asks for is what its first words begin, and it can be done.
+-- The meaning of a line agrees with what its first words begin, and can be represented.
 use Rattle.camp_script.proofs.Common.{◌≡◌, ℕ, Bool, true, false, ◌&&◌, ◌||◌, ◌==◌, ◌<◌, ◌≤◌, nat_le, cond, List, [], ◌∷◌, length, drop, slice_index, codes, refl, sym, ap, subst, ◌∙◌, Result, Ok, ⊎_elim, arith, nat_tests, cases_Bool, both_ways, and_parts, IsTrue, bytes_eq, list_all, is_between, is_name, is_path, Primitive, Add, Remove, Call, IsScriptCall, IsChange, IsListed, AreNames, begins_with, begins_edit, begins_group, LineFault, GroupLine, NoChange, WholeChange, EditChange, EndGroup, whole_change, edit_change, change_of, group_line_of, Command, Nothing, Ask, BeginEdit, BeginGroup, BeginSection, branch_line, whole_record, edit_record, record_of, record_line, listed, pull_line, obliterate_line, branch_at, question, command, command_of, ◌>>=◌, no_words, one_word, two_words, name_at, names_at, path_at, number_at, is_line_number}
 use Rattle.std.proofs.lemmas.Slice.Eq.{bytes_eq-Decides}
 use Rattle.camp_call.specs.declared.calls.Call.TheVariants as call
@@ -36,7 +36,7 @@ names_good n (word ∷ words) =
     bind (Names (length words)) (Names (length (word ∷ words))) (names_at n words) _ (names_good n words) (λ names k.
     record { value = (omega (arith, k.0), (h, k.1)) }))
 
--- what a line asks for can be done
+-- the meaning of a line can be represented
 abbrev pub CanBeAsked : Command → Type 0
 CanBeAsked Nothing = Unit {0}
 CanBeAsked (Ask new) = IsScriptCall new
@@ -44,7 +44,7 @@ CanBeAsked (BeginEdit branch name path place) = Name branch × Name name × Path
 CanBeAsked (BeginGroup branch name) = Name branch × Name name
 CanBeAsked BeginSection = Unit {0}
 
--- what a line of a group says can be done, behind so many changes
+-- the meaning of a line of a group can be represented, after this number of changes
 abbrev pub CanBeSaid : ℕ → GroupLine → Type 0
 CanBeSaid count NoChange = Unit {0}
 CanBeSaid count (WholeChange change) = (count < 64) × IsChange change
@@ -65,14 +65,14 @@ abbrev pub is_section : Command → Bool
 is_section BeginSection = true
 is_section other = false
 
--- words begin an edit, a group or the section of a client just where they ask for it, and it can be done
+-- words begin an edit, a group or the section of a client exactly if that is their meaning, and it can be represented
 pub record Fits (words : List (List ℕ)) (asked : Command) : Type 0 where
   pub edits : begins_edit words ≡ is_edit asked
   pub groups : begins_group words ≡ is_group asked
   pub sections : begins_with (codes "client") words ≡ is_section asked
   pub can : CanBeAsked asked
 
--- where a word is a known one, what holds of lines that begin with the known one holds of its line
+-- if a word is a known one, a fact about lines that begin with the known one holds of its line
 by_word : {A : Type 0} (P : List (List ℕ) → A → Type 0) (word this : List ℕ) (words : List (List ℕ)) (x y : Result A LineFault) → Holds (P (this ∷ words)) x → Holds (P (word ∷ words)) y
     → Holds (P (word ∷ words)) (cond (bytes_eq word this) x y)
 by_word P word this words x y known other =
@@ -196,7 +196,8 @@ abbrev pub is_end : GroupLine → Bool
 is_end EndGroup = true
 is_end other = false
 
--- words begin an edit, or end a group, just where they say so; and what they say can be done, behind so many changes
+-- words begin an edit, or end a group, exactly if that is their meaning; and it can be represented, after this number
+-- of changes
 pub record FitsGroup (count : ℕ) (words : List (List ℕ)) (said : GroupLine) : Type 0 where
   pub edits : begins_edit words ≡ is_edit_change said
   pub ends : begins_with (codes "done") words ≡ is_end said

@@ -34,12 +34,12 @@ body_lines (Hunk hunk) = map (λ line. 45 ∷ line) hunk.old ++ map (λ line. 43
 abbrev pub change_lines : Primitive → List (List ℕ)
 change_lines change = join_with_byte 32 (change_head change) ∷ body_lines change
 
--- the lines of a record behind its first
+-- the lines of a record after its first
 abbrev pub record_rest : List Primitive → List (List ℕ)
 record_rest (change ∷ []) = body_lines change
 record_rest changes = flat_map change_lines changes ++ codes "done" ∷ []
 
--- the lines of a call behind its first
+-- the lines of a call after its first
 abbrev pub lines_behind : Call → List (List ℕ)
 lines_behind (call.Record branch name changes) = record_rest changes
 lines_behind other = []

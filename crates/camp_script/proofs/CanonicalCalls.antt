@@ -1,4 +1,4 @@
--- The canonical text of sections, read back call by call.
+-- Reads the canonical text of sections back, call by call.
 use Rattle.camp_script.proofs.Common.{◌≡◌, ℕ, ◌+◌, ◌^◌, ◌<◌, ◌≤◌, Bool, true, false, not, ◌&&◌, ◌==◌, nat_lt, nat_le, cond, List, [], ◌∷◌, ◌++◌, length, codes, count_by, slice_index, sym, ap, subst, ◌∙◌, refl, append_assoc, append-nil, None, Some, Option, Result, Ok, arith, length-append, cond-true, cond-false, false≢true, and_parts, nat_tests, flat_map-cons, sum_by-append, sum_by-cons, list_all, flat_map, AllByRecursion, decimal, Primitive, Hunk, is_writing, Call, ◌>>=◌, name_at, names_at, path_at, number_at, is_line_number, call_words, GroupLine, WholeChange, EditChange, EndGroup, group_line_of, Command, Ask, BeginEdit, BeginGroup, BeginSection, command_of, lines_of, is_full, read_from, obey, heed, after_body, LineFault, line_text, signed_line, Progress, OpenRecord, after_change, record_at, with_open_edit, Lines, is_name, is_path, is_line, is_name_byte, is_graphic, listed_words, Edit, IsInRange}
 use Rattle.camp_base.specs.declared.TheConstants.{MAX_NAME_LENGTH, MAX_PATH_LENGTH}
 use Rattle.camp_call.specs.declared.calls.Call.TheVariants as call
@@ -8,7 +8,7 @@ use Rattle.camp_script.proofs.CanonicalLines.{both, all_weaker, is_word, is_word
 use Rattle.camp_script.proofs.Agreement.{reads_as_defined}
 use Rattle.camp_script.proofs.CanonicalNumbers.{decimal_is_word, decimal_is_line_number, value_of-decimal}
 
--- from some bytes to the rest of them the reader comes from one progress to another
+-- from some bytes to the rest of them the reader goes from one progress to another
 record Reads (n : ℕ) (p : Progress) (bytes : List ℕ) (q : Progress) (rest : List ℕ) : Type 0 where
   pub line : ℕ
   pub is : read_from n p (lines_of bytes) ≡ read_from line q (lines_of rest)
@@ -63,7 +63,7 @@ numbered at n low high = cond-true (is_line_number (decimal n)) _ _ (decimal_is_
 two_named : {A : Type 0} (n : ℕ) (first second : List ℕ) (next : List ℕ → List ℕ → Result A LineFault) → is_name first ≡ true → is_name second ≡ true → (name_at n first >>= λ a. name_at n second >>= next a) ≡ next first second
 two_named n first second next a b = passes (name_at n first) first _ (named n first a) ∙ passes (name_at n second) second (next first) (named n second b)
 
--- a line of words, outside groups and bodies, by what it asks for
+-- a line of words, outside groups and bodies, by its meaning
 words_read : (n : ℕ) (closed : List (List Call)) (done : List Call) (words : List (List ℕ)) (rest : List ℕ) (asked : Command) (next : Progress) → AreWords words
     → command_of n words ≡ Ok asked → obey n (after closed done) asked ≡ Ok next → Reads n (after closed done) (line_text words ++ rest) next rest
 words_read n closed done words rest asked next are asks is = record {
@@ -85,7 +85,7 @@ names_read : (n : ℕ) (names : List (List ℕ)) → AreNames names → names_at
 names_read n [] h = refl
 names_read n (name ∷ names) h = passes (name_at n name) name _ (named n name h.0) ∙ passes (names_at n names) names _ (names_read n names h.1)
 
--- what the lines of these calls ask for
+-- the meaning of the lines of these calls
 module _ (n : ℕ) where
   pull_asks : (from to : List ℕ) (names : Option (List (List ℕ))) → is_name from ≡ true → is_name to ≡ true → IsListed names → command_of n (codes "pull" ∷ from ∷ to ∷ listed_words names) ≡ Ok (Ask (call.Pull from to names))
   pull_asks from to None a b h = two_named n from to _ a b
@@ -117,7 +117,7 @@ module _ (closed : List (List Call)) (done : List Call) (begun : OpenRecord) (op
   abbrev in_edit : Edit → Progress
   in_edit edit = within closed done (editing edit)
 
-  -- the lines of a side, each put behind those before it
+  -- the lines of a side, each appended to those before it
   side_read : (n sign : ℕ) (side : Lines → Edit) (before lines : Lines) (rest : List ℕ) → (sign == 10) ≡ false
       → ((m : ℕ) (before : Lines) (next : List ℕ) → is_line next ≡ true → after_body m (in_edit (side before)) (editing (side before)) (record { opened = opened; edit = side before }) (sign ∷ next) ≡ Ok (in_edit (side (before ++ next ∷ []))))
       → AreLines lines → Reads n (in_edit (side before)) (flat_map (signed_line sign) lines ++ rest) (in_edit (side (before ++ lines))) rest
@@ -156,7 +156,7 @@ module _ (closed : List (List Call)) (done : List Call) (begun : OpenRecord) (op
       (λ m before next h. ap (λ (r : Result Edit LineFault). r >>= λ edit. Ok (in_edit edit)) (cond-true (is_line next) _ _ h)) new) (λ l.
       end_read l edit rest next range (is l))))
 
--- a line of a file, as a number that may stand in a script
+-- a line number of a file, as a number that a script can contain
 place_asks : (n : ℕ) (edit : Edit) → IsInRange edit → number_at n (decimal edit.line) ≡ Ok edit.line
 place_asks n edit range = numbered n edit.line range.counted (omega (arith, range.within, range.changes))
 
@@ -191,14 +191,14 @@ words_are (call.Tree branch) h = (refl, (name_is_word branch h, tt))
 words_are (call.Conflicts branch) h = (refl, (name_is_word branch h, tt))
 words_are (call.Names branch) h = (refl, (name_is_word branch h, tt))
 
--- a call on a line of its own, where there is room for it if it writes
+-- a call on a line of its own, if it is within the limits when it writes
 call_line_read : (n : ℕ) (closed : List (List Call)) (done : List Call) (new : Call) (rest : List ℕ) → IsScriptCall new → command_of n (first_words_of new) ≡ Ok (Ask new)
     → (is_writing new ≡ true → is_full done ≡ false) → Reads n (after closed done) (line_text (first_words_of new) ++ rest) (after closed (done ++ new ∷ [])) rest
 call_line_read n closed done new rest can asks room =
     words_read n closed done (first_words_of new) rest (Ask new) _ (words_are new can) asks
     (cond-false (is_writing new && is_full done) _ _ (one_lacks (is_writing new) (is_full done) room))
 
--- a record of one change: its line, and the body behind it
+-- a record of one change: its line, followed by the body
 alone_read : (n : ℕ) (closed : List (List Call)) (done : List Call) (branch name : List ℕ) (change : Primitive) (rest : List ℕ) → is_name branch ≡ true → is_name name ≡ true → IsChange change → is_full done ≡ false
     → Reads n (after closed done) (line_text (codes "record" ∷ branch ∷ name ∷ change_head change) ++ (change_body change ++ rest)) (after closed (done ++ call.Record branch name (change ∷ []) ∷ [])) rest
 alone_read n closed done branch name (Hunk edit) rest b m h room =
@@ -219,7 +219,7 @@ module _ (closed : List (List Call)) (done : List Call) (branch name : List ℕ)
   abbrev in_group : List Primitive → Progress
   in_group changes = within closed done (group branch name opened changes)
 
-  -- a line of words in a group, by what it says
+  -- a line of words in a group, by its meaning
   group_words_read : (n : ℕ) (changes : List Primitive) (words : List (List ℕ)) (rest : List ℕ) (said : GroupLine) (next : Progress) → AreWords words
       → group_line_of n (length changes) words ≡ Ok said → heed n (in_group changes) (group branch name opened changes) said ≡ Ok next → Reads n (in_group changes) (line_text words ++ rest) next rest
   group_words_read n changes words rest said next are says is = record {
@@ -230,7 +230,7 @@ module _ (closed : List (List Call)) (done : List Call) (branch name : List ℕ)
         ∙ ap (λ (r : Result Progress LineFault). r >>= λ p. read_from (n + 1) p (lines_of rest)) is;
   }
 
-  -- a change of a group: its line, and the body behind it
+  -- a change of a group: its line, followed by the body
   change_read : (n : ℕ) (changes : List Primitive) (change : Primitive) (rest : List ℕ) → length changes < 64 → IsChange change
       → Reads n (in_group changes) (line_text (change_head change) ++ (change_body change ++ rest)) (in_group (changes ++ change ∷ [])) rest
   change_read n changes (Hunk edit) rest few h =
@@ -256,7 +256,7 @@ module _ (closed : List (List Call)) (done : List Call) (branch name : List ℕ)
       subst (λ cs. Reads k (in_group (before ++ change ∷ [])) (text ++ rest) (in_group cs) rest) (append_assoc before (change ∷ []) changes)
       (changes_read k (before ++ change ∷ []) changes rest (omega (arith, long)) h.1)))
 
--- a patch whose changes stand in a group
+-- a patch whose changes are in a group
 group_read : (n : ℕ) (closed : List (List Call)) (done : List Call) (branch name : List ℕ) (changes : List Primitive) (rest : List ℕ) → is_name branch ≡ true → is_name name ≡ true → 1 ≤ length changes → length changes ≤ 64 → AllByRecursion IsChange changes → is_full done ≡ false
     → Reads n (after closed done) (((line_text (codes "record" ∷ branch ∷ name ∷ codes "group" ∷ []) ++ flat_map change_text changes) ++ line_text (codes "done" ∷ [])) ++ rest) (after closed (done ++ call.Record branch name changes ∷ [])) rest
 group_read n closed done branch name changes rest b m some few h room =
@@ -285,7 +285,7 @@ call_read n closed done (call.Tree branch) rest h room = call_line_read n closed
 call_read n closed done (call.Conflicts branch) rest h room = call_line_read n closed done (call.Conflicts branch) rest h (passes (name_at n branch) branch _ (named n branch h)) room
 call_read n closed done (call.Names branch) rest h room = call_line_read n closed done (call.Names branch) rest h (passes (name_at n branch) branch _ (named n branch h)) room
 
--- where more calls follow that write, and all are within the limit, there is room
+-- if more calls follow that write, and all are within the limit, one more call is
 room_for : (done : List Call) (new : Call) (calls : List Call) → count_by is_writing (done ++ new ∷ calls) ≤ 65_536 → is_writing new ≡ true → is_full done ≡ false
 room_for done new calls few writes =
     let split = sum_by-append (λ c. cond {A = ℕ} (is_writing c) 1 0) done (new ∷ calls) in

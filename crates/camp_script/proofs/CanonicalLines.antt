@@ -1,4 +1,4 @@
--- Lines of words, cut into lines and words again.
+-- Lines of words, split into lines and words again.
 use Rattle.camp_script.proofs.Common.{cond-true, and_parts, not-true, line_text, ◌≡◌, ℕ, Bool, true, false, not, ◌&&◌, ◌==◌, nat_lt, List, [], ◌∷◌, ◌++◌, length, filter, ap, ◌∙◌, refl, append_assoc, arith, lines_of, words_of, is_blank, without_empty_last, All, AllByRecursion, join_with_byte, list_all, length-slice_split, slice_split_none}
 pub use Rattle.std.proofs.lemmas.Bool.{and_from as both}
 use Rattle.std.specs.List.{slice_split}
@@ -26,7 +26,7 @@ first_line line rest one =
     ap without_empty_last (slice_split_at (λ byte. byte == 10) line 10 rest (nowhere (λ byte. byte == 10) line one) refl)
     ∙ more-last line (slice_split (λ byte. byte == 10) rest) (omega (arith, length-slice_split (λ byte. byte == 10) rest))
 
--- whether a byte may stand in a word
+-- whether a byte can be part of a word
 abbrev pub is_word_byte : ℕ → Bool
 is_word_byte byte = not (is_blank byte) && not (byte == 10)
 

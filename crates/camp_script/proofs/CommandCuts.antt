@@ -1,4 +1,4 @@
--- What a first line takes with it, line by line.
+-- The lines that belong to a first line, one by one.
 use Rattle.camp_script.proofs.Common.{◌≡◌, ℕ, ◌+◌, ◌≤◌, ◌&&◌, Bool, true, false, not, cond, List, [], ◌∷◌, ◌++◌, length, map, codes, refl, sym, ap, subst, ◌∙◌, append_assoc, append-nil, arith, ⊎_elim, cases_Bool, false≢true, Option, None, Some, Result, Ok, Err, bytes_eq, flat_map, is_writing, Call, Command, Nothing, Ask, BeginEdit, BeginGroup, command_of, words_of, NumberedLine, numbered, up_to, begins_with, begins_edit, begins_group, ends_body, ends_group, Progress, start, obey, after_line, read_from, LineFault, ScriptFault, Line, Memory, IsFaultFirst, IsFaultOf, finished, script_of_lines, ◌>>=◌}
 use Rattle.std.specs.Option.{is_some}
 use Rattle.camp_script.specs.Gives.{Gives, GivesFaultFirst}
@@ -45,7 +45,7 @@ goes_on (word ∷ words) edit =
     (λ other. other)
     (cases_Bool (bytes_eq word (codes "done")))
 
--- the lines of a group are those that are wanted, in a body of it too
+-- the lines of a group are those that are wanted, also in one of its bodies
 record Agree (n : ℕ) (lines : List (List ℕ)) : Type 0 where
   pub beyond : bytes_of (rest_of_group false (numbered n lines)) ≡ wanted_lines want.Group lines
   pub in_body : bytes_of (up_to ends_body (numbered n lines) ++ rest_of_group true (numbered n lines)) ≡ wanted_lines want.GroupBody lines
@@ -87,7 +87,7 @@ agree n (bytes ∷ lines) =
 
 -- ---- a first line
 
--- what is wanted behind a line that asks for this
+-- what belongs to a command after a line with this meaning
 abbrev pub wanted_by : Result Command LineFault → Wanted
 wanted_by (Ok (BeginEdit branch name path place)) = want.Body
 wanted_by (Ok (BeginGroup branch name)) = want.Group
@@ -98,11 +98,11 @@ taken_wanted (Ok (BeginEdit branch name path place)) lines = body_wanted 2 lines
 taken_wanted (Ok (BeginGroup branch name)) lines = (agree 2 lines).beyond
 taken_wanted other lines = sym (nothing_wanted lines)
 
--- what a first line takes is what is wanted by what it asks for
+-- the lines of a first line are those wanted by its meaning
 pub takes_wanted : (first : List ℕ) (lines : List (List ℕ)) → taken first lines ≡ wanted_lines (wanted_by (command_of 1 (words_of first))) lines
 takes_wanted first lines = taken_wanted (command_of 1 (words_of first)) lines
 
--- the same by its words, where it has no fault
+-- the same by its words, if it has no fault
 abbrev pub wanted_words : List (List ℕ) → Wanted
 wanted_words words = cond (begins_edit words) want.Body (cond (begins_group words) want.Group want.Nothing)
 
@@ -116,25 +116,25 @@ by_words words rest script (Err fault) fit is = cc
 by_words words rest script (Ok asked) fit is =
     by_asked asked ∙ (λ i. cond (sym fit.value.edits i) want.Body (cond (sym fit.value.groups i) want.Group want.Nothing))
 
--- what the first line of a script takes
+-- the lines of the first line of a script
 pub first_takes_by_words : (first : List ℕ) (rest : List (List ℕ)) (script : List (List Call)) → script_of_lines (first ∷ rest) ≡ Ok script
     → (others : List (List ℕ)) → taken first others ≡ wanted_lines (wanted_words (words_of first)) others
 first_takes_by_words first rest script is others =
     takes_wanted first others
     ∙ ap (λ w. wanted_lines w others) (by_words (words_of first) rest script (command_of 1 (words_of first)) (fits 1 (words_of first)) (reads_as_defined (first ∷ rest) ∙ is))
 
--- a line at most is taken, where it is wanted
+-- at most one line is taken, if it is wanted
 pub one_wanted : (wanted : Wanted) → wants wanted ≡ true → (lines : List (List ℕ)) → length lines ≤ 1 → wanted_lines wanted lines ≡ lines
 one_wanted wanted more [] few = refl
 one_wanted wanted more (line ∷ []) few = ap (λ b. cond b (line ∷ []) []) more
 one_wanted wanted more (line ∷ next ∷ lines) few = absurd (omega (arith, few))
 
--- where none is wanted, none is taken
+-- if none is wanted, none is taken
 pub none_wanted : (wanted : Wanted) → wants wanted ≡ false → (lines : List (List ℕ)) → wanted_lines wanted lines ≡ []
 none_wanted wanted enough [] = refl
 none_wanted wanted enough (line ∷ lines) = ap (λ b. cond b (line ∷ wanted_lines (wanted_after wanted line) lines) []) enough
 
--- ---- what reading comes to
+-- ---- the result of reading
 
 same_next : (r : Result Progress LineFault) (one other : Progress) → r ≡ Ok one → r ≡ Ok other → one ≡ other
 same_next r one other is too = cc
@@ -143,13 +143,13 @@ with_room : (b : Bool) (fault : LineFault) (one other : Progress) → cond b (Er
 with_room true fault one other is = cc
 with_room false fault one other is = cc
 
--- a first line without a fault opens what it takes
+-- a first line without a fault opens what belongs to it
 opened_by : (r : Result Command LineFault) (next : Progress) → (r >>= obey 1 start) ≡ Ok next → wanted_in next.open_record ≡ wanted_by r
 opened_by (Ok (Ask new)) next is = ap (λ p. wanted_in p.open_record) (sym (with_room (is_writing new && false) _ _ next is))
 opened_by (Ok asked) next is = ap (λ p. wanted_in p.open_record) (sym (same_next (obey 1 start asked) _ next refl is))
 opened_by (Err fault) next is = cc
 
--- a first line with a fault takes nothing
+-- a first line with a fault opens nothing
 alone_by : (r : Result Command LineFault) (fault : LineFault) → (r >>= obey 1 start) ≡ Err fault → want.Nothing ≡ wanted_by r
 alone_by (Ok (BeginEdit branch name path place)) fault is = cc
 alone_by (Ok (BeginGroup branch name)) fault is = cc
@@ -184,7 +184,7 @@ first_faulty command first begun fault met starts told is given wanted =
           (first_comes first others (Err fault) read);
     }
 
--- a fault stays, whatever is read behind it
+-- a fault stays, whatever is read after it
 fault_stays : (f : Option ScriptFault) (n m : ℕ) (one other : Progress) (these those : List (List ℕ)) (script : Result (List (List Call)) LineFault)
     → is_some f ≡ true → ComesTo f n one these script → ComesTo f m other those script
 fault_stays None n m one other these those script faulty comes = absurd (false≢true faulty)
@@ -238,7 +238,7 @@ module _ (old new : CommandLines) (first line : List ℕ) (rest : List (List ℕ
         next_has (λ others. subst (λ f. ComesTo f new.number new.reading others (script others)) (sym now) (comes (Err fault) read others))
     next_faulty Memory now read = out_of_memory now
 
--- ---- what it comes to
+-- ---- the result
 
 gives : {A : Type 0} (r : Result A ScriptFault) (reading : Result A LineFault) → GivesFaultFirst r reading → Gives r reading
 gives (Ok value) reading first = first

@@ -1,4 +1,4 @@
--- Words that the proofs of this crate have in common: of the standard library, of definitions, and of crates below.
+-- The words that most proofs of this crate use.
 pub use Rattle.std.proofs.Common.{Bool, Err, List, None, Ok, Option, Result, Some, [], add-zero, ap, append-nil, append_assoc, arith, codes, cond, count_by, drop, false, filter, get_or, get_or-drop, inl, inr, length, length-append, length-drop, length-take, ltb, map, nat_le, nat_lt, not, refl, rules, slice_index, subst, suc, sym, take, take-append-drop, tests, true, unwrap_or, ℕ, ⊎_elim, ◌&&◌, ◌*◌, ◌++◌, ◌+◌, ◌-◌, ◌<◌, ◌==◌, ◌^◌, ◌||◌, ◌∙◌, ◌∷◌, ◌≡◌, ◌≢◌, ◌≤◌, ◌⊎◌}
 pub use Rattle.std.proofs.lemmas.Bool.{and_parts, both_ways, cases_Bool, cases_lt, cond-false, cond-true, eqb-true, false≢true, le-ltb, lt-ltb, not-false, not-true}
 pub use Rattle.std.proofs.lemmas.Bool.Decides.{nat_tests}

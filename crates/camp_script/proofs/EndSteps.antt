@@ -1,9 +1,9 @@
--- The line `end` where its body has a fault.
+-- The line `end` of a body with a fault.
 use Rattle.camp_script.proofs.Common.{arith, nat_tests, ◌≡◌, ℕ, Bool, true, false, List, [], ◌∷◌, ◌++◌, ◌==◌, length, if◌then◌else◌, refl, ap, Result, Ok, Err, Primitive, Hunk, LineFault, ScriptFault, Line, Memory, ◌>>=◌, ended, IsFaultFirst, HasNoFault, OpenEdit, OpenRecord, Progress, after_change}
 use Rattle.camp_script.specs.Inside.Asking.{ended_change}
 use Rattle.camp_script.specs.Inside.Steps.{after_end}
 
--- one more change is one at least
+-- one more change is at least one
 pub has_one : (changes : List Primitive) (change : Primitive) → (length (changes ++ change ∷ []) == 0) ≡ false
 has_one [] change = refl
 has_one (other ∷ changes) change = grind (arith, nat_tests)

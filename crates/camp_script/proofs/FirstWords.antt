@@ -1,4 +1,4 @@
--- The first words of a line say all that the line asks for, where it lists other names.
+-- The first words of a line give its whole meaning, unless it lists further names.
 use Rattle.camp_script.proofs.Common.{◌≡◌, ℕ, List, [], ◌∷◌, ◌++◌, length, take, refl, sym, ap, ◌∙◌, change_of, short_command}
 use Rattle.std.proofs.Math.Seq.{take-append_seam}
 
@@ -17,6 +17,6 @@ six_are_enough_in_group line count word (a ∷ []) = refl
 six_are_enough_in_group line count word (a ∷ b ∷ []) = refl
 six_are_enough_in_group line count word (a ∷ b ∷ c ∷ words) = refl
 
--- as many as six, at the front
+-- the first words, if there are at least six
 pub front_of_six : (words rest all : List (List ℕ)) → length words ≡ 6 → words ++ rest ≡ all → words ≡ take 6 all
 front_of_six words rest all six is = sym (take-append_seam words rest) ∙ ap (λ n. take n (words ++ rest)) six ∙ ap (take 6) is

@@ -19,7 +19,7 @@ joined first (word ∷ words) = ap (λ t. first ++ (32 ∷ t)) (joined word word
 pub spaced-append : (names words : List (List ℕ)) → spaced (names ++ words) ≡ spaced names ++ spaced words
 spaced-append names words = flat_map-append (λ (w : List ℕ). 32 ∷ w) names words
 
--- words with a space between each two, and more behind them
+-- words with a space between each two, and more after them
 pub joined_further : (first : List ℕ) (words more : List (List ℕ)) → join_with_byte 32 (first ∷ words) ++ spaced more ≡ join_with_byte 32 (first ∷ words ++ more)
 joined_further first words more =
     ap (λ t. t ++ spaced more) (joined first words) ∙ append_assoc first (spaced words) (spaced more) ∙ ap (λ t. first ++ t) (sym (spaced-append words more)) ∙ sym (joined first (words ++ more))
@@ -40,18 +40,18 @@ call_spaced other = words_spaced (get_or (call_words other) 0 []) (drop 1 (call_
 regrouped : (o a w e : List ℕ) → ((o ++ a) ++ w) ++ e ≡ o ++ ((a ++ w) ++ e)
 regrouped o a w e = simp append_assoc
 
--- a word, those behind it, and the end of the line
+-- a word, those after it, and the end of the line
 pub line_done : (old first : List ℕ) (rest : List (List ℕ)) (a b c : List ℕ) → a ≡ old ++ first → b ≡ a ++ spaced rest → c ≡ b ++ 10 ∷ [] → c ≡ old ++ line_text (first ∷ rest)
 line_done old first rest a b c one all ends =
     ends ∙ ap (λ t. t ++ 10 ∷ []) (all ∙ ap (λ t. t ++ spaced rest) one) ∙ regrouped old first (spaced rest) (10 ∷ []) ∙ ap (λ t. old ++ (t ++ 10 ∷ [])) (sym (joined first rest))
 
--- a word, a second one, those behind it, and the end of the line
+-- a word, a second one, those after it, and the end of the line
 pub entry_done : (old at seat : List ℕ) (words : List (List ℕ)) (a b c d : List ℕ) → a ≡ old ++ at → b ≡ a ++ spaced (seat ∷ []) → c ≡ b ++ spaced words → d ≡ c ++ 10 ∷ [] → d ≡ old ++ line_text (at ∷ seat ∷ words)
 entry_done old at seat words a b c d first second third last =
     let both = append_assoc a (spaced (seat ∷ [])) (spaced words) ∙ ap (λ t. a ++ t) (sym (flat_map-append (λ (w : List ℕ). 32 ∷ w) (seat ∷ []) words)) in
     line_done old at (seat ∷ words) a c d first (third ∙ ap (λ t. t ++ spaced words) second ∙ both) last
 
--- texts of elements one behind the other, each by its number
+-- texts of elements one after the other, each by its number
 module _ {X : Type 0} (xs : List X) (text : ℕ → X → List ℕ) (texts : ℕ → List X → List ℕ) (none : (n : ℕ) → texts n [] ≡ []) (more : (n : ℕ) (x : X) (xs : List X) → texts n (x ∷ xs) ≡ text n x ++ texts (n + 1) xs) where
   texts-append : (n : ℕ) (done : List X) (x : X) → texts n (done ++ x ∷ []) ≡ texts n done ++ text (n + length done) x
   texts-append n [] x = rw (more n x [], none (n + 1), none n) (append-nil (text n x) ∙ ap (λ k. text k x) (omega arith))
@@ -74,7 +74,7 @@ section_has_texts answers sections i section d have within is =
     let at : get_or (map answers sections) i (answers d) ≡ answers (get_or sections i d) = get_or-map answers sections i d (answers d) within in
     subst (All HasText) (at ∙ ap answers (sym is)) (have i (answers d) within_map)
 
--- and each of the sections behind the first
+-- and each of the sections after the first
 pub rest_have_texts : {S : Type 0} (answers : S → List (Result Reply Fault)) (sections : List S) → HaveTexts (map answers sections) → HaveTexts (map answers (take (length sections - 1) (drop 1 sections)))
 rest_have_texts answers [] have = subst (λ rest. HaveTexts (map answers rest)) (sym (take_rest [] 1)) have
 rest_have_texts answers (first ∷ sections) have =

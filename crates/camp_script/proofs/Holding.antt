@@ -1,4 +1,4 @@
--- What holds of the value that reading comes to, if it comes to one.
+-- Facts about the value that reading gives, if it gives one.
 use Rattle.camp_script.proofs.Common.{◌≡◌, Bool, true, false, cond, refl, Result, Ok, Err, IfOk, ◌>>=◌, LineFault}
 
 pub record Holds {A : Type 0} (P : A → Type 0) (r : Result A LineFault) : Type 0 where
@@ -19,6 +19,6 @@ pub anything : {A : Type 0} (r : Result A LineFault) → Holds (λ x. Unit {0}) 
 anything (Ok x) = record { value = tt }
 anything (Err e) = record { value = tt }
 
--- behind a value of which nothing is to be known
+-- after a value of which nothing needs to be known
 pub behind : {A B : Type 0} (Q : B → Type 0) (r : Result A LineFault) (next : A → Result B LineFault) → ((x : A) → Holds Q (next x)) → Holds Q (r >>= next)
 behind Q r next k = bind (λ x. Unit {0}) Q r next (anything r) (λ x h. k x)

@@ -1,10 +1,10 @@
--- The lines of bytes, each with the LF behind it, are those of a script.
+-- The lines of bytes, each with its line feed, are those of a script.
 use Rattle.camp_script.proofs.Common.{slice_split-cons_yes, slice_split-cons_no, length-slice_split, ◌≡◌, ℕ, suc, ◌-◌, ◌<◌, Bool, true, false, cond, ◌==◌, List, [], ◌∷◌, length, take, drop, map, refl, sym, ap, ◌∙◌, arith, ⊎_elim, slice_index, cases_Bool, lines_of, without_empty_last, without_end}
 use Rattle.std.specs.List.{slice_split, onto_first}
 use Rattle.bstr.specs.Text.{line_len, lines_of as ended_lines}
 use Rattle.bstr.proofs.lemmas.LineLemmas.{lines-nil, lines-step}
 
--- ---- how lines grow at their front
+-- ---- lines grow at their start
 
 ended-feed : (byte : ℕ) (bytes : List ℕ) → (byte == 10) ≡ true → ended_lines (byte ∷ bytes) ≡ (byte ∷ []) ∷ ended_lines bytes
 unfolding line_len
@@ -48,7 +48,7 @@ lines-other byte bytes other =
     ap without_empty_last (slice_split-cons_no (λ byte. byte == 10) byte bytes other)
     ∙ onto-last byte (slice_split (λ byte. byte == 10) bytes)
 
--- ---- without the LF
+-- ---- without the line feed
 
 end-feed : (byte : ℕ) → (byte == 10) ≡ true → without_end (byte ∷ []) ≡ []
 end-feed byte feed = ap (λ b. cond b [] (byte ∷ [])) feed

@@ -1,7 +1,7 @@
--- Names that are read word by word.
+-- Reads names word by word.
 use Rattle.camp_script.proofs.Common.{◌>>=◌, name_at, names_at, LineFault, ScriptFault, Line, Memory, ◌≡◌, ◌≢◌, ℕ, List, [], ◌∷◌, ◌++◌, refl, sym, ap, subst, ◌∙◌, append_assoc, append-nil, Result, Ok, Err, IsFaultFirst, IsFaultOf}
 
--- reading the words comes to the names that are read, and then those of the rest
+-- reading the words gives the names that are read, followed by those of the rest
 abbrev pub NamesFrom : ℕ → List (List ℕ) → List (List ℕ) → List (List ℕ) → Type 0
 NamesFrom line words done rest = names_at line words ≡ (names_at line rest >>= λ names. Ok (done ++ names))
 
@@ -33,7 +33,7 @@ fault_named line words done rest more word Memory so is told other = absurd (oth
 pub all_named : (line : ℕ) (words done rest : List (List ℕ)) → NamesFrom line words done rest → rest ≡ [] → names_at line words ≡ Ok done
 all_named line words done rest so is = so ∙ ap (λ (ws : List (List ℕ)). names_at line ws >>= λ names. Ok (done ++ names)) is ∙ ap Ok (append-nil done)
 
--- what is told of a line is told of the reading
+-- a fault of a line is a fault of the reading
 pub is_fault_of : {A : Type 0} (fault : ScriptFault) (reading : Result A LineFault) → IsFaultFirst fault reading → IsFaultOf fault reading
 is_fault_of (Line fault) reading is = is
 is_fault_of Memory reading is = tt

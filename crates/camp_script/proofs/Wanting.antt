@@ -1,11 +1,11 @@
--- Where memory may be wanted as a script is read.
+-- When reading a script may run out of memory.
 use Rattle.camp_script.proofs.Common.{Command, Nothing, command, command_of, IsFaultFirst, HasNoFault, numbered, Progress, start, LineFault, ScriptFault, Memory, ◌≡◌, ℕ, ◌+◌, ◌⊎◌, Bool, true, false, cond, List, [], ◌∷◌, refl, sym, ap, subst, ◌∙◌, Result, Ok, Err, inl, inr, lines_of, words_of, is_skipped, ScriptMayWant, first_command, after_line, obeyed, SaysSomething}
 
--- what lines ask for first, the first of them of a number
+-- the meaning of the first line that is not skipped, given the number of the first line
 abbrev first_from : ℕ → List (List ℕ) → Result Command LineFault
 first_from number lines = first_command (numbered number lines)
 
--- so many lines are read, and these are left: the first that is not skipped has no fault, or each was skipped so far
+-- some lines are read, and these are left: the first that is not skipped has no fault, or all were skipped so far
 abbrev pub IsBegun : ℕ → Progress → List (List ℕ) → List (List ℕ) → Type 0
 IsBegun number reading rest lines =
     HasNoFault (first_from 1 lines) ⊎ ((reading ≡ start) × (first_from 1 lines ≡ first_from (number + 1) rest))
@@ -13,7 +13,7 @@ IsBegun number reading rest lines =
 pub nothing_read : (lines : List (List ℕ)) → IsBegun 0 start lines lines
 nothing_read lines = inr (refl, refl)
 
--- what lines ask for first, by whether the first of them is skipped
+-- the same, by whether the first line is skipped
 abbrev by_first : ℕ → List ℕ → List (List ℕ) → Bool → Result Command LineFault
 by_first number bytes rest b = cond b (first_from (number + 1) rest) (command_of number (words_of bytes))
 
@@ -29,7 +29,7 @@ same_reading : (reading next : Progress) (r : Result Progress LineFault) → r �
 same_reading reading next r e f = cc
 
 module _ (number : ℕ) (bytes : List ℕ) (rest : List (List ℕ)) where
-  -- a first line that is not skipped has no fault where reading it has none
+  -- a first line that is not skipped has no fault if reading it gives none
   good_first : is_skipped (words_of bytes) ≡ false → HasNoFault (obeyed number start (command_of number (words_of bytes))) → HasNoFault (first_from number (bytes ∷ rest))
   good_first says h =
       subst HasNoFault (sym (ap (by_first number bytes rest) says)) (good_command number start (command_of number (words_of bytes)) h)
@@ -50,7 +50,7 @@ one_read number reading next bytes rest lines begun read = elim begun [
   ]
 ]
 
--- memory is wanted for a line
+-- a line runs out of memory
 pub wants_now : (number : ℕ) (reading : Progress) (bytes : List ℕ) (rest : List (List ℕ)) (script : List ℕ) (fault : ScriptFault) → IsBegun number reading (bytes ∷ rest) (lines_of script)
     → IsFaultFirst fault (after_line (number + 1) reading.open_record reading bytes) → (fault ≡ Memory → SaysSomething reading.open_record bytes)
     → fault ≡ Memory → ScriptMayWant script

@@ -1,9 +1,9 @@
--- The words of a line, taken one by one from its front.
+-- The words of a line, taken one by one from its start.
 use Rattle.std.specs.List.{slice_split, position, position_or_len, filter}
 use Rattle.std.proofs.lemmas.List.{drop_all, drop_more, take_all, take_rest, nil_from_length}
 use Rattle.camp_script.proofs.Common.{is_blank, words_of, ◌≡◌, ℕ, suc, ◌+◌, ◌-◌, ◌<◌, ◌≤◌, Bool, true, false, cond, not, List, [], ◌∷◌, length, get_or, take, drop, refl, sym, ap, ◌∙◌, arith, ⊎_elim, length-take, length-drop, get_or-drop, add-zero, Option, unwrap_or, ltb, cases_Bool, cases_lt, cond-true, cond-false, lt-ltb, le-ltb, not-true, not-false, both_ways, All-from_get_or, prefix_len-le-length, prefix_len_passes, prefix_len_stops, slice_split_first, slice_split_none, slice_split-cons_yes}
 
--- the first place that passes, or the end
+-- the first index that passes, or the end
 pub position-at_end : (p : ℕ → Bool) (bytes : List ℕ) → unwrap_or (position p bytes) (length bytes) ≡ position_or_len p bytes
 position-at_end p bytes =
     let short = prefix_len-le-length (λ x. not (p x)) bytes in
@@ -16,7 +16,7 @@ position-at_end p bytes =
 words_of-blank : (byte : ℕ) (bytes : List ℕ) → is_blank byte ≡ true → words_of (byte ∷ bytes) ≡ words_of bytes
 words_of-blank byte bytes blank = rw (slice_split-cons_yes is_blank byte bytes blank) refl
 
--- how many blanks stand at the front
+-- the number of blanks at the start
 abbrev pub blanks : List ℕ → ℕ
 blanks bytes = position_or_len (λ byte. not (is_blank byte)) bytes
 
@@ -26,7 +26,7 @@ blanks-yes byte bytes blank = ap (λ b. cond (not (not b)) (1 + blanks bytes) 0)
 blanks-no : (byte : ℕ) (bytes : List ℕ) → is_blank byte ≡ false → blanks (byte ∷ bytes) ≡ 0
 blanks-no byte bytes word = ap (λ b. cond (not (not b)) (1 + blanks bytes) 0) word
 
--- nor do the blanks at the front together
+-- nor do all blanks at the start together
 words_of-blanks : (bytes : List ℕ) → words_of bytes ≡ words_of (drop (blanks bytes) bytes)
 words_of-blanks [] = refl
 words_of-blanks (byte ∷ bytes) =
@@ -35,7 +35,7 @@ words_of-blanks (byte ∷ bytes) =
     (λ word. ap (λ n. words_of (drop n (byte ∷ bytes))) (sym (blanks-no byte bytes word)))
     (cases_Bool (is_blank byte))
 
--- behind them stands none
+-- no blank follows them
 blanks-stop : (bytes : List ℕ) → blanks bytes < length bytes → is_blank (get_or bytes (blanks bytes) 0) ≡ false
 blanks-stop bytes lt = not-true _ (not-false _ (prefix_len_stops (λ byte. not (not (is_blank byte))) bytes 0 lt))
 
@@ -43,7 +43,7 @@ blanks-stop bytes lt = not-true _ (not-false _ (prefix_len_stops (λ byte. not (
 abbrev pub word : List ℕ → ℕ
 word bytes = position_or_len is_blank bytes
 
--- pieces without the empty ones, where the first is not empty
+-- pieces without the empty ones, if the first is not empty
 filter-first : (piece : List ℕ) (pieces : List (List ℕ)) → 0 < length piece → filter (λ w. ltb 0 (length w)) (piece ∷ pieces) ≡ piece ∷ filter (λ w. ltb 0 (length w)) pieces
 filter-first piece pieces some = cond-true _ _ _ (lt-ltb 0 (length piece) some)
 
@@ -71,14 +71,14 @@ words_of-whole bytes some all =
 words_of-word : (bytes : List ℕ) → 0 < word bytes → words_of bytes ≡ take (word bytes) bytes ∷ words_of (drop (word bytes) bytes)
 words_of-word bytes some = ⊎_elim (words_of-before bytes some) (words_of-whole bytes some) (cases_lt (word bytes) (length bytes))
 
--- behind the blanks at the front of a line stands its first word
+-- after the blanks at the start of a line comes its first word
 words_of-cut : (line rest : List ℕ) (n : ℕ) → rest ≡ drop (blanks line) line → n ≡ word rest → 0 < length (take n rest) → words_of line ≡ take n rest ∷ words_of (drop n rest)
 words_of-cut line rest n rest-is n-is some =
     let long = length-take n rest in
     words_of-blanks line ∙ ap words_of (sym rest-is) ∙ words_of-word rest (omega arith)
     ∙ ap (λ n. take n rest ∷ words_of (drop n rest)) (sym n-is)
 
--- where they are all blank stands nothing
+-- if all bytes are blank, there is no word
 nothing_behind : (line rest : List ℕ) → rest ≡ drop (blanks line) line → word rest ≡ 0 → rest ≡ []
 nothing_behind line rest rest-is none =
     ⊎_elim
@@ -97,7 +97,7 @@ words_of-none line rest n rest-is n-is none =
     let gone = nothing_behind line rest rest-is (omega arith) in
     (words_of-blanks line ∙ ap words_of (sym rest-is) ∙ ap words_of gone, ap (λ (r : List ℕ). words_of (drop n r)) gone ∙ ap words_of (drop_all n [] (omega arith)))
 
--- a line without the blanks at its front, cut before its next blank
+-- a line without the blanks at its start, split at its next blank
 pub record IsCut (line front rest : List ℕ) : Type 0 where
   pub cut : List ℕ
   pub end : ℕ

@@ -1,4 +1,4 @@
--- The calls of whatever is read are calls that a script can ask, within its limits.
+-- The calls of whatever is read are calls that a script can contain, within its limits.
 use Rattle.camp_script.proofs.Common.{◌≡◌, ℕ, ◌+◌, ◌^◌, ◌<◌, ◌≤◌, Bool, true, false, ◌&&◌, ◌==◌, nat_lt, nat_le, cond, List, [], ◌∷◌, ◌++◌, length, count_by, ◌∙◌, subst, None, Some, Option, arith, length-append, nat_tests, sum_by-append, sum_by-cons, AllByRecursion, is_name, is_path, is_line, Primitive, Hunk, is_writing, Call, Edit, Command, Nothing, Ask, BeginEdit, BeginGroup, BeginSection, command_of, lines_of, words_of, is_full, obey, heed, after_body, after_record_line, after_line, read_from, IfOk, IsTrue, bytes_eq, codes, GroupLine, NoChange, WholeChange, EditChange, EndGroup, group_line_of, side_at, with_old, with_new, grown, ended, OpenEdit, OpenRecord, Progress, start, with_call, with_record, after_head, after_record, after_change, with_one_more, finished, not_ended, record_at, with_edit, with_open_edit}
 use Rattle.camp_script.proofs.TextLemmas.{all_more}
 use Rattle.camp_call.specs.declared.calls.Call.TheVariants as call
@@ -31,7 +31,7 @@ abbrev GoodAwaited : List Call → Option OpenRecord → Type 0
 GoodAwaited calls None = Unit {0}
 GoodAwaited calls (Some begun) = GoodRecord calls begun
 
--- a section has no more writing calls than it may have
+-- a section has at most its most writing calls
 abbrev IsWithin : List Call → Type 0
 IsWithin calls = count_by is_writing calls ≤ 65_536
 
@@ -46,7 +46,7 @@ record Good (p : Progress) : Type 0 where
   pub so_far : GoodCalls p
   pub awaited : GoodAwaited p.calls p.open_record
 
--- where a section is not full there is room
+-- a section that is not full can have one more call
 less_than_full : (n : ℕ) → nat_le 65_536 n ≡ false → n < 65_536
 less_than_full n h = grind (arith, nat_tests)
 
@@ -54,7 +54,7 @@ one_more : (writing : Bool) (n m : ℕ) → (writing && nat_le 65_536 n) ≡ fal
 one_more true n m room few is = omega (arith, less_than_full n room)
 one_more false n m room few is = omega arith
 
--- a call for which there is room keeps a section within its limit
+-- a call that fits keeps a section within its limit
 stays_within : (calls : List Call) (new : Call) → IsWithin calls → (is_writing new && is_full calls) ≡ false → IsWithin (calls ++ new ∷ [])
 stays_within calls new few room =
     let split = sum_by-append (λ c. cond {A = ℕ} (is_writing c) 1 0) calls (new ∷ []) in

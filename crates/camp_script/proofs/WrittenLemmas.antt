@@ -1,4 +1,4 @@
--- The canonical text of calls that grows part by part.
+-- The canonical text of calls, growing piece by piece.
 use Rattle.camp_script.proofs.Common.{◌≡◌, ℕ, ◌+◌, ◌<◌, List, [], ◌∷◌, ◌++◌, codes, get_or, length, take, sym, ap, subst, ◌∙◌, append_assoc, append-nil, Result, flat_map-append, take_more, decimal, flat_map, AllByRecursion, Primitive, Add, Remove, Hunk, Call, call_text, change_text, change_body, record_text, section_text, spaced, line_text, OnOk, CanStand, calls_of}
 use Rattle.camp_script.specs.Inside.Written.{patch_text}
 use Rattle.std.proofs.lemmas.List.{map-append}
@@ -8,7 +8,7 @@ use Rattle.camp_script.proofs.HistoryLemmas.{further, joined, spaced-append}
 regrouped : (word names first rest end body : List ℕ) → ((word ++ (names ++ (32 ∷ (first ++ rest)))) ++ end) ++ body ≡ ((word ++ names) ++ 32 ∷ []) ++ (((first ++ rest) ++ end) ++ body)
 regrouped word names first rest end body = simp append_assoc
 
--- a line of a word, names and further words, and what stands behind it
+-- a line of a word, names and further words, and what follows it
 begun : (word : List ℕ) (names : List (List ℕ)) (first : List ℕ) (rest : List (List ℕ)) (body : List ℕ)
     → line_text (word ∷ names ++ first ∷ rest) ++ body ≡ ((word ++ spaced names) ++ 32 ∷ []) ++ (line_text (first ∷ rest) ++ body)
 begun word names first rest body =
@@ -16,7 +16,7 @@ begun word names first rest body =
     ∙ regrouped word (spaced names) first (spaced rest) (10 ∷ []) body
     ∙ ap (λ t. ((word ++ spaced names) ++ 32 ∷ []) ++ ((t ++ 10 ∷ []) ++ body)) (sym (joined first rest))
 
--- what stands before the changes of a record
+-- the words before the changes of a record
 abbrev record_front : List ℕ → List ℕ → List ℕ
 record_front branch name = (codes "record" ++ spaced (branch ∷ name ∷ [])) ++ 32 ∷ []
 

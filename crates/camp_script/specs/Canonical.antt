@@ -1,4 +1,4 @@
--- The canonical text of a script, which reads back.
+-- The canonical text of a script; reading it gives the script.
 use Rattle.std.specs.Prelude.{◌≡◌, ℕ, ◌≤◌, IsTrue, List, [], ◌∷◌, ◌++◌, length, Option, None, Some, Ok, codes}
 use Rattle.std.specs.List.{flat_map, AllByRecursion}
 use Rattle.std.specs.Fmt.{decimal}
@@ -22,7 +22,7 @@ change_head (Add path) = codes "add" ∷ path ∷ []
 change_head (Remove path) = codes "remove" ∷ path ∷ []
 change_head (Hunk hunk) = codes "edit" ∷ hunk.path ∷ decimal hunk.line ∷ []
 
--- the lines behind the head of a change, if it has a body
+-- the body of a change, as lines after its head; empty if it has none
 abbrev pub change_body : Primitive → List ℕ
 change_body (Add path) = []
 change_body (Remove path) = []
@@ -33,7 +33,7 @@ change_body (Hunk hunk) =
 abbrev pub change_text : Primitive → List ℕ
 change_text change = line_text (change_head change) ++ change_body change
 
--- a record: a change that is alone stands on its line, and others in a group
+-- a record: a single change is on the line of the record, others are in a group
 abbrev pub record_text : List ℕ → List ℕ → List Primitive → List ℕ
 record_text branch name (change ∷ []) =
     line_text (codes "record" ∷ branch ∷ name ∷ change_head change) ++ change_body change
@@ -41,7 +41,7 @@ record_text branch name changes =
     line_text (codes "record" ∷ branch ∷ name ∷ codes "group" ∷ []) ++ flat_map change_text changes
     ++ line_text (codes "done" ∷ [])
 
--- a call as a script has it: a record with its bodies, and another on its line, as a history has it
+-- a call in a script: a record with its bodies; any other call on one line, as in a history
 abbrev pub call_text : Call → List ℕ
 call_text (call.Record branch name changes) = record_text branch name changes
 call_text other = line_text (call_words other)
@@ -59,15 +59,15 @@ abbrev pub script_text : List (List Call) → List ℕ
 script_text [] = []
 script_text (opening ∷ clients) = section_text opening ++ flat_map client_text clients
 
--- lines that a program can hold
+-- lines that a program can represent
 abbrev pub AreLines : Lines → Type 0
 AreLines lines = AllByRecursion (λ line. IsTrue (is_line line)) lines
 
--- names that a program can hold
+-- names that a program can represent
 abbrev pub AreNames : List (List ℕ) → Type 0
 AreNames names = AllByRecursion (λ name. IsTrue (is_name name)) names
 
--- a change that a program can hold: its path is a path, its lines are lines, and a hunk is in range
+-- a change that a program can represent: its path is a path, its lines are lines, and a hunk is in range
 abbrev pub IsChange : Primitive → Type 0
 IsChange (Add path) = IsTrue (is_path path)
 IsChange (Remove path) = IsTrue (is_path path)
@@ -78,7 +78,7 @@ abbrev pub IsListed : Option (List (List ℕ)) → Type 0
 IsListed None = Unit {0}
 IsListed (Some names) = (1 ≤ length names) × AreNames names
 
--- a call that a script can ask: its names are names, its changes can be held, and its lists have a name
+-- a call that a script can contain: its names are names, its changes can be represented, and its lists have a name
 abbrev pub IsScriptCall : Call → Type 0
 IsScriptCall (call.Branch new from) = IsTrue (is_name new) × IsTrue (is_name from)
 IsScriptCall (call.Record branch name changes) =
@@ -89,12 +89,12 @@ IsScriptCall (call.Tree branch) = IsTrue (is_name branch)
 IsScriptCall (call.Conflicts branch) = IsTrue (is_name branch)
 IsScriptCall (call.Names branch) = IsTrue (is_name branch)
 
--- sections that a script can be: calls that it can ask, within the limits
+-- sections of a script: calls that it can contain, within the limits
 pub record CanBeWritten (sections : List (List Call)) : Type 0 where
   pub calls : AllByRecursion (AllByRecursion IsScriptCall) sections
   pub limits : AreWithinLimits sections
 
--- the canonical text of such sections reads back as just these
+-- reading the canonical text of such sections gives exactly these
 abbrev pub ReadsBack : Type 0
 ReadsBack = (sections : List (List Call)) → CanBeWritten sections → script_of (script_text sections) ≡ Ok sections
 

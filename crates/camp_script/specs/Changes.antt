@@ -24,11 +24,11 @@ with_old edit line = record edit { old = edit.old ++ line ∷ [] }
 abbrev pub with_new : Edit → List ℕ → Edit
 with_new edit line = record edit { new = edit.new ++ line ∷ [] }
 
--- an edit with a line of a side: it has at most 4,096 bytes behind its sign
+-- an edit with one more line of a side: the line has at most 4,096 bytes after its sign
 abbrev pub side_at : ℕ → List ℕ → Edit → Result Edit LineFault
 side_at line bytes edit = if is_line bytes then Ok edit else fault_at line BadLine
 
--- an edit with a line of its body that is not `end`: an old line, with no new one before it, or a new line
+-- an edit with one more line of its body that is not `end`: an old line, with no new one before it, or a new line
 abbrev pub grown : ℕ → Edit → List ℕ → Result Edit LineFault
 grown line edit [] = fault_at line BadEdit
 grown line edit (sign ∷ bytes) =
@@ -36,45 +36,45 @@ grown line edit (sign ∷ bytes) =
     else (if sign == plus_sign then side_at line bytes (with_new edit bytes)
     else fault_at line BadEdit)
 
--- an edit whose `end` stands at a line: a side has lines, and the edit's line and the counts of its old and new lines
--- add up to 2^30 at most
+-- an edit whose `end` is on a line: a side has lines, and the edit's line and the counts of its old and new lines add
+-- up to at most 2^30
 abbrev pub ended : ℕ → Edit → Result Edit LineFault
 ended line edit =
     if length edit.old + length edit.new == 0 then fault_at line BadEdit
     else (if nat_lt greatest_reach (edit.line + length edit.old + length edit.new) then fault_at line BadNumber
     else Ok edit)
 
--- an edit behind a line of its body
+-- an edit after a line of its body
 abbrev pub after_body_line : Edit → NumberedLine → Result Edit LineFault
 after_body_line edit line =
     if ends_body line then ended line.number edit else grown line.number edit line.bytes
 
--- the change of an edit of a path, at a place of its file: its body, line by line, and the last line is `end`; where the
--- body has none, the fault is that of the line of the script that begins the edit
+-- the change of an edit of a path, at an index of the changes: its body, line by line, ending with `end`; without
+-- `end`, the fault is at the line of the script that begins the edit
 abbrev pub edit_of : ℕ → List ℕ → ℕ → List NumberedLine → Result Primitive LineFault
 edit_of line path place body =
     in_turn after_body_line (record { path = path; line = place; old = []; new = [] }) body >>= λ edit.
     if list_any ends_body body then Ok (Hunk edit) else fault_at line EditNotEnded
 
--- what a line of a group says: no change; a change; an edit, whose body follows; or that the group is done
+-- the meaning of a line of a group: no change; a change; an edit, whose body follows; or the end of the group
 pub data GroupLine : Type 0 where
   NoChange : GroupLine
   WholeChange : Primitive → GroupLine
   EditChange : (path : List ℕ) → (place : ℕ) → GroupLine
   EndGroup : GroupLine
 
--- `add PATH` and `remove PATH`, behind so many changes: a group has 64 at most
+-- `add PATH` or `remove PATH` as the next change of a group, which has at most 64
 abbrev pub whole_change : (List ℕ → Primitive) → ℕ → ℕ → List ℕ → Result GroupLine LineFault
 whole_change change line count path =
     if nat_le most_changes count then fault_at line BadGroup else (path_at line path >>= λ path. Ok (WholeChange (change path)))
 
--- `edit PATH LINE`, behind so many changes; the body follows
+-- `edit PATH LINE` as the next change of a group; the body follows
 abbrev pub edit_change : ℕ → ℕ → List ℕ → List ℕ → Result GroupLine LineFault
 edit_change line count path place =
     if nat_le most_changes count then fault_at line BadGroup
     else (path_at line path >>= λ path. number_at line place >>= λ place. Ok (EditChange path place))
 
--- a line of a group, behind so many changes: its first word, and those behind it; nothing stands behind `done`
+-- a line of a group by its first word and the others, given the number of changes before it; nothing follows `done`
 abbrev pub change_of : ℕ → ℕ → List ℕ → List (List ℕ) → Result GroupLine LineFault
 change_of line count word words =
     if bytes_eq word (codes "add") then (one_word line words >>= whole_change Add line count)
@@ -83,13 +83,13 @@ change_of line count word words =
     else (if bytes_eq word (codes "done") then (no_words line words >>= λ none. Ok EndGroup)
     else fault_at line BadGroup)))
 
--- what the line of a number says in a group, behind so many changes; what is skipped elsewhere is skipped here too
+-- the meaning of a numbered line of a group; a line that is skipped elsewhere is skipped here too
 abbrev pub group_line_of : ℕ → ℕ → List (List ℕ) → Result GroupLine LineFault
 group_line_of line count [] = Ok NoChange
 group_line_of line count (word ∷ words) =
     if is_skipped (word ∷ words) then Ok NoChange else change_of line count word words
 
--- the changes of a group with what an entry says; where the group is done, it has a change
+-- the changes of a group after an entry with this meaning; at its end the group must have a change
 abbrev pub with_change : List Primitive → Entry → GroupLine → Result (List Primitive) LineFault
 with_change changes entry NoChange = Ok changes
 with_change changes entry (WholeChange change) = Ok (changes ++ change ∷ [])
@@ -98,13 +98,13 @@ with_change changes entry (EditChange path place) =
 with_change changes entry EndGroup =
     if length changes == 0 then fault_at entry.head.number BadGroup else Ok changes
 
--- the changes of a group behind an entry
+-- the changes of a group after an entry
 abbrev pub after_entry : List Primitive → Entry → Result (List Primitive) LineFault
 after_entry changes entry =
     group_line_of entry.head.number (length changes) (entry_words entry) >>= with_change changes entry
 
--- the changes of a group: those of its entries, and the last entry is `done`; where the group has none, the fault is
--- that of the line of the script that begins it
+-- the changes of a group: those of its entries, ending with `done`; without `done`, the fault is at the line of the
+-- script that begins the group
 abbrev pub group_of : ℕ → List Entry → Result (List Primitive) LineFault
 group_of line entries =
     in_turn after_entry [] entries >>= λ changes.

@@ -1,4 +1,4 @@
--- Commands: a first line, and the lines that it takes with it.
+-- Commands: a first line, and the lines that belong to it.
 use Rattle.std.specs.Prelude.{◌≡◌, ℕ, ◌+◌, Bool, true, false, if◌then◌else◌}
 use Rattle.std.specs.Prelude.{List, [], ◌∷◌, ◌++◌, map, Option, None, Some, Result, Ok, bytes_eq, codes}
 use Rattle.std.specs.List.{flat_map}
@@ -24,25 +24,25 @@ entry_lines entry = entry.head ∷ entry.rest
 abbrev pub group_lines : List NumberedLine → List NumberedLine
 group_lines lines = flat_map entry_lines (up_to ends_group (entries_of lines))
 
--- what a first line takes with it, by what it asks for: a body, where an edit begins; a group, where one begins; and nothing
--- else, so that a line with a fault stands alone
+-- what belongs to a first line, by what it asks for: a body if an edit begins; a group if one begins; else nothing,
+-- so a line with a fault is a command of its own
 abbrev pub taken_by : Result Command LineFault → List NumberedLine → List NumberedLine
 taken_by (Ok (BeginEdit branch name path place)) lines = up_to ends_body lines
 taken_by (Ok (BeginGroup branch name)) lines = group_lines lines
 taken_by other lines = []
 
--- what a first line takes with it of the lines behind it
+-- the following lines that belong to a first line
 abbrev pub taken : List ℕ → List (List ℕ) → List (List ℕ)
 taken first lines = map (λ line. line.bytes) (taken_by (command_of 1 (words_of first)) (numbered 2 lines))
 
--- whether a line is wanted
+-- another line belongs to the command
 abbrev pub wants : Wanted → Bool
 wants Nothing = false
 wants Body = true
 wants Group = true
 wants GroupBody = true
 
--- what is wanted behind a line: a body ends with `end`, and a group with `done`
+-- what belongs to the command after one more line: a body ends with `end`, and a group with `done`
 abbrev pub wanted_after : Wanted → List ℕ → Wanted
 wanted_after Nothing line = Nothing
 wanted_after Body line = if bytes_eq line (codes "end") then Nothing else Body
@@ -51,19 +51,19 @@ wanted_after Group line =
     if begins_edit (words_of line) then GroupBody
     else (if begins_with (codes "done") (words_of line) then Nothing else Group)
 
--- the lines that are wanted, of these
+-- those of these lines that belong to the command
 abbrev pub wanted_lines : Wanted → List (List ℕ) → List (List ℕ)
 wanted_lines wanted [] = []
 wanted_lines wanted (line ∷ lines) = if wants wanted then line ∷ wanted_lines (wanted_after wanted line) lines else []
 
--- what is left of a command comes to a script: where no line had a fault, what a reader comes to; else the
--- fault of the line that had one. Where memory ran out, this says nothing of the script.
+-- the result of a command: if no line had a fault, the script that the reader gives; else the fault of the line that
+-- had one. Says nothing of the script if memory ran out.
 abbrev pub ComesTo : Option ScriptFault → ℕ → Progress → List (List ℕ) → Result (List (List Call)) LineFault → Type 0
 ComesTo None number reading others script = script ≡ read_from (number + 1) reading others
 ComesTo (Some fault) number reading others script = IsFaultOf fault script
 
--- a first line of a command is read, and these of the lines behind it: it takes these, and those that are wanted of the
--- others, and reading goes on to the script of all
+-- a command has read its first line and these of the lines after it: the lines that belong to it are these and the
+-- wanted ones of the others, and reading on gives the script of all
 pub record HasRead (command : CommandLines) (first : List ℕ) (rest : List (List ℕ)) : Type 0 where
   pub takes : (others : List (List ℕ)) → taken first (rest ++ others) ≡ rest ++ wanted_lines command.wanted others
   pub reads : (others : List (List ℕ)) → ComesTo command.fault command.number command.reading others (script_of_lines (first ∷ rest ++ others))

@@ -1,4 +1,4 @@
--- What a line outside groups and bodies asks for by its words, or its fault.
+-- The meaning of a line outside groups and bodies, or its fault.
 use Rattle.std.specs.Prelude.{ℕ, if◌then◌else◌}
 use Rattle.std.specs.Prelude.{List, [], ◌∷◌, Option, None, Some, Result, Ok, bytes_eq, codes}
 use Rattle.camp_prim.specs.declared.primitives.Primitive.{Primitive}
@@ -12,8 +12,8 @@ use Rattle.camp_script.specs.Words.{name_at, path_at, number_at, names_at}
 use Rattle.camp_script.specs.declared.faults.FaultKind.TheVariants.{UnknownCommand, WrongNumberOfWords}
 use Rattle.camp_script.specs.declared.faults.LineFault.{LineFault}
 
--- what a line asks for: nothing; a call; the record of an edit, whose body follows; the record of a group, whose changes
--- follow; or the section of the next client
+-- the meaning of a line: nothing; a call; the record of an edit, whose body follows; the record of a group, whose
+-- changes follow; or the section of the next client
 pub data Command : Type 0 where
   Nothing : Command
   Ask : Call → Command
@@ -44,7 +44,7 @@ abbrev pub group_record : ℕ → List ℕ → List ℕ → Result Command LineF
 group_record line branch name =
     name_at line branch >>= λ branch. name_at line name >>= λ name. Ok (BeginGroup branch name)
 
--- a record: its branch, its name, its change word, and the words behind that one
+-- a record: its branch, its name, its change word, and the words after that one
 abbrev pub record_of : ℕ → List ℕ → List ℕ → List ℕ → List (List ℕ) → Result Command LineFault
 record_of line branch name change words =
     if bytes_eq change (codes "add") then (one_word line words >>= whole_record Add line branch name)
@@ -81,7 +81,7 @@ obliterate_line line others = fault_at line WrongNumberOfWords
 abbrev pub branch_at : ℕ → List (List ℕ) → Result (List ℕ) LineFault
 branch_at line words = one_word line words >>= name_at line
 
--- a question: its first word, and those behind it
+-- a question: its first word, and those after it
 abbrev pub question : ℕ → List ℕ → List (List ℕ) → Result Command LineFault
 question line word words =
     if bytes_eq word (codes "tree") then (branch_at line words >>= λ branch. Ok (Ask (call.Tree branch)))
@@ -90,7 +90,7 @@ question line word words =
     else (if bytes_eq word (codes "names") then (branch_at line words >>= λ branch. Ok (Ask (call.Names branch)))
     else fault_at line UnknownCommand))
 
--- a command without a list of names: its first word, and those behind it; nothing stands behind `client`
+-- a command without a list of names: its first word, and those after it; nothing follows `client`
 abbrev pub short_command : ℕ → List ℕ → List (List ℕ) → Result Command LineFault
 short_command line word words =
     if bytes_eq word (codes "branch") then branch_line line words
@@ -98,14 +98,14 @@ short_command line word words =
     else (if bytes_eq word (codes "client") then (no_words line words >>= λ none. Ok BeginSection)
     else question line word words))
 
--- a command: its first word, and those behind it
+-- a command: its first word, and those after it
 abbrev pub command : ℕ → List ℕ → List (List ℕ) → Result Command LineFault
 command line word words =
     if bytes_eq word (codes "pull") then pull_line line words
     else (if bytes_eq word (codes "obliterate") then obliterate_line line words
     else short_command line word words)
 
--- what the line of a number asks for by its words; a line that is skipped asks for nothing
+-- the meaning of a numbered line; a line that is skipped has none
 abbrev pub command_of : ℕ → List (List ℕ) → Result Command LineFault
 command_of line [] = Ok Nothing
 command_of line (word ∷ words) = if is_skipped (word ∷ words) then Ok Nothing else command line word words

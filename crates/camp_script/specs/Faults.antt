@@ -1,4 +1,4 @@
--- The words that tell faults.
+-- The words that describe faults.
 use Rattle.std.specs.Prelude.{ℕ, List, ◌++◌, Result, Err, codes}
 use Rattle.std.specs.Fmt.{decimal}
 use Rattle.camp_script.specs.declared.faults.FaultKind.{FaultKind}
@@ -12,7 +12,7 @@ use Rattle.camp_script.specs.declared.faults.ScriptFault.TheVariants.{Line, Memo
 use Rattle.camp_script.specs.declared.faults.CallFault.{CallFault}
 use Rattle.camp_script.specs.declared.faults.CallFault.TheVariants as call
 
--- what is wrong with a line
+-- the words for the kind of a fault
 abbrev pub kind_words : FaultKind → List ℕ
 kind_words UnknownCommand = codes "unknown command"
 kind_words WrongNumberOfWords = codes "wrong number of words"
@@ -27,7 +27,7 @@ kind_words TooManyCommands = codes "too many commands"
 kind_words BadGroup = codes "bad group"
 kind_words GroupNotEnded = codes "group not ended"
 
--- which line it is, and what is wrong with it
+-- the words for a fault of a line: its number and the kind
 abbrev pub line_words : LineFault → List ℕ
 line_words fault = codes "line " ++ decimal fault.line ++ codes ": " ++ kind_words fault.kind
 

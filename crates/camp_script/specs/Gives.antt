@@ -1,4 +1,4 @@
--- What a reader answers: what the definitions say, unless memory ran out.
+-- The result of a reader: what the definitions say, unless memory ran out.
 use Rattle.std.specs.Prelude.{◌≡◌, ◌≢◌, ℕ, List, Result, Ok, Err, IfOk}
 use Rattle.std.specs.declared.alloc.AllocError.{AllocError}
 use Rattle.camp_script.specs.declared.faults.LineFault.{LineFault}
@@ -6,40 +6,40 @@ use Rattle.camp_script.specs.declared.faults.ScriptFault.{ScriptFault}
 use Rattle.camp_script.specs.declared.faults.ScriptFault.TheVariants.{Line, Memory}
 use Rattle.camp_script.specs.Words.{path_at}
 
--- a fault of a line is the one that reading comes to; a want of memory says nothing
+-- the fault of a line is the one that reading gives; out of memory says nothing
 abbrev pub IsFaultOf : {A : Type 0} → ScriptFault → Result A LineFault → Type 0
 IsFaultOf (Line fault) reading = reading ≡ Err fault
 IsFaultOf Memory reading = Unit {0}
 
--- an answer is what reading comes to: just its value, or its fault, unless memory ran out
+-- the result is exactly what reading gives, value or fault, unless memory ran out
 abbrev pub Gives : {A : Type 0} → Result A ScriptFault → Result A LineFault → Type 0
 Gives (Ok value) reading = reading ≡ Ok value
 Gives (Err fault) reading = IsFaultOf fault reading
 
--- reading comes to no fault
+-- reading gives no fault
 abbrev pub HasNoFault : {A : Type 0} → Result A LineFault → Type 0
 HasNoFault (Ok value) = Unit {0}
 HasNoFault (Err fault) = ⊥
 
--- a fault of a line is the one that reading it comes to; memory runs out only for a line without a fault
+-- the fault of a line is the one that reading it gives; memory runs out only for a line without a fault
 abbrev pub IsFaultFirst : {A : Type 0} → ScriptFault → Result A LineFault → Type 0
 IsFaultFirst (Line fault) reading = reading ≡ Err fault
 IsFaultFirst Memory reading = HasNoFault reading
 
--- as `Gives`, but memory runs out only where reading comes to no fault
+-- as `Gives`, but memory runs out only if reading gives no fault
 abbrev pub GivesFaultFirst : {A : Type 0} → Result A ScriptFault → Result A LineFault → Type 0
 GivesFaultFirst (Ok value) reading = reading ≡ Ok value
 GivesFaultFirst (Err fault) reading = IsFaultFirst fault reading
 
--- a step that changes the reader in place: behind `Ok` the reader is just what reading comes to; a fault is the one that
--- reading comes to, and memory runs out only where it comes to none; behind a fault nothing is said of the reader, which
+-- a step that changes the reader in place: after `Ok` the reader is exactly what reading gives; a fault is the one
+-- that reading gives, and memory runs out only if it gives none; after a fault nothing is said of the reader, which
 -- is dropped
 abbrev pub Advances : {A : Type 0} → Result (Unit {0}) ScriptFault → A → Result A LineFault → Type 0
 Advances (Ok done) new reading = reading ≡ Ok new
 Advances (Err fault) new reading = IsFaultFirst fault reading
 
--- for a word that is a path the answer is `Ok`, with the path or the want of memory inside; for any other word it is the
--- fault: so memory is never wanted outside, and the tests behind this one may come first
+-- for a word that is a path the result is `Ok`, with the path or out of memory inside; for any other word it is the
+-- fault: so the outer result is never out of memory, and later tests may come first
 abbrev pub GivesPath : Result (Result (List ℕ) AllocError) ScriptFault → ℕ → List ℕ → Type 0
 GivesPath (Ok made) line word = (path_at line word ≡ Ok word) × IfOk made (λ path. path ≡ word)
 GivesPath (Err fault) line word = IsFaultFirst fault (path_at line word) × (fault ≢ Memory)

@@ -1,4 +1,4 @@
--- Words that serve only private functions and the model of a reader.
+-- Definitions that only private functions and the model of a reader use.
 pub mod Asking
 pub mod Files
 pub mod Progress

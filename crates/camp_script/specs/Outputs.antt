@@ -16,7 +16,7 @@ HaveTexts sections = All (All HasText) sections
 abbrev pub answers_text : List (Result Reply Fault) → List ℕ
 answers_text answers = flat_map answer_text answers
 
--- the answers of a client, behind a line that tells its number
+-- the answers of a client, after a line with its number
 abbrev pub client_answers : ℕ → List (Result Reply Fault) → List ℕ
 client_answers number answers = line_text (codes "client" ∷ decimal number ∷ []) ++ answers_text answers
 
@@ -25,16 +25,16 @@ abbrev pub clients_answers : ℕ → List (List (Result Reply Fault)) → List �
 clients_answers number [] = []
 clients_answers number (answers ∷ clients) = client_answers number answers ++ clients_answers (number + 1) clients
 
--- the answers of the opening, and then those of the clients
+-- the answers of the opening, followed by those of the clients
 abbrev pub sections_text : List (List (Result Reply Fault)) → List ℕ
 sections_text [] = []
 sections_text (opening ∷ clients) = answers_text opening ++ clients_answers 1 clients
 
--- a history, where it is wanted
+-- a history, if it is wanted
 abbrev pub wanted_text : Option (List (ℕ × Call)) → List ℕ
 wanted_text None = []
 wanted_text (Some history) = history_text history
 
--- the output of a run: the answers, and behind them the history, where it is wanted
+-- the output of a run: the answers, followed by the history if it is wanted
 abbrev pub output_text : List (List (Result Reply Fault)) → Option (List (ℕ × Call)) → List ℕ
 output_text sections history = sections_text sections ++ wanted_text history

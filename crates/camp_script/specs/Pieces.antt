@@ -1,8 +1,8 @@
--- How lines fall into edits, groups and sections. A line's first words decide it, and nothing is a fault here: behind a line
--- that has one they fall as behind any other. A script is read no further than its first fault; in a conversation the lines
--- behind a fault still say where its command ends.
+-- Groups lines into edits, groups and sections, by their first words alone: a line with a fault is grouped as any
+-- other. A script is read no further than its first fault; in a conversation the lines after a fault still say where
+-- its command ends.
 --
--- An example, a group of one edit and then a question. These six lines are four entries, and those are two items:
+-- An example, a group of one edit followed by a question. These six lines are four entries, and those are two items:
 --     1  record main all group     entry 1               item 1, which begins a group
 --     2  edit f 1                  entry 2, an edit        .
 --     3  +one                        .                     .
@@ -23,18 +23,18 @@ abbrev pub numbered : ℕ → List (List ℕ) → List NumberedLine
 numbered number [] = []
 numbered number (bytes ∷ lines) = record { number = number; bytes = bytes } ∷ numbered (number + 1) lines
 
--- an element of a list, and those behind it that it takes with it
+-- an element of a list, and the following ones that belong to it
 pub record Piece (A : Type 0) : Type 0 where
   pub head : A
   pub rest : List A
 
--- the elements up to the first that closes, and with it; all, where none closes
+-- the elements up to and including the first that closes; all if none closes
 abbrev pub up_to : {A : Type 0} → (A → Bool) → List A → List A
 up_to closes [] = []
 up_to closes (first ∷ others) = first ∷ (if closes first then [] else up_to closes others)
 
--- a list in pieces: an element that opens a piece takes with it those behind it, up to the first that closes it, and
--- any other takes none. Where a piece is open as the list begins, its elements are passed over.
+-- a list in pieces: an element that opens a piece is followed by its elements, up to the first that closes it; any
+-- other is a piece of its own. If a piece is open when the list begins, its elements are skipped.
 abbrev pub pieces : {A : Type 0} → (A → Bool) → (A → Bool) → Bool → List A → List (Piece A)
 pieces opens closes is_open [] = []
 pieces opens closes true (first ∷ others) = pieces opens closes (not (closes first)) others
@@ -51,7 +51,7 @@ begins_with word (first ∷ words) = bytes_eq first word
 abbrev pub begins_record : List ℕ → List (List ℕ) → Bool
 begins_record change words = begins_with (codes "record") words && begins_with change (drop 3 words)
 
--- whether words begin an edit: `record BRANCH NAME edit ..`, or `edit ..`, which is good only in a group
+-- words begin an edit: `record BRANCH NAME edit ..`, or `edit ..`, which is valid only in a group
 abbrev pub begins_edit : List (List ℕ) → Bool
 begins_edit words = begins_with (codes "edit") words || begins_record (codes "edit") words
 
@@ -67,7 +67,7 @@ words_on line = words_of line.bytes
 abbrev pub ends_body : NumberedLine → Bool
 ends_body line = bytes_eq line.bytes (codes "end")
 
--- a line, and for one that begins an edit the lines of its body, up to `end` or else to the last
+-- a line and, if it begins an edit, the lines of its body, up to `end` or else to the last
 abbrev pub Entry : Type 0
 Entry = Piece NumberedLine
 
@@ -83,7 +83,7 @@ entry_words entry = words_on entry.head
 abbrev pub ends_group : Entry → Bool
 ends_group entry = begins_with (codes "done") (entry_words entry)
 
--- an entry, and for one that begins a group its entries, up to `done` or else to the last
+-- an entry and, if it begins a group, its entries, up to `done` or else to the last
 abbrev pub Item : Type 0
 Item = Piece Entry
 
@@ -104,7 +104,7 @@ abbrev pub first_section : List Item → List Item
 first_section [] = []
 first_section (item ∷ others) = if is_client item then [] else item ∷ first_section others
 
--- each line of a client, and the items behind it up to the next
+-- each line of a client, with the items after it up to the next
 abbrev pub clients_of : List Item → List (Piece Item)
 clients_of [] = []
 clients_of (item ∷ others) =

@@ -1,5 +1,4 @@
--- The script that bytes are, section by section, or its first fault: the pieces that its lines fall into are read from the
--- top.
+-- The script that bytes represent, section by section, or its first fault: the pieces of its lines are read in order.
 use Rattle.std.specs.Prelude.{ℕ, Bool, ◌&&◌, nat_le, if◌then◌else◌}
 use Rattle.std.specs.Prelude.{List, [], ◌∷◌, ◌++◌, length, count_by, Result, Ok}
 use Rattle.camp_call.specs.Calls.{is_writing}
@@ -15,19 +14,19 @@ use Rattle.camp_script.specs.Words.{◌>>=◌, in_turn}
 use Rattle.camp_script.specs.declared.faults.FaultKind.TheVariants.{TooManyClients, TooManyCommands}
 use Rattle.camp_script.specs.declared.faults.LineFault.{LineFault}
 
--- whether a section has as many writing calls as it may have
+-- a section has its most writing calls
 abbrev pub is_full : List Call → Bool
 is_full calls = nat_le most_writing_calls (count_by is_writing calls)
 
--- a section has room for a record that begins at a line, which is one more writing call
+-- the fault at a line whose record would exceed the section's writing calls, if it is full
 abbrev pub room_at : ℕ → List Call → Result (Unit {0}) LineFault
 room_at line calls = if is_full calls then fault_at line TooManyCommands else Ok tt
 
--- what the line of an item asks for
+-- the meaning of the line of an item
 abbrev pub command_of_item : Item → Result Command LineFault
 command_of_item item = command_of (item_line item).number (words_on (item_line item))
 
--- the calls of a section with what an item asks for; no item of a section asks for the next one
+-- the calls of a section after an item with this meaning; no item of a section begins the next section
 abbrev pub with_asked : List Call → Item → Command → Result (List Call) LineFault
 with_asked calls item Nothing = Ok calls
 with_asked calls item (Ask new) =
@@ -42,7 +41,7 @@ with_asked calls item (BeginGroup branch name) =
     Ok (calls ++ call.Record branch name changes ∷ [])
 with_asked calls item BeginSection = Ok calls
 
--- the calls of a section behind an item
+-- the calls of a section after an item
 abbrev pub after_item : List Call → Item → Result (List Call) LineFault
 after_item calls item = command_of_item item >>= with_asked calls item
 
@@ -53,12 +52,12 @@ after_client sections client =
     if nat_le most_sections (length sections) then fault_at (item_line client.head).number TooManyClients
     else (in_turn after_item [] client.rest >>= λ calls. Ok (sections ++ calls ∷ []))
 
--- the script that lines are: the calls of the opening, and then those of each client
+-- the script that lines represent: the calls of the opening, followed by those of each client
 abbrev pub script_of_lines : List (List ℕ) → Result (List (List Call)) LineFault
 script_of_lines lines =
     let items = items_of (entries_of (numbered 1 lines)) in
     in_turn after_item [] (first_section items) >>= λ calls. in_turn after_client (calls ∷ []) (clients_of items)
 
--- the script that bytes are
+-- the script that bytes represent
 abbrev pub script_of : List ℕ → Result (List (List Call)) LineFault
 script_of bytes = script_of_lines (lines_of bytes)

@@ -15,11 +15,11 @@ use Rattle.camp_call.specs.declared.replies.Reply.{Reply}
 use Rattle.camp_call.specs.declared.replies.Reply.TheVariants.{Done, Refused, Tree, Conflicts, Names}
 use Rattle.camp_script.specs.Signs.{equals_sign}
 
--- words on a line: one space between them, and LF behind
+-- words on a line: one space between them, and a line feed at the end
 abbrev pub line_text : List (List ℕ) → List ℕ
 line_text words = join_with_byte space words ++ newline ∷ []
 
--- a line of a file or of a side of a hunk: a sign, the bytes, and LF
+-- a line of a file or of a side of a hunk: a sign, the bytes, and a line feed
 abbrev pub signed_line : ℕ → List ℕ → List ℕ
 signed_line sign bytes = sign ∷ bytes ++ newline ∷ []
 
@@ -37,11 +37,11 @@ refusal_words (Diverged name) = decimal 12 ∷ name ∷ []
 refusal_words (NoMerge left right) = decimal 13 ∷ left ∷ right ∷ []
 refusal_words (SameBranch branch) = decimal 14 ∷ branch ∷ []
 
--- a file: its path and the number of its lines, and then each line behind `=`
+-- a file: its path and the number of its lines, followed by each line after `=`
 abbrev pub file_text : List ℕ × Lines → List ℕ
 file_text file = line_text (codes "file" ∷ file.0 ∷ decimal (length file.1) ∷ []) ++ flat_map (signed_line equals_sign) file.1
 
--- a tree: the number of its files, and then each in the order of the bytes of the paths
+-- a tree: the number of its files, followed by each in the order of the bytes of the paths
 abbrev pub tree_text : Files → List ℕ
 tree_text tree = line_text (codes "tree" ∷ decimal (len tree) ∷ []) ++ flat_map file_text (entries tree)
 
@@ -49,7 +49,7 @@ tree_text tree = line_text (codes "tree" ∷ decimal (len tree) ∷ []) ++ flat_
 abbrev pub pair_text : List ℕ × List ℕ → List ℕ
 pair_text pair = line_text (pair.0 ∷ pair.1 ∷ [])
 
--- conflicts: their number, and then each
+-- conflicts: their number, followed by each
 abbrev pub conflicts_text : List (List ℕ × List ℕ) → List ℕ
 conflicts_text pairs = line_text (codes "conflicts" ∷ decimal (length pairs) ∷ []) ++ flat_map pair_text pairs
 
@@ -57,7 +57,7 @@ conflicts_text pairs = line_text (codes "conflicts" ∷ decimal (length pairs) �
 abbrev pub name_text : List ℕ → List ℕ
 name_text name = line_text (name ∷ [])
 
--- names: their number, and then each
+-- names: their number, followed by each
 abbrev pub names_text : List (List ℕ) → List ℕ
 names_text names = line_text (codes "names" ∷ decimal (length names) ∷ []) ++ flat_map name_text names
 
@@ -69,11 +69,11 @@ reply_text (Tree tree) = tree_text tree
 reply_text (Conflicts pairs) = conflicts_text pairs
 reply_text (Names names) = names_text names
 
--- an answer has a text, unless memory ran out for its call
+-- an answer has a text, unless its call ran out of memory
 abbrev pub HasText : Result Reply Fault → Type 0
 HasText answer = answer ≢ Err Memory
 
--- the answer to a call: its reply, or why it got none; where memory ran out there is no text
+-- the answer to a call: its reply, or why it got none; there is no text if memory ran out
 abbrev pub answer_text : Result Reply Fault → List ℕ
 answer_text (Ok reply) = reply_text reply
 answer_text (Err Memory) = []

@@ -1,4 +1,4 @@
--- Where reading a script may want memory.
+-- When reading a script may run out of memory.
 use Rattle.std.specs.Prelude.{ℕ, List, [], ◌∷◌, Result, Ok, if◌then◌else◌}
 use Rattle.camp_script.specs.Commands.{Command, Nothing, command_of}
 use Rattle.camp_script.specs.Gives.{HasNoFault}
@@ -6,12 +6,13 @@ use Rattle.camp_script.specs.Lines.{lines_of, is_skipped}
 use Rattle.camp_script.specs.Pieces.{NumberedLine, numbered, words_on}
 use Rattle.camp_script.specs.declared.faults.LineFault.{LineFault}
 
--- what the first of these lines that is not skipped asks for, or its fault; nothing, where all are skipped
+-- the meaning of the first of these lines that is not skipped, or its fault; nothing if all are skipped
 abbrev pub first_command : List NumberedLine → Result Command LineFault
 first_command [] = Ok Nothing
 first_command (line ∷ lines) =
     if is_skipped (words_on line) then first_command lines else command_of line.number (words_on line)
 
--- reading a script may want memory: the first line that is not skipped, where there is one, has no fault
+-- reading a script may run out of memory only if its first line that is not skipped has no fault, or all lines are
+-- skipped
 abbrev pub ScriptMayWant : List ℕ → Type 0
 ScriptMayWant bytes = HasNoFault (first_command (numbered 1 (lines_of bytes)))

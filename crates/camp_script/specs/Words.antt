@@ -1,4 +1,4 @@
--- The words of a line as names, paths and numbers, or the fault of the first that is none.
+-- The words of a line as names, paths and numbers, or the fault of the first that is not valid.
 use Rattle.std.specs.Prelude.{ℕ, ◌+◌, ◌*◌, ◌-◌, Bool, ◌&&◌, if◌then◌else◌}
 use Rattle.std.specs.Prelude.{List, [], ◌∷◌, length, fold, Option, None, Some, Result, Ok, Err}
 use Rattle.std.specs.List.{list_all}
@@ -9,33 +9,33 @@ use Rattle.camp_script.specs.declared.faults.FaultKind.{FaultKind}
 use Rattle.camp_script.specs.declared.faults.FaultKind.TheVariants.{WrongNumberOfWords, BadName, BadPath, BadNumber}
 use Rattle.camp_script.specs.declared.faults.LineFault.{LineFault}
 
--- what follows a good answer; the first fault stays
+-- continues after a value; the first fault stays
 infixl 10 ◌>>=◌
 abbrev pub ◌>>=◌ : {A B E : Type 0} → Result A E → (A → Result B E) → Result B E
 (Ok x) >>= next = next x
 (Err fault) >>= next = Err fault
 
--- what comes of a step for each element, from the first to the last; the first fault stays
+-- a step for each element, from the first to the last; the first fault stays
 abbrev pub in_turn : {A B E : Type 0} → (A → B → Result A E) → A → List B → Result A E
 in_turn step so_far [] = Ok so_far
 in_turn step so_far (first ∷ others) = step so_far first >>= λ next. in_turn step next others
 
--- no word, where no word is to stand
+-- no words, if none are allowed
 abbrev pub no_words : ℕ → List (List ℕ) → Result (Unit {0}) LineFault
 no_words line [] = Ok tt
 no_words line others = fault_at line WrongNumberOfWords
 
--- the one word that stands there
+-- exactly one word
 abbrev pub one_word : ℕ → List (List ℕ) → Result (List ℕ) LineFault
 one_word line (word ∷ []) = Ok word
 one_word line others = fault_at line WrongNumberOfWords
 
--- the two words that stand there
+-- exactly two words
 abbrev pub two_words : ℕ → List (List ℕ) → Result (List ℕ × List ℕ) LineFault
 two_words line (first ∷ second ∷ []) = Ok (first, second)
 two_words line others = fault_at line WrongNumberOfWords
 
--- three words, and those behind them
+-- three words, and those after them
 abbrev pub three_words : ℕ → List (List ℕ) → Result (List ℕ × List ℕ × List ℕ × List (List ℕ)) LineFault
 three_words line (first ∷ second ∷ third ∷ words) = Ok (first, second, third, words)
 three_words line others = fault_at line WrongNumberOfWords
@@ -69,7 +69,7 @@ count_of word = if is_between 1 10 (length word) && list_all is_digit word then 
 abbrev pub last_line_number : ℕ
 last_line_number = 1_073_741_823
 
--- whether a word is the number of a line of a file: 1 to 10 decimal digits, with a value from 1 to the greatest
+-- a word is the number of a line of a file: 1 to 10 decimal digits, with a value from 1 to the greatest
 abbrev pub is_line_number : List ℕ → Bool
 is_line_number word =
     is_between 1 10 (length word)

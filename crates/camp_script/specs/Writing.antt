@@ -1,15 +1,15 @@
--- What writing a text does to the bytes that are there.
+-- The effect of writing a text on the bytes that are there.
 use Rattle.std.specs.Prelude.{◌≡◌, ◌<◌, ℕ, List, ◌++◌, length, Option, Result, Ok, Err}
 use Rattle.std.specs.Io.KnownBytes.{Appends, Keeps}
 use Rattle.camp_script.specs.declared.faults.WriteFault.{WriteFault}
 use Rattle.camp_script.specs.declared.faults.WriteFault.TheVariants.{Memory, Write}
 
--- known bytes grow by a beginning of a text, and not by all of it
+-- known bytes grow by a proper prefix of a text
 abbrev pub AppendsBeginning : Option (List ℕ) → Option (List ℕ) → List ℕ → Type 0
 AppendsBeginning old new text =
     (done : List ℕ) × (rest : List ℕ) × (text ≡ done ++ rest) × (0 < length rest) × Appends old new done
 
--- Ok: known bytes grow by the text. Out of memory: by nothing. After a fault of the writer: by a beginning of the text.
+-- Ok: known bytes grow by the text. Out of memory: by nothing. After a fault of the writer: by a prefix of the text.
 -- Nothing is read.
 abbrev pub Writes : Option (List ℕ) → List ℕ → Result (Unit {0}) WriteFault → Option (List ℕ) → Type 0
 Writes old text (Ok done) new = Appends old new text

@@ -1,4 +1,4 @@
-//! Commands whose lines come one by one.
+//! Commands whose lines arrive one by one.
 ghost use Rattle.std.specs.Prelude.{◌≡◌, ◌∷◌, ◌++◌, [], List, ℕ, IfOk, true};
 ghost use Rattle.camp_script.specs.CommandLines.{HasRead, wants};
 ghost use Rattle.camp_script.specs.Gives.{Gives};
@@ -10,8 +10,8 @@ use crate::readings::Reading;
 use crate::scripts::Script;
 use std::alloc::{AllocError, Global};
 
-/// A command as its lines come: its first line, and those of the body or of the group that it takes with it. Behind a
-/// fault the others are passed over up to `end` or `done`.
+/// A command while its lines arrive: its first line, and those of its body or group. After a fault the others
+/// are skipped up to `end` or `done`.
 #[derive(Drop)]
 pub struct CommandLines {
     reading: Reading,
@@ -21,7 +21,7 @@ pub struct CommandLines {
 }
 
 impl CommandLines {
-    /// The command that begins with a line.
+    /// Starts the command that begins with a line.
     pub fn new(alloc: Global, line: &[u8]) -> Result<CommandLines, AllocError>
         ensures first { IfOk result (λ command. HasRead command line.now []) }
     {
@@ -39,15 +39,15 @@ impl CommandLines {
         })
     }
 
-    /// Whether it takes one more line.
+    /// True if one more line belongs to it.
     pub fn wants_more(&self) -> bool
         ensures exact { result ≡ wants self.now.wanted }
     {
         !matches!(self.wanted, Wanted::Nothing)
     }
 
-    /// Reads the next line. Where memory runs out, or there is no number for the line, the command has the fault
-    /// that memory ran out.
+    /// Reads the next line. If memory runs out, or there is no number for the line, the command has the fault
+    /// out of memory.
     pub fn read_line(&mut self, line: &[u8])
         requires { wants self.old.wanted ≡ true }
         ensures next { (first : List ℕ) (rest : List (List ℕ)) → HasRead self.old first rest → HasRead self.new first (rest ++ line.now ∷ []) }
@@ -66,7 +66,7 @@ impl CommandLines {
         }
     }
 
-    /// The script that its lines are.
+    /// Returns the script that its lines represent.
     pub fn finish(self) -> Result<Script, ScriptFault>
         ensures given { (first : List ℕ) (rest : List (List ℕ)) → HasRead self first rest → Gives result (script_of_lines (first ∷ rest)) }
     {

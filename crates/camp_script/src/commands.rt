@@ -20,7 +20,7 @@ use camp_call::{Call, Changes, Names};
 use camp_prim::Primitive;
 use std::alloc::{AllocError, Global};
 
-/// What a command asks for: a call, the record of an edit or of a group, or the section of the next client.
+/// The meaning of a command: a call, the record of an edit or of a group, or the section of the next client.
 #[derive(Drop)]
 pub(crate) enum Asked {
     Call(Call),
@@ -38,7 +38,7 @@ pub(crate) enum Asked {
 }
 
 impl Reading {
-    /// A line outside groups and bodies.
+    /// Reads a line outside groups and bodies.
     pub(crate) fn read_words(&mut self, number: u64, line: &[u8]) -> Result<(), ScriptFault>
         ensures given { Advances result self.new (obeyed number self.old (command_of number (words_of line.now))) }
         ensures memory { IfErr result (λ fault. fault ≡ ScriptFault.Memory → is_skipped (words_of line.now) ≡ false) }
@@ -53,7 +53,8 @@ impl Reading {
         self.read_command(number, word, words)
     }
 
-    // A command: its first word, and those behind it. It stands apart so that its fault is proved for all lines at once.
+    // Parses a command from its first word and the others. A function of its own, so that its fault is proved
+    // for all lines at once.
     fn read_command(
         &mut self,
         number: u64,
@@ -66,7 +67,7 @@ impl Reading {
         self.obey(number, asked)
     }
 
-    // Does what a line asks for.
+    // Executes the meaning of a line.
     fn obey(&mut self, number: u64, asked: Asked) -> Result<(), ScriptFault>
         requires { IsCounted asked }
         ensures { Advances result self.new (obey number self.old (command_asked asked)) }
@@ -131,7 +132,7 @@ impl Reading {
         Ok(())
     }
 
-    // What a command asks for: its first word, and those behind it.
+    // Parses a command from its first word and the others.
     fn asked_by(&self, number: u64, word: &[u8], words: Words<'_>) -> Result<Asked, ScriptFault>
         ensures { Asks number self.now result (command number word.now words.entry) }
     {
@@ -145,7 +146,7 @@ impl Reading {
         self.read_short_command(number, word, words.as_slice())
     }
 
-    // A command without a list of names.
+    // Parses a command without a list of names.
     fn read_short_command(
         &self,
         number: u64,
@@ -296,7 +297,7 @@ impl Reading {
     }
 }
 
-// The one word of a question.
+// Returns the one word of a question.
 fn branch_at(number: u64, words: &[&[u8]]) -> Result<Name, ScriptFault>
     ensures given { GivesFaultFirst result (branch_at number (map (λ word. word.now) words.now)) }
     ensures told { IfErr result (λ fault. fault ≢ ScriptFault.Memory) }
@@ -304,7 +305,7 @@ fn branch_at(number: u64, words: &[&[u8]]) -> Result<Name, ScriptFault>
     name_at(number, one_word(number, words)?)
 }
 
-// The changes of a patch of one change.
+// Makes the changes of a patch of one change.
 fn one_change(alloc: Global, change: Primitive) -> Result<Changes, AllocError>
     ensures { IfOk result (λ changes. changes ≡ change ∷ []) }
 {
@@ -316,7 +317,7 @@ fn one_change(alloc: Global, change: Primitive) -> Result<Changes, AllocError>
     Ok(changes)
 }
 
-// The names that a pull lists. Without a list it pulls all.
+// Returns the names that a pull lists; without a list it pulls all.
 fn listed(names: Names) -> Option<Names>
     ensures { result ≡ listed names }
 {

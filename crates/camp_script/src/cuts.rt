@@ -1,4 +1,4 @@
-//! The words by which lines fall into edits and groups. They say nothing of faults.
+//! The words by which lines are grouped into edits and groups. Faults do not matter here.
 ghost use Rattle.std.specs.Prelude.{◌≡◌};
 ghost use Rattle.camp_script.specs.CommandLines.{wanted_after};
 ghost use Rattle.camp_script.specs.Lines.{words_of};
@@ -6,7 +6,7 @@ ghost use Rattle.camp_script.specs.Pieces.{begins_edit, begins_with};
 
 use crate::lines::Words;
 
-/// Whether the first word of a line is this one.
+/// True if the first word of a line is this one.
 pub fn begins_with(line: &[u8], word: &[u8]) -> bool
     ensures exact { result ≡ begins_with word.now (words_of line.now) }
 {
@@ -16,7 +16,7 @@ pub fn begins_with(line: &[u8], word: &[u8]) -> bool
     }
 }
 
-/// Whether a line begins an edit, whose body follows, by its first words alone.
+/// True if a line begins an edit, whose body follows, by its first words alone.
 pub fn begins_edit(line: &[u8]) -> bool
     ensures exact { result ≡ begins_edit (words_of line.now) }
 {
@@ -42,7 +42,7 @@ pub fn begins_edit(line: &[u8]) -> bool
     }
 }
 
-/// Which lines a command still takes.
+/// The lines that a command still takes.
 #[derive(Clone, Copy, Debug)]
 pub(crate) enum Wanted {
     Nothing,
@@ -55,7 +55,7 @@ pub(crate) enum Wanted {
 }
 
 impl Wanted {
-    /// What it takes behind a line.
+    /// Returns what it takes after a line.
     pub(crate) fn after(self, line: &[u8]) -> Wanted
         ensures { result ≡ wanted_after self line.now }
     {

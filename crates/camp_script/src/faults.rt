@@ -1,4 +1,4 @@
-//! What may be wrong with a script, and why one is not read or a text not written.
+//! Faults of a script.
 ghost use Rattle.std.specs.Prelude.{◌≡◌, Some};
 ghost use Rattle.camp_script.specs.declared.faults.ScriptFault.TheVariants.{Memory};
 ghost use Rattle.camp_script.specs.declared.faults.CallFault.TheVariants as call;
@@ -8,7 +8,7 @@ use std::alloc::{AllocError, AllocFailed};
 use std::error::Error;
 use std::{fmt, io};
 
-/// What is wrong with a line of a script.
+/// The fault of a line of a script.
 #[derive(Clone, Copy, PartialEq, Eq, Debug)]
 pub enum FaultKind {
     UnknownCommand,
@@ -26,7 +26,7 @@ pub enum FaultKind {
 }
 
 impl FaultKind {
-    /// The words that tell it.
+    /// Returns the words that describe it.
     pub fn words(&self) -> &'static str
         ensures exact { result.now ≡ kind_words self.now }
     {
@@ -55,7 +55,7 @@ impl fmt::Display for FaultKind {
     }
 }
 
-/// A fault of a script: the line that has it, counted from 1, and what is wrong there.
+/// A fault of a script: the line that has it, counted from 1, and the kind of fault.
 #[derive(Clone, Copy, PartialEq, Eq, Debug)]
 pub struct LineFault {
     pub line: u64,
@@ -73,7 +73,7 @@ impl fmt::Display for LineFault {
 
 impl Error for LineFault {}
 
-/// The fault of a kind at a line.
+/// Makes the fault of a kind at a line.
 pub fn at_line(line: u64, kind: FaultKind) -> ScriptFault
     ensures exact { result ≡ ScriptFault.Line (record { line = line; kind = kind }) }
 {
@@ -83,7 +83,7 @@ pub fn at_line(line: u64, kind: FaultKind) -> ScriptFault
 /// Why bytes were not read as a script.
 #[derive(Clone, Copy, PartialEq, Eq, Debug)]
 pub enum ScriptFault {
-    /// The bytes are no script: their first fault.
+    /// The bytes are not a script: their first fault.
     Line(LineFault),
     Memory,
 }
@@ -117,10 +117,10 @@ impl<T: Drop> From<AllocFailed<T>> for ScriptFault {
     }
 }
 
-/// Why a call was not written as a script has it.
+/// Why a call was not written in the form of a script.
 #[derive(Clone, Copy, PartialEq, Eq, Debug)]
 pub enum CallFault {
-    /// It lists names, and there is none in its list: no script can ask it.
+    /// Its list of names is empty: no script can contain it.
     NoNames,
     Memory,
 }

@@ -28,7 +28,8 @@ use std::alloc::Global;
 /// The greatest sum of the line of an edit and the numbers of its old and of its new lines.
 const MAX_REACH: usize = 1 << 30;
 
-/// What a line of a group tells: a change of a whole file, an edit whose body follows, or that the group is done.
+/// The meaning of a line of a group: a change of a whole file, an edit whose body follows, or the end of the
+/// group.
 #[derive(Drop)]
 pub(crate) enum Told {
     Change(Primitive),
@@ -37,7 +38,7 @@ pub(crate) enum Told {
 }
 
 impl Reading {
-    /// A line of a record whose changes follow.
+    /// Reads a line of a record whose changes follow.
     pub(crate) fn read_record_line(
         &mut self,
         number: u64,
@@ -54,7 +55,7 @@ impl Reading {
         }
     }
 
-    // A line of a group, outside bodies.
+    // Reads a line of a group, outside bodies.
     fn read_group_words(
         &mut self,
         number: u64,
@@ -78,7 +79,7 @@ impl Reading {
         self.read_change(number, begun, word, words.as_slice())
     }
 
-    // What a line of a group asks for: its first word, and those behind it.
+    // Parses a line of a group from its first word and the others.
     fn read_change(
         &mut self,
         number: u64,
@@ -93,7 +94,7 @@ impl Reading {
         self.heed(number, begun, told)
     }
 
-    // Does what a line of a group tells.
+    // Executes the meaning of a line of a group.
     fn heed(&mut self, number: u64, begun: OpenRecord, told: Told) -> Result<(), ScriptFault>
         requires open { IsOpen self.old.calls begun }
         requires room { HasRoomToAdd (length begun.changes.items) told }
@@ -109,7 +110,7 @@ impl Reading {
         }
     }
 
-    // A change of a whole file in a group.
+    // Reads a change of a whole file in a group.
     fn add_change(&mut self, mut begun: OpenRecord, change: Primitive) -> Result<(), ScriptFault>
         requires open { IsOpen self.old.calls begun }
         requires room { length begun.changes.items < most_changes }
@@ -121,7 +122,7 @@ impl Reading {
         Ok(())
     }
 
-    // The head of an edit in a group.
+    // Reads the head of an edit in a group.
     fn open_edit(&mut self, number: u64, mut begun: OpenRecord, path: Path, line: u32)
         requires open { IsOpen self.old.calls begun }
         requires room { length begun.changes.items < most_changes }
@@ -139,7 +140,7 @@ impl Reading {
         self.with_record(begun)
     }
 
-    // What a line of a group tells: its first word, and those behind it.
+    // Parses a line of a group from its first word and the others.
     fn told_by(
         &self,
         number: u64,
@@ -201,7 +202,7 @@ impl Reading {
         Ok(Told::Edit { path: path?, line })
     }
 
-    // A line of the body of an edit.
+    // Reads a line of the body of an edit.
     fn read_body_line(
         &mut self,
         number: u64,
@@ -222,7 +223,7 @@ impl Reading {
         Ok(())
     }
 
-    // The line `end`.
+    // Reads the line `end`.
     fn end_edit(
         &mut self,
         number: u64,
@@ -237,7 +238,7 @@ impl Reading {
         self.end_change(number, begun, change)
     }
 
-    // The last line of a change: a group goes on, and a change that stands alone ends its record.
+    // Ends a change at its last line: a group continues, and a single change ends its record.
     fn end_change(
         &mut self,
         number: u64,
@@ -258,7 +259,7 @@ impl Reading {
     }
 }
 
-// The change of an edit whose `end` stands at a line.
+// Makes the change of an edit whose `end` is on a line.
 fn close(alloc: Global, number: u64, edit: OpenEdit) -> Result<Primitive, ScriptFault>
     requires { 1 ≤ edit.line }
     ensures { GivesFaultFirst result (ended_change number (edit_so_far edit)) }
@@ -277,7 +278,7 @@ fn close(alloc: Global, number: u64, edit: OpenEdit) -> Result<Primitive, Script
     Ok(change.into_shared(alloc)?)
 }
 
-// The body of an edit may end here.
+// Checks that the body of an edit may end here.
 fn test_body(number: u64, edit: &OpenEdit) -> Result<(), ScriptFault>
     requires { 1 ≤ edit.now.line }
     ensures passed { IfOk result (λ _. ended number (edit_so_far edit.now) ≡ Ok (edit_so_far edit.now)) }
@@ -294,7 +295,7 @@ fn test_body(number: u64, edit: &OpenEdit) -> Result<(), ScriptFault>
     Ok(())
 }
 
-// Whether the line of an edit and the numbers of its old and new lines add up to too much.
+// True if the line of an edit and the numbers of its old and new lines add up to too much.
 fn reaches_too_far(line: u32, old: usize, new: usize) -> bool
     ensures { result ≡ nat_lt greatest_reach (line + old + new) }
 {
@@ -304,7 +305,7 @@ fn reaches_too_far(line: u32, old: usize, new: usize) -> bool
     line as usize + old + new > MAX_REACH
 }
 
-// One more line of a side of an edit: old lines, and then new ones.
+// Appends a line to a side of an edit: old lines first, new ones after them.
 fn grow(alloc: Global, number: u64, line: &[u8], edit: &mut OpenEdit) -> Result<(), ScriptFault>
     ensures given { IfOk result (λ _. grown number (edit_so_far edit.entry.now) line.now ≡ Ok (edit_so_far edit.exit.now)) }
     ensures placed { IfOk result (λ _. (edit.exit.now.line ≡ edit.entry.now.line) × (edit.exit.now.opened ≡ edit.entry.now.opened)) }
@@ -325,7 +326,7 @@ fn grow(alloc: Global, number: u64, line: &[u8], edit: &mut OpenEdit) -> Result<
     }
 }
 
-// The bytes behind the sign of a line of a side.
+// Returns the bytes after the sign of a line of a side.
 fn line_at(alloc: Global, number: u64, bytes: &[u8]) -> Result<Line, ScriptFault>
     ensures given { GivesFaultFirst result (if is_line bytes.now then Ok bytes.now else fault_at number kind.BadLine) }
 {

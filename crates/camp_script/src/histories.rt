@@ -18,8 +18,8 @@ use itoa::Buffer;
 use std::alloc::{AllocError, Global};
 use std::io::Write;
 
-/// Writes the text of a history. Where memory runs out nothing is written; where the writer fails, a
-/// beginning of the text is.
+/// Writes the text of a history. If memory runs out nothing is written; if the writer fails, a prefix of the
+/// text is.
 pub fn write_history<W: Write>(
     alloc: Global,
     history: &[(u32, Call)],
@@ -30,7 +30,7 @@ pub fn write_history<W: Write>(
     write_made(writer, history_text(alloc, history))
 }
 
-/// The text of a history.
+/// Renders a history.
 pub fn history_text(alloc: Global, history: &[(u32, Call)]) -> Result<Vec<u8>, AllocError>
     ensures text { IfOk result (λ text. text.items ≡ history_text history.now) }
 {
@@ -61,7 +61,7 @@ fn append_entry(text: &mut Vec<u8>, at: u64, seat: u32, call: &Call) -> Result<(
     Ok(text.push(b'\n')?)
 }
 
-/// The words of a call, as a history has it, with a space between each two.
+/// Appends the words of a call, as in a history, with one space between each two.
 pub(crate) fn append_call_words(text: &mut Vec<u8>, call: &Call) -> Result<(), AllocError>
     ensures text { OnOk result (text.new.items ≡ text.old.items ++ join_with_byte space (call_words call.now)) }
     ensures stands { IfOk result (λ _. CanStandOnLine call.now) }
@@ -89,7 +89,7 @@ pub(crate) fn append_call_words(text: &mut Vec<u8>, call: &Call) -> Result<(), A
     }
 }
 
-// The word of a command, names, and names that are listed.
+// Appends the word of a command, names, and listed names.
 fn append_command(
     text: &mut Vec<u8>,
     word: &[u8],

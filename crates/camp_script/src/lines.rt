@@ -1,3 +1,4 @@
+//! The words of a line.
 ghost use Rattle.std.specs.Prelude.{◌≡◌, ◌==◌, ◌≤◌, length, map, not, slice_index, take};
 ghost use Rattle.std.specs.List.{position_or_len};
 ghost use Rattle.camp_script.specs.Behind.{behind_blanks, behind_word};
@@ -6,14 +7,14 @@ ghost use Rattle.camp_script.specs.Lines.{is_blank, without_end, words_of};
 use arrayvec::ArrayVec;
 use std::marker::Model;
 
-/// One word more than the longest command without a list has behind its first: so many show that there
-/// are too many.
+/// One more than the most words after the first of a command without a list: with this many words there are
+/// too many.
 const SOME_WORDS: usize = 6;
 
-/// The first words behind the first of a line. Where there are as many as have room, there may be more.
+/// The first words of a line after its first. If the capacity is reached, there may be more.
 pub type FirstWords<'a> = ArrayVec<&'a [u8], SOME_WORDS>;
 
-/// The words of a line, from the first to the last: what stands between runs of spaces and tabs.
+/// The words of a line, from the first to the last: the bytes between runs of spaces and tabs.
 #[derive(Drop)]
 pub struct Words<'a> {
     rest: &'a [u8],
@@ -31,14 +32,14 @@ impl<'a> Model for Words<'a> {
 impl<'a> Words<'a> {
     ghost use Rattle.camp_script.specs.Lines.{words_of};
 
-    /// The words of a line.
+    /// Splits a line into words.
     pub fn new(line: &'a [u8]) -> Words<'a>
         ensures exact { result ≡ words_of line.now }
     {
         Words { rest: line }
     }
 
-    /// The same words once more.
+    /// Copies the iterator over the same words.
     pub fn again(&self) -> Words<'a>
         ensures exact { result ≡ self.now }
     {
@@ -67,7 +68,7 @@ impl<'a> Iterator for Words<'a> {
     }
 }
 
-/// The first of some words.
+/// Returns the first of some words.
 pub fn first_words(words: Words<'_>) -> FirstWords<'_>
     ensures exact { map (λ word. word.now) result.items ≡ take 6 words.entry }
 {
@@ -81,14 +82,14 @@ pub fn first_words(words: Words<'_>) -> FirstWords<'_>
     first
 }
 
-/// Whether a line with this first word says nothing.
+/// True if a line with this first word is skipped.
 pub(crate) fn is_comment(word: &[u8]) -> bool
     ensures { result ≡ (slice_index word.now 0 == 35) }
 {
     word.first() == Some(&b'#')
 }
 
-// How many bytes stand before the first that is not blank.
+// Counts the bytes before the first that is not blank.
 fn blanks_len(bytes: &[u8]) -> usize
     ensures place { result ≡ position_or_len (λ byte. not (is_blank byte)) bytes.now }
     ensures within { result ≤ length bytes.now }
@@ -99,7 +100,7 @@ fn blanks_len(bytes: &[u8]) -> usize
         .unwrap_or(bytes.len())
 }
 
-// How many bytes stand before the first blank.
+// Counts the bytes before the first blank.
 fn word_len(bytes: &[u8]) -> usize
     ensures place { result ≡ position_or_len is_blank bytes.now }
     ensures within { result ≤ length bytes.now }
@@ -116,7 +117,7 @@ fn is_blank(byte: u8) -> bool
     matches!(byte, b' ' | b'\t')
 }
 
-/// A line behind its first word, and the blanks around that.
+/// Returns a line without its first word and the blanks around that.
 pub fn behind_word(line: &[u8]) -> &[u8]
     ensures exact { result.now ≡ behind_word line.now }
 {
@@ -130,7 +131,7 @@ fn behind_blanks(line: &[u8]) -> &[u8]
     &line[blanks_len(line)..]
 }
 
-/// A line without the LF at its end, where it has one.
+/// Returns a line without a line feed at its end, if it has one.
 pub fn without_end(line: &[u8]) -> &[u8]
     ensures exact { result.now ≡ without_end line.now }
 {

@@ -1,4 +1,4 @@
-//! The text of given answers, section by section, and of the history behind them.
+//! The text of given answers, section by section, followed by the history.
 ghost use Rattle.std.specs.Prelude.{◌≡◌, ◌++◌, map, IfOk, OnOk};
 ghost use Rattle.std.specs.List.{All};
 ghost use Rattle.std.specs.Option.{option_map};
@@ -12,8 +12,8 @@ use camp_call::{Call, Reply};
 use camp_object::Fault;
 use std::alloc::{AllocError, Global};
 
-/// The text of the answers of an opening and of clients, those of each client behind a line that tells its number;
-/// and behind them that of a history, if there is one.
+/// Renders the answers of an opening and of clients, those of each client after a line with its number,
+/// followed by the history if there is one.
 pub fn output_text(
     alloc: Global,
     sections: &[Vec<Result<Reply, Fault>>],

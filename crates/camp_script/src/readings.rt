@@ -1,4 +1,4 @@
-//! How far a script is read, and what the pieces of lines do to it.
+//! The progress of reading a script, and the effect of each line on it.
 ghost use Rattle.std.specs.Prelude.{◌≡◌, false, true, IfErr, IfOk, Ok};
 ghost use Rattle.camp_call.specs.Calls.{is_writing};
 ghost use Rattle.camp_script.specs.Gives.{Advances, GivesFaultFirst, GivesPath};
@@ -20,8 +20,8 @@ use std::alloc::{AllocError, Global};
 use std::marker::Model;
 use std::mem;
 
-/// How far a script is read: the sections before this one, the calls of this one, how many of them write,
-/// and the record that is not ended, if any.
+/// The progress of reading a script: the sections before this one, the calls of this one, the number of them
+/// that write, and the record that has not ended, if any.
 #[derive(Drop)]
 pub(crate) struct Reading {
     closed: Vec<Vec<Call>>,
@@ -45,7 +45,7 @@ impl Model for Reading {
 impl Reading {
     ghost use Rattle.camp_script.specs.Inside.ReadingFields.{open_record_of, open_edit_of, MayGrow, IsOpen, IsAwaited};
 
-    /// Before the first line.
+    /// Starts before the first line.
     pub(crate) fn new(alloc: Global) -> Reading
         ensures { result ≡ start }
     {
@@ -61,8 +61,8 @@ impl Reading {
         *self.calls.allocator()
     }
 
-    /// A word as a path, as `path_at` reads it. Where the call before ends with a change at the same
-    /// path, it shares its bytes.
+    /// Reads a word as a path, as `path_at` does. If the call before ends with a change at the same path,
+    /// shares its bytes.
     pub(crate) fn path_again(
         &self,
         number: u64,
@@ -76,7 +76,7 @@ impl Reading {
         }
     }
 
-    // The path of the last change of the call before.
+    // Returns the path of the last change of the call before.
     fn last_path(&self) -> Option<&Path> {
         match self.calls.last()? {
             Call::Record { changes, .. } => Some(changes.prims().last()?.path()),
@@ -84,7 +84,7 @@ impl Reading {
         }
     }
 
-    /// Reads the line of a number, counted from 1.
+    /// Reads a numbered line, counted from 1.
     pub(crate) fn read_line(&mut self, number: u64, line: &[u8]) -> Result<(), ScriptFault>
         ensures given { Advances result self.new (after_line number self.old.open_record self.old line.now) }
         ensures memory { IfErr result (λ fault. fault ≡ ScriptFault.Memory → SaysSomething self.old.open_record line.now) }
@@ -95,7 +95,7 @@ impl Reading {
         }
     }
 
-    /// What a command takes behind its first line, by the record that this has opened.
+    /// Returns what belongs to a command after its first line, by the record that this has opened.
     pub(crate) fn wanted(&self) -> Wanted
         ensures { result ≡ wanted_in self.now.open_record }
     {
@@ -106,7 +106,7 @@ impl Reading {
         }
     }
 
-    /// Ends the reading behind the last line.
+    /// Ends the reading after the last line.
     pub(crate) fn finish(self) -> Result<Script, ScriptFault>
         ensures { GivesFaultFirst result (finished self self.open_record) }
     {
@@ -123,7 +123,7 @@ impl Reading {
         Ok(Script::of_sections(closed))
     }
 
-    /// A section has room for one more writing call, or this line is one too many.
+    /// Checks that a section can have one more writing call; else this line is one too many.
     pub(crate) fn test_room(&self, number: u64) -> Result<(), ScriptFault>
         ensures room { IfOk result (λ _. is_full self.now.calls ≡ false) }
         ensures fault { IfErr result (λ fault. (fault ≡ ScriptFault.Line (record { line = number; kind = kind.TooManyCommands })) × (is_full self.now.calls ≡ true)) }
@@ -154,7 +154,7 @@ impl Reading {
         self.open_record = Some(begun);
     }
 
-    /// The last line of a record.
+    /// Reads the last line of a record.
     pub(crate) fn end_record(&mut self, number: u64, begun: OpenRecord) -> Result<(), ScriptFault>
         requires { IsOpen self.old.calls begun }
         ensures { Advances result self.new (after_record number self.old (open_record_of begun)) }
@@ -175,7 +175,7 @@ impl Reading {
         }
     }
 
-    /// A call that a line holds whole.
+    /// Appends a call that is on a single line.
     pub(crate) fn follow(&mut self, number: u64, call: Call) -> Result<(), ScriptFault>
         ensures { Advances result self.new (after_call number self.old call) }
     {
@@ -185,7 +185,7 @@ impl Reading {
         self.with_call(call)
     }
 
-    /// The line of a client: the next section begins.
+    /// Reads the line of a client: the next section begins.
     pub(crate) fn next_section(&mut self, number: u64) -> Result<(), ScriptFault>
         ensures { Advances result self.new (after_client number self.old) }
     {

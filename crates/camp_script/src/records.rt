@@ -7,8 +7,8 @@ use crate::faults::{FaultKind, ScriptFault, at_line};
 use camp_base::{Line, Name, Path};
 use camp_prim::Primitive;
 
-/// A record that is not ended: the line that begins it, whether its changes stand in a group, those so far,
-/// and the edit that is not ended, if any.
+/// A record that has not ended: the line that begins it, whether its changes are in a group, those so far,
+/// and the edit that has not ended, if any.
 #[derive(Drop)]
 pub(crate) struct OpenRecord {
     pub branch: Name,
@@ -20,7 +20,7 @@ pub(crate) struct OpenRecord {
 }
 
 impl OpenRecord {
-    /// What is told where a script ends in this record.
+    /// Returns the fault of a script that ends within this record.
     pub(crate) fn not_ended(&self) -> ScriptFault
         ensures { IsNotEnded result (open_record_of self.now) }
     {
@@ -31,7 +31,7 @@ impl OpenRecord {
     }
 }
 
-/// An edit whose body is not ended: the line that begins it, and its sides so far.
+/// An edit whose body has not ended: the line that begins it, and its sides so far.
 #[derive(Drop)]
 pub(crate) struct OpenEdit {
     pub path: Path,

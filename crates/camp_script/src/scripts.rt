@@ -1,4 +1,4 @@
-//! Scripts, and how they are read.
+//! Scripts, and reading them.
 ghost use Rattle.std.specs.Prelude.{◌≡◌, map, IfErr};
 ghost use Rattle.camp_script.specs.Gives.{Gives};
 ghost use Rattle.camp_script.specs.Reading.{script_of};
@@ -13,7 +13,7 @@ use camp_call::Call;
 use std::alloc::Global;
 use std::marker::Model;
 
-/// A script: the calls of the opening, and then those of each client.
+/// A script: the calls of the opening, followed by those of each client.
 #[derive(Drop)]
 pub struct Script {
     sections: Vec<Vec<Call>>,
@@ -33,7 +33,7 @@ impl Model for Script {
 }
 
 impl Script {
-    /// The calls of each section, in order.
+    /// Returns the calls of each section, in order.
     pub fn sections(&self) -> &[Vec<Call>]
         ensures value { map (λ section. section.items) result.now ≡ self.now }
         ensures limits { AreWithinLimits self.now }
@@ -41,7 +41,7 @@ impl Script {
         &self.sections
     }
 
-    /// The calls of each section, in order, given away.
+    /// Returns the calls of each section, in order, and consumes the script.
     pub fn into_sections(self) -> Vec<Vec<Call>>
         ensures exact { map (λ section. section.items) result.items ≡ self }
     {
@@ -57,8 +57,8 @@ impl Script {
     }
 }
 
-/// The script that bytes are, or the first fault of its lines. Only a want of memory may come in
-/// the place of either, and not where the first line that says something has a fault.
+/// Reads the script that bytes represent, or returns the first fault of its lines. Only out of memory may
+/// come instead of either, but not if the first line that is not skipped has a fault.
 pub fn read_script(alloc: Global, bytes: &[u8]) -> Result<Script, ScriptFault>
     ensures given { Gives result (script_of bytes.now) }
     ensures memory { IfErr result (λ fault. fault ≡ ScriptFault.Memory → ScriptMayWant bytes.now) }

@@ -1,5 +1,5 @@
-//! Words with a space before each, and lines of words, appended to bytes. Here and in the other texts, where memory
-//! runs out a part of what was to come may stand behind the bytes: who makes a text drops it then.
+//! Appends words, with a space before each, and lines of words to bytes. Here and in the other texts, if
+//! memory runs out, part of the text may have been appended: the caller then drops it.
 ghost use Rattle.std.specs.Prelude.{◌≡◌, ◌∷◌, ◌++◌, [], map, IfOk, OnOk};
 ghost use Rattle.std.specs.Fmt.{decimal};
 ghost use Rattle.camp_script.specs.Canonical.{AreNames};
@@ -10,7 +10,7 @@ use camp_base::Name;
 use itoa::Buffer;
 use std::alloc::AllocError;
 
-/// Names, a space before each.
+/// Appends names, a space before each.
 pub(crate) fn append_named(text: &mut Vec<u8>, names: &[Name]) -> Result<(), AllocError>
     ensures names { IfOk result (λ _. AreNames names.now) }
     ensures text { OnOk result (text.new.items ≡ text.old.items ++ spaced names.now) }
@@ -22,7 +22,7 @@ pub(crate) fn append_named(text: &mut Vec<u8>, names: &[Name]) -> Result<(), All
     Ok(())
 }
 
-/// Words, a space before each.
+/// Appends words, a space before each.
 pub(crate) fn append_words(text: &mut Vec<u8>, words: &[&[u8]]) -> Result<(), AllocError>
     ensures { OnOk result (text.new.items ≡ text.old.items ++ spaced (map (λ word. word.now) words.now)) }
 {
@@ -33,14 +33,14 @@ pub(crate) fn append_words(text: &mut Vec<u8>, words: &[&[u8]]) -> Result<(), Al
     Ok(())
 }
 
-/// A number, and a space before it.
+/// Appends a number, and a space before it.
 pub(crate) fn append_number(text: &mut Vec<u8>, number: u64) -> Result<(), AllocError>
     ensures { OnOk result (text.new.items ≡ text.old.items ++ spaced (decimal number ∷ [])) }
 {
     append_words(text, &[Buffer::new().format(number).as_bytes()])
 }
 
-/// A line of words, one space between each two.
+/// Appends a line of words, one space between each two.
 pub(crate) fn append_line(
     text: &mut Vec<u8>,
     first: &[u8],
@@ -53,14 +53,14 @@ pub(crate) fn append_line(
     Ok(text.push(b'\n')?)
 }
 
-/// A line of a word and a number.
+/// Appends a line of a word and a number.
 pub(crate) fn append_count(text: &mut Vec<u8>, word: &[u8], count: u64) -> Result<(), AllocError>
     ensures { OnOk result (text.new.items ≡ text.old.items ++ line_text (word.now ∷ decimal count ∷ [])) }
 {
     append_line(text, word, &[Buffer::new().format(count).as_bytes()])
 }
 
-/// A line of a word, a number and names.
+/// Appends a line of a word, a number and names.
 pub(crate) fn append_numbered(
     text: &mut Vec<u8>,
     word: &[u8],

@@ -1,4 +1,4 @@
-//! The texts of answers, and how a text is written.
+//! Rendering of answers, and writing of texts.
 ghost use Rattle.std.specs.Prelude.{◌≡◌, ◌∷◌, ◌++◌, codes, List, IfOk, IsTrue, MatchResult, OnOk, ℕ};
 ghost use Rattle.std.specs.List.{flat_map};
 ghost use Rattle.std.specs.Io.KnownBytes.{Appends};
@@ -17,8 +17,8 @@ use std::alloc::{AllocError, Global};
 use std::io;
 use std::io::{ErrorKind, Write};
 
-/// Writes the text of the answer to a call: a reply, or that the object was busy or the seat full. Where
-/// memory runs out nothing is written; where the writer fails, a beginning of the text is.
+/// Writes the text of the answer to a call: a reply, or that the object was busy or the seat full. If memory
+/// runs out nothing is written; if the writer fails, a prefix of the text is.
 pub fn write_reply<W: Write>(
     alloc: Global,
     answer: &Result<Reply, Fault>,
@@ -30,7 +30,7 @@ pub fn write_reply<W: Write>(
     write_made(writer, answer_text(alloc, answer))
 }
 
-/// Writes a text, if there was memory for it.
+/// Writes a text, unless memory ran out while it was made.
 pub(crate) fn write_made<W: Write>(
     writer: &mut W,
     made: Result<Vec<u8>, AllocError>,
@@ -46,8 +46,8 @@ pub(crate) fn write_made<W: Write>(
     }
 }
 
-/// Writes all bytes of a text. Where the writer fails, a beginning of the text is
-/// written, and not all of it. A writer that is interrupted is asked again.
+/// Writes all bytes of a text. If the writer fails, a proper prefix of the text is written. Retries a writer
+/// that is interrupted.
 pub fn write_text<W: Write>(writer: &mut W, text: &[u8]) -> io::Result<()>
     ensures writes { MatchResult result
         (λ _. Appends (W.contents writer.old) (W.contents writer.new) text.now)
@@ -71,7 +71,7 @@ pub fn write_text<W: Write>(writer: &mut W, text: &[u8]) -> io::Result<()>
     Err(ErrorKind::TimedOut.into())
 }
 
-/// The text of the answer to a call.
+/// Renders the answer to a call.
 pub fn answer_text(alloc: Global, answer: &Result<Reply, Fault>) -> Result<Vec<u8>, AllocError>
     requires { HasText answer.now }
     ensures text { IfOk result (λ text. text.items ≡ answer_text answer.now) }
@@ -132,7 +132,7 @@ fn append_refusal(text: &mut Vec<u8>, refusal: &Refusal) -> Result<(), AllocErro
     }
 }
 
-/// Appends pairs of names, each on a line. Where memory runs out some of it may stand there.
+/// Appends pairs of names, each on a line. If memory runs out, some of it may have been appended.
 pub fn append_pairs(text: &mut Vec<u8>, pairs: &[(Name, Name)]) -> Result<(), AllocError>
     ensures text { OnOk result (text.new.items ≡ text.old.items ++ flat_map pair_text pairs.now) }
 {
@@ -142,7 +142,7 @@ pub fn append_pairs(text: &mut Vec<u8>, pairs: &[(Name, Name)]) -> Result<(), Al
     Ok(())
 }
 
-/// Appends names, each on a line. Where memory runs out some of it may stand there.
+/// Appends names, each on a line. If memory runs out, some of it may have been appended.
 pub fn append_names(text: &mut Vec<u8>, names: &[Name]) -> Result<(), AllocError>
     ensures text { OnOk result (text.new.items ≡ text.old.items ++ flat_map name_text names.now) }
 {
@@ -171,7 +171,7 @@ fn append_file(text: &mut Vec<u8>, path: &Path, lines: &SharedList<Line>) -> Res
     append_lines(text, b'=', lines)
 }
 
-/// Appends lines, each behind a sign. Where memory runs out some of it may stand there.
+/// Appends lines, each after a sign. If memory runs out, some of it may have been appended.
 pub fn append_lines(
     text: &mut Vec<u8>,
     sign: u8,

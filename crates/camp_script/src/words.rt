@@ -17,7 +17,7 @@ const MAX_DIGITS: usize = 10;
 /// The greatest number of a line of a file.
 const LAST_LINE: u64 = 1_073_741_823;
 
-/// No word, where no word is to stand.
+/// Checks that there is no word.
 pub fn no_words(number: u64, words: &[&[u8]]) -> Result<(), ScriptFault>
     ensures given { GivesFaultFirst result (no_words number (map (λ word. word.now) words.now)) }
     ensures told { IfErr result (λ fault. fault ≢ ScriptFault.Memory) }
@@ -28,7 +28,7 @@ pub fn no_words(number: u64, words: &[&[u8]]) -> Result<(), ScriptFault>
     }
 }
 
-/// The one word that stands there.
+/// Returns the one word that has to be there.
 pub fn one_word<'a>(number: u64, words: &[&'a [u8]]) -> Result<&'a [u8], ScriptFault>
     ensures given { IfOk result (λ word. one_word number (map (λ word. word.now) words.now) ≡ Ok word.now) }
     ensures fault { IfErr result (λ fault. IsFaultFirst fault (one_word number (map (λ word. word.now) words.now))) }
@@ -40,7 +40,7 @@ pub fn one_word<'a>(number: u64, words: &[&'a [u8]]) -> Result<&'a [u8], ScriptF
     }
 }
 
-/// The two words that stand there.
+/// Returns the two words that have to be there.
 pub fn two_words<'a>(number: u64, words: &[&'a [u8]]) -> Result<(&'a [u8], &'a [u8]), ScriptFault>
     ensures given { IfOk result (λ pair. two_words number (map (λ word. word.now) words.now) ≡ Ok (pair.0.now, pair.1.now)) }
     ensures fault { IfErr result (λ fault. IsFaultFirst fault (two_words number (map (λ word. word.now) words.now))) }
@@ -52,7 +52,7 @@ pub fn two_words<'a>(number: u64, words: &[&'a [u8]]) -> Result<(&'a [u8], &'a [
     }
 }
 
-/// Three words, and those behind them.
+/// Returns three words, and those after them.
 pub(crate) fn three_words<'a, 'w>(
     number: u64,
     words: &'w [&'a [u8]],
@@ -68,7 +68,7 @@ pub(crate) fn three_words<'a, 'w>(
     }
 }
 
-/// A word as a name.
+/// Parses a word as a name.
 pub fn name_at(number: u64, word: &[u8]) -> Result<Name, ScriptFault>
     ensures given { GivesFaultFirst result (name_at number word.now) }
     ensures told { IfErr result (λ fault. fault ≢ ScriptFault.Memory) }
@@ -79,7 +79,7 @@ pub fn name_at(number: u64, word: &[u8]) -> Result<Name, ScriptFault>
     }
 }
 
-/// Words, all as names.
+/// Parses all words as names.
 pub fn names_at(alloc: Global, number: u64, words: Words<'_>) -> Result<Names, ScriptFault>
     ensures given { Gives result (names_at number words.entry) }
 {
@@ -90,7 +90,7 @@ pub fn names_at(alloc: Global, number: u64, words: Words<'_>) -> Result<Names, S
     Ok(Names::new(names))
 }
 
-/// Words are names: a test that asks for no memory.
+/// Checks that words are names; does not allocate.
 pub(crate) fn test_names(number: u64, words: Words<'_>) -> Result<(), ScriptFault>
     ensures passed { IfOk result (λ _. (names : List (List ℕ)) × (names_at number words.entry ≡ Ok names)) }
     ensures given { IfErr result (λ fault. IsFaultFirst fault (names_at number words.entry)) }
@@ -102,8 +102,8 @@ pub(crate) fn test_names(number: u64, words: Words<'_>) -> Result<(), ScriptFaul
     Ok(())
 }
 
-/// A path. What is none is told at once; that memory ran out is told inside, so that the tests behind this
-/// one may come first.
+/// Parses a path. A word that is none is reported at once; out of memory is reported inside, so that later
+/// tests may come first.
 pub fn path_at(
     alloc: Global,
     number: u64,
@@ -118,7 +118,7 @@ pub fn path_at(
     }
 }
 
-/// The number of a line of a file.
+/// Parses the number of a line of a file.
 pub(crate) fn number_at(number: u64, word: &[u8]) -> Result<u32, ScriptFault>
     ensures value { GivesFaultFirst result (number_at number word.now) }
     ensures counted { IfOk result (λ line. 1 ≤ line) }
@@ -133,7 +133,7 @@ pub(crate) fn number_at(number: u64, word: &[u8]) -> Result<u32, ScriptFault>
     Err(at_line(number, FaultKind::BadNumber))
 }
 
-/// The number that a word of 1 to 10 decimal digits spells.
+/// Parses a word of 1 to 10 decimal digits as a number.
 pub fn count_of(word: &[u8]) -> Option<u64>
     ensures exact { result ≡ count_of word.now }
 {
@@ -149,7 +149,7 @@ fn has_digits(word: &[u8]) -> bool
     word.iter().all(|byte| matches!(byte, b'0'..=b'9'))
 }
 
-// The number that decimal digits spell.
+// Computes the number that decimal digits spell.
 fn value_of(digits: &[u8]) -> u64
     requires { length digits.now ≤ 10 }
     ensures { result ≡ value_of digits.now }

@@ -1,4 +1,4 @@
-//! The canonical text of calls, as a script has it.
+//! The canonical text of calls, in the form of a script.
 ghost use Rattle.std.specs.Prelude.{◌≡◌, ◌++◌, false, IfErr, IfOk, IsTrue, OnOk};
 ghost use Rattle.std.specs.List.{flat_map, AllByRecursion};
 ghost use Rattle.camp_base.specs.Bytes.{is_name};
@@ -18,8 +18,8 @@ use camp_prim::{Hunk, Primitive};
 use itoa::Buffer;
 use std::alloc::{AllocError, Global};
 
-/// The text of a call as a script has it, with the bodies of its edits. A call whose list of names is empty is
-/// none that a script can ask.
+/// Renders a call in the form of a script, with the bodies of its edits. No script can contain a call whose
+/// list of names is empty.
 pub fn call_text(alloc: Global, call: &Call) -> Result<Vec<u8>, CallFault>
     ensures text { IfOk result (λ text. text.items ≡ call_text call.now) }
     ensures stands { IfOk result (λ _. IsScriptCall call.now) }
@@ -31,8 +31,8 @@ pub fn call_text(alloc: Global, call: &Call) -> Result<Vec<u8>, CallFault>
     Ok(accepted_text(alloc, call)?)
 }
 
-/// The text of an accepted call, as `call_text` makes it. No repository accepts a call whose list of names is empty;
-/// one has a text as if it had no list.
+/// Renders an accepted call, as `call_text` does. No repository accepts a call whose list of names is empty;
+/// such a call is rendered as if it had no list.
 pub fn accepted_text(alloc: Global, call: &Call) -> Result<Vec<u8>, AllocError>
     ensures text { IfOk result (λ text. text.items ≡ call_text call.now) }
     ensures stands { IfOk result (λ _. CanStand call.now) }
@@ -42,7 +42,7 @@ pub fn accepted_text(alloc: Global, call: &Call) -> Result<Vec<u8>, AllocError>
     Ok(text)
 }
 
-/// The text of calls as a section of a script has them, each as `call_text` makes it.
+/// Renders calls as a section of a script, each as `call_text` does.
 pub fn section_text(alloc: Global, calls: &[Call]) -> Result<Vec<u8>, CallFault>
     ensures text { IfOk result (λ text. text.items ≡ section_text calls.now) }
     ensures stand { IfOk result (λ _. AllByRecursion IsScriptCall calls.now) }
@@ -58,8 +58,8 @@ pub fn section_text(alloc: Global, calls: &[Call]) -> Result<Vec<u8>, CallFault>
     Ok(text)
 }
 
-/// The text that keeps a history: a script of one section, which asks its calls in their order. The seats are not
-/// kept.
+/// Renders the text that stores a history: a script of one section with its calls in order. The seats are not
+/// stored.
 pub fn kept_text(alloc: Global, history: &[(u32, Call)]) -> Result<Vec<u8>, AllocError>
     ensures text { IfOk result (λ text. text.items ≡ kept_text history.now) }
     ensures stand { IfOk result (λ _. AllByRecursion CanStand (calls_of history.now)) }
@@ -71,7 +71,7 @@ pub fn kept_text(alloc: Global, history: &[(u32, Call)]) -> Result<Vec<u8>, Allo
     Ok(text)
 }
 
-/// The text of changes as a script has those of a group, with the bodies of their edits.
+/// Renders changes in the form of a group, with the bodies of their edits.
 pub fn changes_text(alloc: Global, changes: &[Primitive]) -> Result<Vec<u8>, AllocError>
     ensures text { IfOk result (λ text. text.items ≡ flat_map change_text changes.now) }
     ensures changes { IfOk result (λ _. AllByRecursion IsChange changes.now) }
@@ -81,7 +81,7 @@ pub fn changes_text(alloc: Global, changes: &[Primitive]) -> Result<Vec<u8>, All
     Ok(text)
 }
 
-// Whether a call lists a name, where it lists names.
+// True if a call that lists names lists at least one.
 fn lists_names(call: &Call) -> bool
     ensures listed { IsTrue result → ListsNames call.now }
     ensures unlisted { result ≡ false → ListsNames call.now → ⊥ }
@@ -129,7 +129,7 @@ fn append_record(
     append_patch(text, changes)
 }
 
-// A change that is alone, or those of a group.
+// Renders a single change, or those of a group.
 fn append_patch(text: &mut Vec<u8>, changes: &[Primitive]) -> Result<(), AllocError>
     ensures text { OnOk result (text.new.items ≡ text.old.items ++ patch_text changes.now) }
     ensures changes { IfOk result (λ _. AllByRecursion IsChange changes.now) }
@@ -154,7 +154,7 @@ fn append_changes(text: &mut Vec<u8>, changes: &[Primitive]) -> Result<(), Alloc
     Ok(())
 }
 
-// A change with its body.
+// Renders a change with its body.
 fn append_change(text: &mut Vec<u8>, change: &Primitive) -> Result<(), AllocError>
     ensures text { OnOk result (text.new.items ≡ text.old.items ++ change_text change.now) }
     ensures change { IfOk result (λ _. IsChange change.now) }

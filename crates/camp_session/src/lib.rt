@@ -1,4 +1,4 @@
-//! Repositories and views of them, asked by texts and answered by texts: what a program embeds.
+//! Repositories and views of them, which are asked texts and answer with texts, to be embedded in a program.
 #![tactic(auto)]
 
 mod sessions;

@@ -7,7 +7,7 @@ use camp_talk::{Book, State, TalkFault, answer_request};
 use std::alloc::{AllocError, Global};
 use std::marker::Model;
 
-/// A repository, and the answer to the text that it was asked last.
+/// A repository, and the answer to the last text.
 #[derive(Drop)]
 pub struct Session {
     book: Book<State>,
@@ -26,7 +26,7 @@ impl Model for Session {
 }
 
 impl Session {
-    /// A new repository: one branch `main` without a patch.
+    /// Makes a new repository: one branch `main` without a patch.
     pub fn new(alloc: Global) -> Result<Session, AllocError>
         ensures new { IfOk result (λ session. session ≡ record { history = []; answer = [] }) }
     {
@@ -37,7 +37,7 @@ impl Session {
         })
     }
 
-    /// Asks the commands of a text, which is a conversation of its own.
+    /// Executes the commands of a text, which is a conversation of its own.
     pub fn ask(&mut self, alloc: Global, text: &[u8]) -> Result<(), TalkFault>
         ensures asks { Asks self.old text.now result self.new }
     {
@@ -45,14 +45,14 @@ impl Session {
         answer_request(alloc, &mut self.book, text, &mut self.answer)
     }
 
-    /// The answer to the text that was asked last; at first there is none.
+    /// Returns the answer to the last text; at first it is empty.
     pub fn answer(&self) -> &[u8]
         ensures answer { result.now ≡ self.now.answer }
     {
         &self.answer
     }
 
-    /// A view of the repository as it is now. It shares the state, and takes a count.
+    /// Makes a view of the repository as it is now, which shares the state: increments one reference count.
     pub fn view(&self, alloc: Global) -> Result<View, AllocError>
         ensures view { IfOk result (Views self.now) }
     {

@@ -6,7 +6,7 @@ use camp_talk::{State, TalkFault, answer_view};
 use std::alloc::{AllocError, Global};
 use std::marker::Model;
 
-/// The state of a repository at one moment, and the answer to the text that was asked of it last.
+/// The state of a repository at one moment, and the answer to the last text.
 #[derive(Drop)]
 pub struct View {
     state: State,
@@ -26,7 +26,7 @@ impl Model for View {
 }
 
 impl View {
-    /// A view of a state, which it shares.
+    /// Makes a view of a state, which it shares.
     pub(crate) fn of(alloc: Global, state: &State) -> Result<View, AllocError>
         ensures { IfOk result (λ view. view ≡ record { state = state.now; answer = [] }) }
     {
@@ -37,7 +37,7 @@ impl View {
         })
     }
 
-    /// Asks the questions of a text. The state stays; where memory runs out, the answer is empty.
+    /// Asks the questions of a text. The state is unchanged; if memory runs out, the answer is empty.
     pub fn ask(&mut self, alloc: Global, text: &[u8]) -> Result<(), TalkFault>
         ensures sees { Sees self.old text.now result self.new }
     {
@@ -45,14 +45,14 @@ impl View {
         answer_view(alloc, &self.state, text, &mut self.answer)
     }
 
-    /// The answer to the text that was asked last; at first there is none.
+    /// Returns the answer to the last text; at first it is empty.
     pub fn answer(&self) -> &[u8]
         ensures answer { result.now ≡ self.now.answer }
     {
         &self.answer
     }
 
-    /// One more view of the same state.
+    /// Makes one more view of the same state.
     pub fn again(&self, alloc: Global) -> Result<View, AllocError>
         ensures again { IfOk result (λ view. view ≡ record { state = self.now.state; answer = [] }) }
     {

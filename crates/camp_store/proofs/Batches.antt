@@ -1,9 +1,9 @@
--- What a crash leaves while a batch is put behind the texts of a file.
+-- What a crash leaves while a batch is appended to a file of texts.
 use Rattle.camp_store.proofs.Words.{◌≡◌, inl, inr, ℕ, ◌<◌, ◌+◌, ◌-◌, List, [], ◌∷◌, ◌++◌, length, take, drop, refl, sym, ◌∙◌, ap, subst, arith, append_assoc, length-append, length-drop, take_all, cases_eq, Torn, AreBlocks, Stands, blocks, chain, closed_gate, first_digest, open_gate, IsBatch, IsBeforeOrAfter, Keeps, BatchesAreKept, Begun, Settled}
 use Rattle.camp_store.proofs.BlockLemmas.{are-append, chain-append, gate_any, stands_closed}
 use Rattle.camp_store.proofs.Overwriting.{front_stays, rest_stays, written_behind}
 
--- what stands behind the first gate of a batch
+-- the bytes after the first mark of a batch
 behind_gate_is : (new : List (List ℕ)) (digest bytes : List ℕ) → IsBatch digest new bytes → drop 1 bytes ≡ drop 1 (blocks digest new) ++ closed_gate ∷ []
 behind_gate_is [] digest bytes batch = absurd (omega (arith, batch.some))
 behind_gate_is (t ∷ ts) digest bytes batch = ap (λ (l : List ℕ). drop 1 l) batch.are
@@ -29,7 +29,7 @@ module _ {D : Type 0} (seen : D → List ℕ) (may_leave : D → List ℕ → Ty
   file_is : seen d0 ≡ held ++ keeps.behind
   file_is = keeps.file ∙ sym (append_assoc keeps.front (closed_gate ∷ []) keeps.behind)
 
-  -- the closed gate stands in each outcome of the first write
+  -- after each outcome of the first write the closed mark is there
   pub staging : (m : ℕ) (d1 : D) → Begun seen may_leave (k + 1) m d0 d1 → (c : List ℕ) → may_leave d1 c → Stands old c
   staging m d1 begun c now =
       let from = begun c now in
@@ -38,7 +38,7 @@ module _ {D : Type 0} (seen : D → List ℕ) (may_leave : D → List ℕ → Ty
       subst (Stands old) (sym (is ∙ append_assoc keeps.front (closed_gate ∷ []) (drop (k + 1) c))) (stands_closed old keeps.front (drop (k + 1) c) keeps.are)
 
   module _ (d1 : D) (staged : Settled seen may_leave (k + 1) (drop 1 bytes) d0 d1) where
-    -- what stood behind, where it was not written over
+    -- the bytes after the mark that were not overwritten
     abbrev pub left : List ℕ
     left = drop (length (drop 1 bytes)) keeps.behind
 
@@ -54,7 +54,7 @@ module _ {D : Type 0} (seen : D → List ℕ) (may_leave : D → List ℕ → Ty
     long_tail : 0 < length behind_gate
     long_tail = omega (arith, length-append (drop 1 bytes) left, ap length (behind_gate_is new digest bytes batch), length-append (drop 1 (blocks digest new)) (closed_gate ∷ []))
 
-    -- the new blocks behind a gate that counts
+    -- the new blocks after a mark that counts
     counted : (gate : ℕ) → (gate ≡ closed_gate → ⊥) → AreBlocks first_digest (old ++ new) (keeps.front ++ gate ∷ drop 1 (blocks digest new))
     counted gate counts =
         are-append first_digest old new keeps.front (gate ∷ drop 1 (blocks digest new)) keeps.are
@@ -66,7 +66,7 @@ module _ {D : Type 0} (seen : D → List ℕ) (may_leave : D → List ℕ → Ty
         ∙ ap (λ (l : List ℕ). keeps.front ++ gate ∷ l) (append_assoc (drop 1 (blocks digest new)) (closed_gate ∷ []) left)
         ∙ sym (append_assoc keeps.front (gate ∷ drop 1 (blocks digest new)) (closed_gate ∷ left))
 
-    -- the new blocks stand whole behind any gate
+    -- the new blocks are whole whatever the mark before them
     any_gate : (gate : ℕ) → IsBeforeOrAfter old new (keeps.front ++ gate ∷ behind_gate)
     any_gate gate = elim (cases_eq gate closed_gate) [
       | inl closed ↦ inl (subst (λ (n : ℕ). Stands old (keeps.front ++ n ∷ behind_gate)) (sym closed) (stands_closed old keeps.front behind_gate keeps.are))
@@ -97,7 +97,7 @@ module _ {D : Type 0} (seen : D → List ℕ) (may_leave : D → List ℕ → Ty
             durable = settled.durable;
           }
 
--- a batch is kept all at once, at each moment
+-- a batch is appended as a whole, at each moment
 module _ {D : Type 0} (seen : D → List ℕ) (may_leave : D → List ℕ → Type 0) where
   pub each_moment : BatchesAreKept seen may_leave
   each_moment old new digest bytes at before batch keeps = record {

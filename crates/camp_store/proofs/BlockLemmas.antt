@@ -1,4 +1,4 @@
--- What files of blocks stand for.
+-- The texts to which files of blocks decode.
 use Rattle.camp_store.proofs.Words.{◌≡◌, ◌≢◌, ◌⊎◌, inl, inr, ℕ, ◌<◌, ◌-◌, ◌+◌, List, [], ◌∷◌, ◌++◌, length, take, drop, Vec, refl, sym, ◌∙◌, ap, subst, arith, append_assoc, length-append, append-nil, length-map, map-append, take-append-drop, AllFit, AreBlocks, Fits, IsBlock, IsEnd, Stands, blocks, body, chain, closed_gate, digest_behind, first_digest, head, open_gate, Keeps, texts_of, DamageIsNoStore, IsDamaged, IsReading, Reading}
 use Rattle.std.specs.declared.alloc.Global.{Global}
 use Rattle.camp_store.proofs.HeadLemmas.{body_once, length-head}
@@ -20,7 +20,7 @@ pub fit-append : (ts us : Texts) → AllFit ts → AllFit us → AllFit (ts ++ u
 fit-append [] us these those = those
 fit-append (t ∷ ts) us these those = (these.0, fit-append ts us these.1 those)
 
-block_more : (before t r more bytes : List ℕ) → IsBlock before t r bytes → IsBlock before t (r ++ more) (bytes ++ more)
+pub block_more : (before t r more bytes : List ℕ) → IsBlock before t r bytes → IsBlock before t (r ++ more) (bytes ++ more)
 block_more before t r more bytes block = record {
   gate = block.gate;
   counts = block.counts;
@@ -42,7 +42,7 @@ are_written before (t ∷ ts) fit = (
   are_written (digest_behind before t) ts fit.1,
 )
 
--- what is written, behind any gate that counts
+-- written blocks, after any mark that counts
 pub gate_any : (before : List ℕ) (ts : Texts) (gate : ℕ) → 0 < length ts → AllFit ts → gate ≢ closed_gate
     → AreBlocks before ts (gate ∷ drop 1 (blocks before ts))
 gate_any before [] gate some fit counts = absurd (omega (arith, some))
@@ -70,7 +70,7 @@ around vs i v next =
     ap texts_of (sym (take-append-drop (i + 1) vs) ∙ ap (λ (l : List (Vec ℕ Global)). l ++ drop (i + 1) vs) next ∙ append_assoc (take i vs) (v ∷ []) (drop (i + 1) vs))
     ∙ map-append (λ (t : Vec ℕ Global). t.items) (take i vs) (v ∷ drop (i + 1) vs)
 
--- where all fit, one of them does
+-- if all texts fit, one of them does
 pub fits_between : (ts us : Texts) (text : List ℕ) → AllFit (ts ++ text ∷ us) → Fits text
 fits_between [] us text all = all.0
 fits_between (t ∷ ts) us text all = fits_between ts us text all.1
@@ -83,7 +83,7 @@ one_block before text rest bytes block = (
   ([], record { gate = block.gate; counts = block.counts; fits = block.fits; split = sym (append-nil (block.gate ∷ body before text)) }, refl),
 )
 
--- blocks that were read, and what is behind them
+-- the blocks that were read, and the rest after them
 pub record ReadSoFar (bytes : List ℕ) (texts : List (Vec ℕ Global)) (digest rest : List ℕ) : Type 0 where
   pub front : List ℕ
   pub split : bytes ≡ front ++ rest
@@ -113,7 +113,7 @@ stands_short texts front end are short = record { front = front; end = end; spli
     go (gate ∷ []) le = inr refl
     go (gate ∷ more ∷ rest) le = absurd (omega (arith, le))
 
--- where a block begins is no end
+-- there is no end where a block begins
 pub block_is_no_end : (before text rest bytes : List ℕ) → IsBlock before text rest bytes → IsEnd bytes → ⊥
 block_is_no_end before text rest bytes block ends = elim (subst IsEnd block.split ends) [
   | inl closed ↦ block.counts closed
@@ -124,7 +124,7 @@ pub block_once : (before t u r s bytes : List ℕ) → IsBlock before t r bytes 
 block_once before t u r s bytes one other =
     body_once before t u r s one.fits other.fits (ap (λ (l : List ℕ). drop 1 l) (sym one.split ∙ other.split))
 
--- behind blocks of a file that stands for texts there is an end, and they are its blocks, or there is a block
+-- after some blocks of a file that decodes to texts there is an end, and these are all its blocks, or another block
 goes_on : (before : List ℕ) (ts all : Texts) (front rest whole end : List ℕ) → AreBlocks before ts front → AreBlocks before all whole → IsEnd end
     → front ++ rest ≡ whole ++ end → (IsEnd rest × (ts ≡ all)) ⊎ ((text behind : List ℕ) × IsBlock (chain before ts) text behind rest)
 goes_on before [] [] front rest whole end none none' ends is =
@@ -142,7 +142,7 @@ goes_on before (t ∷ ts) (u ∷ us) front rest whole end these those ends is =
       | inr block ↦ inr block
     ]
 
--- a file stands for one list of texts at most
+-- a file decodes to at most one list of texts
 pub stands_once : (ts us : Texts) (file : List ℕ) → Stands ts file → Stands us file → ts ≡ us
 stands_once ts us file one other =
     elim (goes_on first_digest ts us one.front one.end other.front other.end one.are other.are other.ends (sym one.split ∙ other.split)) [
@@ -150,7 +150,7 @@ stands_once ts us file one other =
       | inr block ↦ absurd (block_is_no_end (chain first_digest ts) block.0 block.1 one.end block.2 one.ends)
     ]
 
--- where neither an end nor a block stands, the file is damaged
+-- if neither an end nor a block follows, the file is damaged
 pub is_damaged : (bytes : List ℕ) (vs : List (Vec ℕ Global)) (digest rest : List ℕ) → ReadSoFar bytes vs digest rest → (IsEnd rest → ⊥)
     → ((text behind : List ℕ) → IsBlock digest text behind rest → ⊥) → (count : ℕ) → count ≡ length vs → IsDamaged count (length bytes - length rest) bytes
 is_damaged bytes vs digest rest so_far no_end no_block count is = record {
@@ -172,12 +172,12 @@ damage_is_no_store count at file damaged texts stands =
       | inr block ↦ damaged.no_block block.0 block.1 block.2
     ]
 
--- whatever a crash leaves of a log stands for its texts
+-- whatever a crash leaves of a log decodes to its texts
 pub kept_stands : {D : Type 0} (seen : D → List ℕ) (may_leave : D → List ℕ → Type 0) (texts : Texts) (disk : D) (k : ℕ) (digest : List ℕ)
     → Keeps seen may_leave texts disk k digest → (c : List ℕ) → may_leave disk c → Stands texts c
 kept_stands seen may_leave texts disk k digest keeps c now =
     subst (Stands texts) (sym (keeps.durable c now ∙ keeps.file)) (stands_closed texts keeps.front keeps.behind keeps.are)
 
--- a file that was read stands for its texts
+-- a file that was read decodes to its texts
 pub reading_stands : (file : List ℕ) (reading : Reading) → IsReading file reading → Stands (texts_of reading.texts.items) file
 reading_stands file reading is = record { front = is.front; end = is.end; split = is.split; are = is.are; ends = is.ends }

@@ -1,4 +1,4 @@
--- What a crash leaves while a gate is closed behind the texts of a file.
+-- What a crash leaves while a mark is closed after the texts of a file.
 use Rattle.camp_store.proofs.Words.{◌≡◌, inl, inr, ℕ, ◌<◌, false, List, [], ◌∷◌, ◌++◌, length, drop, refl, sym, ◌∙◌, ap, subst, arith, length-drop, Only, Torn, IsEnd, Stands, closed_gate, is_closed, Keeps, texts_of, Begun, Settled, IsReading, Reading}
 use Rattle.std.proofs.lemmas.Bool.Decides.{nat_tests}
 use Rattle.camp_store.proofs.BlockLemmas.{stands_short}
@@ -18,7 +18,7 @@ module _ {D : Type 0} (seen : D → List ℕ) (may_leave : D → List ℕ → Ty
     short : length is.end < 2
     short = is_short is.end is.ends (sym is.closed_is ∙ ajar)
 
-    -- one byte at most stands behind the blocks in each outcome
+    -- in each outcome there is at most one byte after the blocks
     pub closing : Begun seen may_leave reading.length 1 d0 d1 → (c : List ℕ) → may_leave d1 c → Stands texts c
     closing begun c now =
         let from = begun c now in

@@ -1,4 +1,4 @@
--- What the head of a text tells.
+-- Decoding the head of a text.
 use Rattle.camp_store.proofs.Words.{◌≡◌, ◌+◌, ◌*◌, ℕ, zero, suc, List, [], ◌∷◌, ◌++◌, Result, Ok, Err, length, take, drop, refl, sym, ◌∙◌, ap, arith, append_assoc, length-append, take_at, drop_at, length-take-le, Fits, body, digest_behind, head}
 use Rattle.std.proofs.lemmas.Nat.{from_be_bytes-to_be_bytes_4}
 use Rattle.hex.specs.declared.error.FromHexError.{FromHexError}
@@ -18,7 +18,7 @@ are_bytes n (suc (suc (suc (suc i)))) = omega arith
 abbrev pub digits : List ℕ → List ℕ
 digits text = encode_lower (to_be_bytes w32 (length text))
 
--- what stands between the digits of a length and the text
+-- the bytes between the digits of a length and the text
 abbrev pub mark : List ℕ → List ℕ → List ℕ
 mark before text = 32 ∷ encode_lower (take 8 (digest_behind before text)) ++ 10 ∷ []
 

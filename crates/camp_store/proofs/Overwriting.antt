@@ -33,7 +33,7 @@ module _ (at n : ℕ) (old new : List ℕ) (torn : Torn at n old new) (within : 
       rest : drop n (drop at new) ≡ drop (at + n) old
       rest = drop-drop n at new ∙ after
 
--- a write behind a beginning that stays
+-- a write after a prefix that stays
 module _ (front end new : List ℕ) (at n : ℕ) (at_is : at ≡ length front) (torn : Torn at n (front ++ end) new) where
   within : at ≤ length (front ++ end)
   within = omega (arith, at_is, length-append front end)

@@ -1,14 +1,14 @@
--- Which faults are reported, by how many calls of a disk have failed.
+-- Which faults are reported, by the number of disk calls that have failed.
 use Rattle.std.specs.Prelude.{◌≡◌, ℕ, Result, MatchResult}
 use Rattle.sqlite_disk.specs.Disk.{MoreFaults}
 use Rattle.camp_store.specs.declared.faults.StoreFault.{StoreFault}
 use Rattle.camp_store.specs.declared.faults.StoreFault.TheVariants.{Damaged, Disk, Failed, Memory, TooLong}
 
--- a fault of the disk is reported only where one of its calls has failed
+-- a fault of the disk is reported where one of its calls has failed, and any other where none has
 abbrev pub ReportsFault : StoreFault → ℕ → ℕ → Type 0
 ReportsFault (Disk error) old new = MoreFaults old new
-ReportsFault other old new = Unit {0}
+ReportsFault other old new = new ≡ old
 
--- at Ok no call of the disk has failed; and a fault of the disk is reported only where one has
+-- at Ok no call of the disk has failed; a fault of the disk is reported where one has, and any other where none has
 abbrev pub CountsFaults : {T : Type 0} → Result T StoreFault → ℕ → ℕ → Type 0
 CountsFaults result old new = MatchResult result (λ _. new ≡ old) (λ why. ReportsFault why old new)

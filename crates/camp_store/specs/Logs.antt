@@ -1,4 +1,4 @@
--- A log: texts that are kept in a file.
+-- A log: texts that are persisted in a file.
 use Rattle.std.specs.Prelude.{◌≡◌, ◌⊎◌, ◌<◌, ◌≤◌, ◌+◌, ◌^◌, ℕ, Bool, false, not, IsTrue, List, [], ◌∷◌, ◌++◌, length, map, Vec}
 use Rattle.std.specs.declared.alloc.Global.{Global}
 use Rattle.sqlite_disk.specs.Disk.{Only}
@@ -11,8 +11,8 @@ use Rattle.camp_store.specs.declared.logs.Log.{Log}
 abbrev pub texts_of : List (Vec ℕ Global) → List (List ℕ)
 texts_of texts = map (λ text. text.items) texts
 
--- the file is blocks of these texts, a closed gate and anything behind it, all of it on the disk; and this is known of
--- it: how long the blocks are, and what their digests come to
+-- the file is the blocks of these texts, a closed mark, and any bytes after it, all of it durable; `length` is the
+-- length of the blocks and `digest` their digest
 pub record Keeps {D : Type 0} (seen : D → List ℕ) (may_leave : D → List ℕ → Type 0) (texts : List (List ℕ)) (disk : D)
     (length_known : ℕ) (digest_known : List ℕ) : Type 0 where
   pub front : List ℕ
@@ -23,11 +23,11 @@ pub record Keeps {D : Type 0} (seen : D → List ℕ) (may_leave : D → List �
   pub digest_is : digest_known ≡ chain first_digest texts
   pub durable : Only (seen disk) (may_leave disk)
 
--- the file stands for the texts, with all of the new ones or without any
+-- the file decodes to the old texts, with all of the new ones or none
 abbrev pub IsBeforeOrAfter : List (List ℕ) → List (List ℕ) → List ℕ → Type 0
 IsBeforeOrAfter texts new file = Stands texts file ⊎ Stands (texts ++ new) file
 
--- these bytes are the blocks of some texts, behind those that have come to a digest, and a closed gate
+-- the bytes are the blocks of some texts, after texts with the digest `before`, and a closed mark
 pub record IsBatch (before : List ℕ) (texts : List (List ℕ)) (bytes : List ℕ) : Type 0 where
   pub some : 0 < length texts
   pub fit : AllFit texts
@@ -37,32 +37,31 @@ pub record IsBatch (before : List ℕ) (texts : List (List ℕ)) (bytes : List �
 abbrev pub disk_of : {D : Type 0} → Log D → D
 disk_of log = log.disk
 
--- no batch has failed to be kept
+-- no append has failed
 abbrev pub may_go_on : {D : Type 0} → Log D → Bool
 may_go_on log = not log.has_failed
 
--- an open log keeps these texts
+-- an open log persists these texts
 abbrev pub KeepsTexts : {D : Type 0} → (D → List ℕ) → (D → List ℕ → Type 0) → List (List ℕ) → Log D → Type 0
 KeepsTexts seen may_leave texts log = Keeps seen may_leave texts log.disk log.length log.digest
 
--- texts are refused before anything is asked of the disk: memory has run out, or one of them can't stand in a block
+-- texts are rejected before any disk call: memory has run out, or one of them does not fit in a block
 abbrev pub IsRefused : List (List ℕ) → StoreFault → Type 0
 IsRefused texts Memory = Unit {0}
 IsRefused texts TooLong = ¬ (AllFit texts)
 IsRefused texts other = ⊥
 
--- why no gate could be closed: the disk has failed now; or it had failed before, and may not be used
+-- why no mark could be closed: the disk has failed now; or it had failed before, and may not be used
 abbrev pub IsOfClosing : Bool → StoreFault → Type 0
 IsOfClosing usable (Disk error) = Unit {0}
 IsOfClosing usable Failed = usable ≡ false
 IsOfClosing usable other = ⊥
 
--- where the blocks of these texts would end, and the gate behind them
+-- the offset at which the blocks of these texts end, with the mark after them
 abbrev pub end_with : {D : Type 0} → Log D → List (List ℕ) → ℕ
 end_with log texts = log.length + length (blocks log.digest texts) + 1
 
--- what is written ends at a byte: where the file had no more than so many bytes, and that byte is none behind them, no
--- crash leaves more
+-- the write ends at the offset `end`: if the file was not longer, no crash leaves a longer one
 abbrev pub StaysWithin : {D : Type 0} → (D → List ℕ) → (D → List ℕ → Type 0) → ℕ → D → D → Type 0
 StaysWithin seen may_leave end old new =
     (most : ℕ) → length (seen old) ≤ most → end ≤ most → (c : List ℕ) → may_leave new c → length c ≤ most
@@ -71,8 +70,8 @@ StaysWithin seen may_leave end old new =
 abbrev pub IsOpen : {D : Type 0} → (D → Bool) → Log D → Type 0
 IsOpen is_usable log = (log.has_failed ≡ false) × IsTrue (is_usable log.disk)
 
--- why a batch is not put. Memory has run out, or the disk has failed now; TooLong: a text can't stand in a block, or the
--- file would have no length below 2^64; Failed: that was so before
+-- why a batch is not appended: Memory: memory has run out; Disk: the disk has failed now; TooLong: a text does not
+-- fit in a block, or the file would have 2^64 bytes or more; Failed: the log had failed before
 abbrev pub IsOfPutting : {D : Type 0} → (D → Bool) → Log D → List (List ℕ) → StoreFault → Type 0
 IsOfPutting is_usable log texts Memory = Unit {0}
 IsOfPutting is_usable log texts (Disk error) = Unit {0}
@@ -80,7 +79,7 @@ IsOfPutting is_usable log texts TooLong = ¬ (AllFit texts) ⊎ (2 ^ 64 ≤ end_
 IsOfPutting is_usable log texts (Damaged count at) = ⊥
 IsOfPutting is_usable log texts Failed = ¬ (IsOpen is_usable log)
 
--- what a batch that is not acknowledged leaves: the log as it was; or, where the disk has failed, one that does not go on
+-- what a batch that is not acknowledged leaves: the log unchanged or, if the disk has failed, a failed log
 abbrev pub LeavesAfter : {D : Type 0} → StoreFault → Log D → Log D → Type 0
 LeavesAfter (Disk error) old new = may_go_on new ≡ false
 LeavesAfter (Damaged texts at) old new = ⊥

@@ -1,34 +1,34 @@
--- What a crash may leave at each moment, while bytes are written and synced, one after the other.
+-- What a crash may leave at each moment of successive writes and syncs.
 use Rattle.camp_store.specs.Blocks.{Stands, chain, open_gate}
 use Rattle.camp_store.specs.Logs.{IsBatch, IsBeforeOrAfter, Keeps}
 use Rattle.std.specs.Prelude.{◌+◌, ◌-◌, [], ◌∷◌, ◌++◌, drop, ℕ, List, length}
 use Rattle.sqlite_disk.specs.Disk.{Holds, Torn, Follows, Only}
 
--- of files, by what a read returns and by what a crash may leave
+-- two properties of files: what a read returns and what a crash may leave
 module _ {D : Type 0} (seen : D → List ℕ) (may_leave : D → List ℕ → Type 0) where
-  -- a write of n bytes has begun, and is perhaps on the disk, or torn, or not there at all
+  -- a write of n bytes has begun, and is durable, torn or absent after a crash
   abbrev pub Begun : ℕ → ℕ → D → D → Type 0
   Begun at n before now = Follows (Torn at n) (may_leave before) (may_leave now)
 
-  -- these bytes are written and on the disk, and all others are as they were
+  -- these bytes are written and durable, and all others are unchanged
   pub record Settled (at : ℕ) (bytes : List ℕ) (before now : D) : Type 0 where
     pub begun : Begun at (length bytes) before now
     pub others : Torn at (length bytes) (seen before) (seen now)
     pub written : Holds (seen now) at bytes
     pub durable : Only (seen now) (may_leave now)
 
-  -- at each moment while a batch is put behind texts that are kept, whatever steps have begun or are done
+  -- each moment of appending a batch, whatever steps have begun or are done
   pub record EachMoment (old new : List (List ℕ)) (digest bytes : List ℕ) (at : ℕ) (before : D) : Type 0 where
-    -- what stands behind its first gate is being written and synced
+    -- the bytes after its first mark are being written and synced
     pub staging : (now : D) → Begun (at + 1) (length bytes - 1) before now → (c : List ℕ) → may_leave now c → Stands old c
-    -- and is on the disk, and the gate is being opened
+    -- they are durable, and the first mark is being written
     pub opening : (staged now : D) → Settled (at + 1) (drop 1 bytes) before staged → Begun at 1 staged now
         → (c : List ℕ) → may_leave now c → IsBeforeOrAfter old new c
-    -- and that is on the disk, too
+    -- the first mark is durable too
     pub kept : (staged now : D) → Settled (at + 1) (drop 1 bytes) before staged → Settled at (open_gate ∷ []) staged now
         → Keeps seen may_leave (old ++ new) now (at + length bytes - 1) (chain digest new)
 
-  -- a batch is kept all at once, at each moment
+  -- a batch is appended as a whole, at each moment
   abbrev pub BatchesAreKept : Type 0
   BatchesAreKept =
       (old new : List (List ℕ)) (digest bytes : List ℕ) (at : ℕ) (before : D) → IsBatch digest new bytes → Keeps seen may_leave old before at digest

@@ -1,4 +1,4 @@
-//! Blocks, written and read. A block is a gate, the head of a text, and the text.
+//! Encoding and decoding of blocks. A block is a commit mark, the head of a text, and the text.
 ghost use Rattle.std.specs.Prelude.{◌≡◌, ◌≢◌, ◌↔◌, ◌++◌, [], ◌∷◌, List, ℕ, Some, length, IfOk, IfErr, IsTrue, MatchOption};
 ghost use Rattle.camp_store.specs.Blocks.{AllFit, Fits, IsBlock, IsEnd, blocks, body, chain, closed_gate, digest_behind, head, is_closed};
 ghost use Rattle.camp_store.specs.Logs.{IsRefused, texts_of};
@@ -8,19 +8,19 @@ use hex::FromHex;
 use sha2::{Digest as _, Sha256};
 use std::alloc::{AllocError, Global};
 
-/// What a chain of texts has come to.
+/// The digest of a chain of texts.
 pub type Digest = [u8; 32];
 
-/// The gate of a block that counts.
+/// The mark of a block that counts.
 pub(crate) const OPEN: u8 = b'=';
 
-/// The gate at which a file ends.
+/// The mark at which a file ends.
 pub(crate) const CLOSED: u8 = b'~';
 
-/// How long a head is: 8 digits, a blank, 16 digits, and the end of the line.
+/// Bytes of a head: 8 digits, a space, 16 digits, and a line feed.
 pub(crate) const HEAD: usize = 26;
 
-/// The digest of a text behind those that have come to a digest.
+/// Computes the digest of a text after texts with the digest `before`.
 pub(crate) fn digest_behind(before: &Digest, text: &[u8]) -> Digest
     ensures { result ≡ digest_behind before.now text.now }
 {
@@ -30,7 +30,7 @@ pub(crate) fn digest_behind(before: &Digest, text: &[u8]) -> Digest
     hasher.finalize()
 }
 
-/// The head of a text, by its length and its digest.
+/// Writes the head of a text from its length and its digest.
 fn head(alloc: Global, size: u32, digest: &Digest) -> Result<Vec<u8>, AllocError>
     ensures { IfOk result (λ line. (before text : List ℕ) → length text ≡ size → digest.now ≡ digest_behind before text
         → line.items ≡ head before text) }
@@ -43,7 +43,7 @@ fn head(alloc: Global, size: u32, digest: &Digest) -> Result<Vec<u8>, AllocError
     Ok(line)
 }
 
-/// The length that the head of a text tells.
+/// Decodes the length of a text from its head.
 fn told_size(line: &[u8]) -> Option<u32>
     requires { length line.now ≡ 26 }
     ensures { (before text : List ℕ) → Fits text → line.now ≡ head before text → result ≡ Some (length text) }
@@ -54,7 +54,7 @@ fn told_size(line: &[u8]) -> Option<u32>
     }
 }
 
-/// The blocks of texts and a closed gate, and what the digests come to.
+/// Encodes the blocks of texts and a closed mark; also returns their digest.
 pub(crate) fn encode(
     alloc: Global,
     before: &Digest,
@@ -80,7 +80,7 @@ pub(crate) fn encode(
     Ok((bytes, digest))
 }
 
-/// A text that stands in front of other bytes, behind its head.
+/// A decoded text at the start of some bytes, after its head.
 #[derive(Clone, Copy)]
 pub(crate) struct Block<'a> {
     pub(crate) text: &'a [u8],
@@ -88,7 +88,7 @@ pub(crate) struct Block<'a> {
     pub(crate) rest: &'a [u8],
 }
 
-/// The text whose head stands in front, with its head, if one does.
+/// Decodes the text at the start of some bytes, with its head, if there is one.
 fn first_body<'a>(
     alloc: Global,
     before: &Digest,
@@ -119,7 +119,7 @@ fn first_body<'a>(
     Ok(Some(Block { text, digest, rest }))
 }
 
-/// The block that stands in front, if one does.
+/// Decodes the block at the start of some bytes, if there is one.
 pub(crate) fn first_block<'a>(
     alloc: Global,
     before: &Digest,
@@ -142,7 +142,7 @@ pub(crate) fn first_block<'a>(
     }
 }
 
-/// Whether no block can begin here.
+/// True if no block can begin here.
 pub(crate) fn is_end(bytes: &[u8]) -> bool
     ensures { IsTrue result ↔ IsEnd bytes.now }
 {
@@ -152,7 +152,7 @@ pub(crate) fn is_end(bytes: &[u8]) -> bool
     }
 }
 
-/// Whether a closed gate stands in front.
+/// True if the bytes begin with a closed mark.
 pub(crate) fn is_closed(bytes: &[u8]) -> bool
     ensures { result ≡ is_closed bytes.now }
 {

@@ -1,4 +1,4 @@
-//! What is asked of a disk.
+//! Disk operations: write with sync, and read of the durable bytes.
 ghost use Rattle.std.specs.Prelude.{◌≡◌, ◌<◌, List, ℕ, length, IfErr, IfOk, OnOk, IsTrue};
 ghost use Rattle.sqlite_disk.specs.Disk.{CountsFault, Only};
 ghost use Rattle.camp_store.specs.Counting.{CountsFaults};
@@ -10,7 +10,7 @@ use sqlite_disk::Disk;
 use std::alloc::Global;
 use std::io;
 
-/// Writes bytes, and sees them on the disk.
+/// Writes bytes and syncs them: they are then durable.
 pub(crate) fn settle<D: Disk>(disk: &mut D, at: usize, bytes: &[u8]) -> io::Result<()>
     requires usable { IsTrue (D.Disk.is_usable disk.old) }
     requires some { 0 < length bytes.now }
@@ -24,7 +24,7 @@ pub(crate) fn settle<D: Disk>(disk: &mut D, at: usize, bytes: &[u8]) -> io::Resu
     disk.sync()
 }
 
-/// All bytes of a file, which are on the disk.
+/// Returns all bytes of the file, which are durable.
 pub(crate) fn read_all<D: Disk>(alloc: Global, disk: &mut D) -> Result<Vec<u8>, StoreFault>
     requires usable { IsTrue (D.Disk.is_usable disk.old) }
     ensures usable { IfOk result (λ _. IsTrue (D.Disk.is_usable disk.new)) }

@@ -1,3 +1,4 @@
+//! Why texts are not read or not persisted.
 ghost use Rattle.std.specs.Prelude.{◌≡◌};
 ghost use Rattle.camp_store.specs.declared.faults.StoreFault.TheVariants as fault;
 
@@ -5,21 +6,21 @@ use std::alloc::{AllocError, AllocFailed};
 use std::io;
 use thiserror::Error;
 
-/// Why texts are not read, or not kept.
+/// Why texts are not read or not persisted.
 #[derive(Clone, Copy, Debug, Error)]
 pub enum StoreFault {
     #[error("out of memory")]
     Memory,
-    /// What the disk answered.
+    /// The error of the disk.
     #[error("{0}")]
     Disk(io::Error),
     /// A text has 2^32 bytes or more.
     #[error("a text is too long")]
     TooLong,
-    /// No whole block stands at a byte, behind so many texts, where one has begun.
+    /// There is no whole block at offset `at`, after `texts` texts, although one begins there.
     #[error("the text behind {texts} others is damaged, at byte {at}")]
     Damaged { texts: usize, at: usize },
-    /// A batch was not kept before, or a sync has failed: the file has to be opened again.
+    /// An append or a sync has failed before: the file has to be opened again.
     #[error("the file has failed before")]
     Failed,
 }

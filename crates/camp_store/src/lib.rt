@@ -1,4 +1,4 @@
-//! Texts that are kept in a file: those of a batch all at once, and on the disk before they are acknowledged.
+//! Texts that are persisted in a file: a batch is durable as a whole before it is acknowledged.
 #![tactic(auto)]
 
 mod blocks;

@@ -1,3 +1,4 @@
+//! The log: an open file of texts to which batches are appended.
 ghost use Rattle.std.specs.Prelude.{◌≡◌, ◌<◌, ◌+◌, ◌-◌, ◌^◌, ◌++◌, List, ℕ, Err, false, length, IfOk, IfErr, IsTrue, OnOk};
 ghost use Rattle.sqlite_disk.specs.Disk.{CountsFault, Only};
 ghost use Rattle.camp_store.specs.Blocks.{Stands, chain};
@@ -12,7 +13,7 @@ use crate::{Disk, Reading, StoreFault};
 use std::alloc::Global;
 use std::io;
 
-/// A file of texts that is open, to which more are added.
+/// An open file of texts to which more can be appended.
 #[derive(Drop)]
 pub struct Log<D: Disk> {
     disk: D,
@@ -21,7 +22,7 @@ pub struct Log<D: Disk> {
     has_failed: bool,
 }
 
-// Closes the gate behind the texts that were read, where it does not stand closed.
+// Writes the closed mark after the texts that were read, unless it is there.
 fn close<D: Disk>(disk: &mut D, reading: &Reading) -> Result<(), StoreFault>
     ensures keeps { OnOk result (IsReading (D.Disk.seen disk.old) reading.now → Only (D.Disk.seen disk.old) (D.Disk.may_leave disk.old)
         → Keeps D.Disk.seen D.Disk.may_leave (texts_of reading.now.texts.items) disk.new reading.now.length reading.now.digest) }
@@ -47,7 +48,7 @@ fn close<D: Disk>(disk: &mut D, reading: &Reading) -> Result<(), StoreFault>
 impl<D: Disk> Log<D> {
     ghost use Rattle.camp_store.specs.Logs.{IsOfPutting, IsOpen, KeepsTexts, LeavesAfter, disk_of, end_with, may_go_on};
 
-    /// Goes on with a file that was read. It writes no more than a closed gate behind the texts, where none stands.
+    /// Opens a file that was read. Writes at most a closed mark after the texts, if there is none.
     pub fn open(mut disk: D, reading: &Reading) -> Result<Log<D>, (StoreFault, D)>
         ensures keeps { IfOk result (λ log. IsReading (D.Disk.seen disk) reading.now → Only (D.Disk.seen disk) (D.Disk.may_leave disk)
             → KeepsTexts D.Disk.seen D.Disk.may_leave (texts_of reading.now.texts.items) log) }
@@ -56,7 +57,7 @@ impl<D: Disk> Log<D> {
             → (c : List ℕ) → D.Disk.may_leave e.1 c → Stands (texts_of reading.now.texts.items) c) }
         ensures clean { IfOk result (λ log. D.Disk.is_clean (disk_of log) ≡ D.Disk.is_clean disk) }
         ensures clean_err { IfErr result (λ e. D.Disk.is_clean e.1 ≡ D.Disk.is_clean disk) }
-        // It makes a short file no longer than the gate does.
+        // A file that is too short becomes no longer than the mark.
         ensures long { IfOk result (λ log. Only (D.Disk.seen disk) (D.Disk.may_leave disk)
             → StaysWithin D.Disk.seen D.Disk.may_leave (reading.now.length + 1) disk (disk_of log)) }
         ensures long_err { IfErr result (λ e. Only (D.Disk.seen disk) (D.Disk.may_leave disk)
@@ -84,7 +85,7 @@ impl<D: Disk> Log<D> {
         &self.disk
     }
 
-    /// Whether no batch has failed at the disk. Where one has, `put` answers `Failed` from then on.
+    /// True if no append has failed at the disk. If one has, `put` returns `Failed` from then on.
     pub fn may_go_on(&self) -> bool
         ensures { result ≡ may_go_on self.now }
     {
@@ -98,9 +99,9 @@ impl<D: Disk> Log<D> {
         disk
     }
 
-    /// Adds texts, all at once. At `Ok` they are acknowledged: from then on each crash leaves a file that has
-    /// them. Where memory runs out or a text is too long nothing has changed; after another `Err` nothing more is
-    /// kept here, and the file has to be opened again.
+    /// Appends texts as a whole. `Ok` acknowledges them: from then on each crash leaves a file that has them.
+    /// If memory runs out or a text is too long, nothing has changed; after any other `Err` nothing more is
+    /// persisted here, and the file has to be opened again.
     pub fn put(&mut self, alloc: Global, texts: &[Vec<u8>]) -> Result<(), StoreFault>
         ensures acknowledged { (old : List (List ℕ)) → KeepsTexts D.Disk.seen D.Disk.may_leave old self.old
             → OnOk result (KeepsTexts D.Disk.seen D.Disk.may_leave (old ++ texts_of texts.now) self.new) }
@@ -140,8 +141,8 @@ impl<D: Disk> Log<D> {
     }
 }
 
-// Puts the blocks of a batch behind the closed gate at a byte. They are on the disk before the first gate opens, so
-// that they count all at once.
+// Writes the blocks of a batch after the closed mark at an offset. All are durable before the first mark is
+// opened, so they count all at once.
 fn write_batch<D: Disk>(disk: &mut D, at: usize, bytes: &[u8]) -> io::Result<()>
     requires usable { IsTrue (D.Disk.is_usable disk.old) }
     requires some { 1 < length bytes.now }

@@ -1,3 +1,4 @@
+//! Decoding a file of texts.
 ghost use Rattle.std.specs.Prelude.{◌≡◌, List, ℕ, IfErr, IfOk, IsTrue};
 ghost use Rattle.sqlite_disk.specs.Disk.{Only};
 ghost use Rattle.camp_store.specs.Counting.{CountsFaults};
@@ -8,22 +9,22 @@ use crate::disks::read_all;
 use crate::{Disk, StoreFault};
 use std::alloc::Global;
 
-/// What a file stands for.
+/// The decoded content of a file.
 #[derive(Drop)]
 pub struct Reading {
     /// The texts, in order.
     pub texts: Vec<Vec<u8>>,
-    /// How many bytes their blocks take.
+    /// Bytes of their blocks.
     pub length: usize,
-    /// How many bytes stand behind them.
+    /// Bytes after the blocks.
     pub behind: usize,
-    /// What their digests come to.
+    /// The digest of the texts.
     pub digest: Digest,
-    /// Whether a closed gate stands behind them.
+    /// True if there is a closed mark after the blocks.
     pub is_closed: bool,
 }
 
-/// What the bytes of a file stand for.
+/// Decodes the texts of a file.
 pub fn decode(alloc: Global, bytes: &[u8]) -> Result<Reading, StoreFault>
     ensures reading { IfOk result (λ reading. IsReading bytes.now reading) }
     ensures damaged { IfErr result (λ why. IsDamage why bytes.now) }
@@ -55,7 +56,7 @@ pub fn decode(alloc: Global, bytes: &[u8]) -> Result<Reading, StoreFault>
     })
 }
 
-/// Reads what a file stands for. It changes nothing, and what it has read is on the disk.
+/// Reads and decodes a file. Changes nothing, and what it has read is durable.
 pub fn read<D: Disk>(alloc: Global, disk: &mut D) -> Result<Reading, StoreFault>
     ensures usable { IfOk result (λ _. IsTrue (D.Disk.is_usable disk.new)) }
     ensures reading { IfOk result (λ reading. IsTrue (D.Disk.is_clean disk.new) → IsReading (D.Disk.seen disk.old) reading) }

@@ -1,4 +1,4 @@
--- The canonical text of a call is a command, which asks just this call; and no other command stands before it.
+-- The canonical text of a call is a command for exactly this call, and no other command is a prefix of it.
 use Rattle.camp_talk.proofs.Words.{◌≡◌, ℕ, ◌+◌, ◌≤◌, Bool, true, false, cond, ◌==◌, List, [], ◌∷◌, ◌++◌, length, length-append, map, drop, codes, Ok, refl, sym, ap, subst, ◌∙◌, arith, append_assoc, append-nil, map-append, length-map, ⊎_elim, cases_Bool, flat_map, onto_first, lines-feed, lines-other, Call, lines_of, words_of, begins_with, begins_edit, script_of_lines, IsCommand, IsLeft, TakesAll, as_read, bytes_eq, call_part, lines_in, script_in, taken, wants, asked_by, asked_of, first_of}
 use Rattle.std.specs.List.{AllByRecursion, join_with_byte}
 use Rattle.std.proofs.lemmas.List.Concat.{flat_map-cons}
@@ -19,9 +19,9 @@ use Rattle.camp_talk.specs.Asking.{asked_with}
 use Rattle.camp_talk.specs.Laws.{IsReadWhole}
 use Rattle.camp_talk.specs.declared.questions.Asked.TheVariants as asked
 
--- ---- what the first line of a call takes with it
+-- ---- what belongs to the first line of a call
 
--- the lines of a body, where this is wanted in it, and that behind it
+-- the lines of a body, if this is wanted in it and that after it
 module _ (want next : Wanted) (more : wants want ≡ true) (after : (line : List ℕ) → wanted_after want line ≡ cond (bytes_eq line (codes "end")) next want) where
   line_wanted : (line : List ℕ) (others : List (List ℕ)) → wanted_lines want (line ∷ others) ≡ line ∷ wanted_lines (cond (bytes_eq line (codes "end")) next want) others
   line_wanted line others =
@@ -52,7 +52,7 @@ head_wanted : (head : List ℕ) (words : List (List ℕ)) (others : List (List �
 head_wanted head words others is =
     ap (λ ws. head ∷ wanted_lines (cond (begins_edit ws) want.GroupBody (cond (begins_with (codes "done") ws) want.Nothing want.Group)) others) is
 
--- a change of a group goes before others
+-- a change of a group followed by others
 change_wanted : (change : Primitive) (others : List (List ℕ)) → IsChange change → wanted_lines want.Group (change_lines change ++ others) ≡ change_lines change ++ wanted_lines want.Group others
 change_wanted (Add path) others h = head_wanted _ _ others (words_of-joined (codes "add") (path ∷ []) (head_are (Add path) h))
 change_wanted (Remove path) others h = head_wanted _ _ others (words_of-joined (codes "remove") (path ∷ []) (head_are (Remove path) h))
@@ -87,7 +87,7 @@ behind_wanted : (c : Call) (others : List (List ℕ)) → IsScriptCall c → wan
 behind_wanted (call.Record branch name changes) others h = record_wanted branch name changes others h.3
 behind_wanted other others h = nothing_wanted others
 
--- ---- what a call asks, by its words
+-- ---- the call of a command, by its words
 
 foresees : (c : Call) → begins_with (codes "whatif") (first_words_of c) ≡ false
 foresees (call.Record branch name (change ∷ [])) = refl
@@ -136,7 +136,7 @@ module _ (c : Call) (can : IsScriptCall c) (short : IsReadWhole c) where
     takes = takes_just;
   }
 
-  -- and asks just this call
+  -- and it is this call
   pub asks_call : asked_by (call_text c) ≡ Ok (asked.Call c)
   asks_call =
       ap asked_of lines_are
@@ -144,14 +144,14 @@ module _ (c : Call) (can : IsScriptCall c) (short : IsReadWhole c) where
       ∙ ap (asked_with (first_words_of c)) (ap (λ line. script_of_lines (line ∷ lines_behind c)) call_is ∙ whole)
       ∙ asks c
 
--- ---- one command stands first
+-- ---- one command at the start
 
--- how many LF bytes have
+-- the number of line feeds in bytes
 abbrev feeds : List ℕ → ℕ
 feeds [] = 0
 feeds (byte ∷ bytes) = cond {A = ℕ} (byte == 10) 1 0 + feeds bytes
 
--- lines that are cut behind an LF
+-- lines that are split after a line feed
 record CutBehind (front : List ℕ) : Type 0 where
   head : List ℕ
   rest : List (List ℕ)
@@ -217,7 +217,7 @@ module _ (d : List ℕ) (is : IsCommand d) where
   alone =
       sym (ap lines_in is.ended ∙ ap (map as_read) (cut.are []) ∙ ap (λ ls. map as_read (cut.head ∷ ls)) (append-nil cut.rest)) ∙ is.lines
 
-  -- the lines of a command, and of what stands behind it
+  -- the lines of a command, and of what follows it
   lines_with : (y : List ℕ) → lines_in (d ++ y) ≡ is.first ∷ (is.rest ++ lines_in y)
   lines_with y =
       ap lines_in (joined y) ∙ ap (map as_read) (cut.are y)
@@ -236,7 +236,7 @@ module _ (c d x y : List ℕ) (is : IsCommand c) (too : IsCommand d) (same : c +
   same_rest =
       sym (is.takes (lines_in x)) ∙ (λ i. taken (first_of (both_lines i)) (other_lines (both_lines i))) ∙ too.takes (lines_in y)
 
-  -- of bytes that begin with a command no other command stands first
+  -- bytes that begin with a command begin with no other
   pub one_command : c ≡ d
   one_command =
       let fronts = same_front is.front too.front x y (sym (joined c is x) ∙ same ∙ joined d too y)
@@ -258,7 +258,7 @@ no_bytes : (bytes : List ℕ) → length (lines_of bytes) ≡ 0 → bytes ≡ []
 no_bytes [] none = refl
 no_bytes (byte ∷ bytes) none = absurd (omega (arith, none, some_lines byte bytes))
 
--- what the end of the input leaves of a command, where a command stands first, is just that
+-- if a command is at the start, the last command left by the end of the input is exactly that
 pub left_is : (d y : List ℕ) → IsCommand d → IsLeft (d ++ y) → y ≡ []
 left_is d y is left =
     let all : taken is.first (is.rest ++ lines_in y) ≡ is.rest ++ lines_in y = subst TakesAll (lines_with d is y) left in

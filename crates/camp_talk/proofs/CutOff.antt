@@ -1,4 +1,4 @@
--- Whose lines are waited for, and of which fault is told.
+-- The lines that are waited for, and the fault that is reported.
 use Rattle.std.proofs.lemmas.Bool.{and_from, and_left, and_right, not_from_false, not_from_true}
 use Rattle.std.specs.Prelude.{◌&&◌}
 use Rattle.camp_talk.proofs.Words.{◌≡◌, ◌∙◌, ℕ, Bool, true, false, true≢false, cond, List, Ok, Err, Result, not, ap, ◌==◌, ◌⊎◌, eqb-true, inl, inr, refl, sym, asked_by, first_of, lines_in, Asked, LineFault}
@@ -15,7 +15,7 @@ by_tests true true some waits = (refl, refl)
 by_tests true false some waits = absurd (true≢false (sym waits))
 by_tests false is some waits = absurd (true≢false (sym waits))
 
--- lines are waited for behind a first line that is a record, or may be
+-- lines are waited for after a first line that is a record, or may be
 behind_first : (number : ℕ) (kind : FaultKind) (line : List ℕ) → awaits_some (cut_off number kind line) ≡ true
     → ((number == 1) ≡ true) × (may_record kind line ≡ true)
 behind_first number kind line waits = by_tests (number == 1) (may_record kind line) (left_by line) waits
@@ -29,7 +29,7 @@ fails waits unknown is (inl e) = and_left waits (unknown && not is) e
 fails waits unknown is (inr (inl e)) = and_right waits (unknown && not is) (and_left unknown (not is) e)
 fails waits unknown is (inr (inr e)) = and_right waits (unknown && not is) (and_right unknown (not is) (not_from_true is e))
 
--- whether a fault comes of another one, by its parts
+-- whether a fault is the consequence of another, by its parts
 is_line : (before : Account) (kind : FaultKind) (line : List ℕ) → IsLineOf before kind line → comes_of_another before.awaited kind line ≡ true
 is_line before kind line taken = and_from _ _ taken.0 (and_from _ _ taken.1 (not_from_false _ taken.2))
 
@@ -74,7 +74,7 @@ module _ (before : Account) (state : Contents) (command answer : List ℕ) where
 pub records_awaited : RecordsAreAwaited
 records_awaited before state command answer waits = by_asked before state command answer (asked_by command) refl waits
 
--- what is kept of a command with a fault, by whether that comes of another one
+-- the diagnostic of a command with a fault, by whether that is the consequence of another
 told_by : (before : Account) (state : Contents) (command answer : List ℕ) (fault : LineFault) → asked_by command ≡ Err fault
     → (comes : Bool) → comes_of_another before.awaited fault.kind (first_of (lines_in command)) ≡ comes
     → cause_of before state command answer

@@ -1,7 +1,7 @@
 -- The lines of bytes.
 use Rattle.camp_talk.proofs.Words.{◌≡◌, ◌≢◌, ℕ, List, [], ◌∷◌, ◌++◌, refl, sym, ap, ◌∙◌, append_assoc, append-nil, ne_eqb, All, onto_first, All-head, All-tail, lines_of, lines-feed, lines-other, IsLine, ended, with_last}
 
--- a line with its LF stands first
+-- a line with its line feed at the start
 pub lines-line : (line rest : List ℕ) → IsLine line → lines_of (line ++ 10 ∷ rest) ≡ line ∷ lines_of rest
 lines-line [] rest is = lines-feed 10 rest refl
 lines-line (byte ∷ line) rest is =
@@ -12,7 +12,7 @@ onto-last : (byte : ℕ) (last : List ℕ) → onto_first byte (with_last [] las
 onto-last byte [] = refl
 onto-last byte (next ∷ last) = refl
 
--- what has no LF is one line
+-- bytes without a line feed are one line
 pub lines-last : (last : List ℕ) → IsLine last → lines_of last ≡ with_last [] last
 lines-last [] is = refl
 lines-last (byte ∷ last) is =
@@ -46,7 +46,7 @@ pub with_last-append : (lines more : List (List ℕ)) (last : List ℕ)
 with_last-append lines more [] = refl
 with_last-append lines more (byte ∷ last) = append_assoc lines more ((byte ∷ last) ∷ [])
 
--- whole lines end with an LF
+-- whole lines end with a line feed
 pub record EndsWithLine (bytes : List ℕ) : Type 0 where
   pub front : List ℕ
   pub is : bytes ≡ front ++ 10 ∷ []

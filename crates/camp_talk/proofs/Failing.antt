@@ -1,4 +1,4 @@
--- An answer tells of failure exactly where its command has a fault, it was refused, or memory ran out.
+-- An answer is a failure exactly if its command has a fault, it was refused, or memory ran out.
 use Rattle.camp_talk.proofs.Words.{◌≡◌, inl, inr, ℕ, true, false, List, Option, None, Some, Result, Ok, Err, refl, sym, ap, subst, ◌∙◌, true≢false, LineFault, reply_text, Standing, Tells, asked_by, Entries, tells_failure, Asked}
 use Rattle.std.specs.Prelude.{◌↔◌}
 use Rattle.camp_base.specs.Trees.{Lines}
@@ -18,7 +18,7 @@ use Rattle.camp_talk.specs.declared.questions.Asked.TheVariants as asked
 use Rattle.camp_talk.specs.declared.questions.Question.{Question}
 use Rattle.camp_talk.specs.declared.questions.Question.TheVariants as question
 
--- a text tells of failure exactly where it is that of a refusal
+-- a text is a failure exactly if it is that of a refusal
 abbrev Refuses : List ℕ → Type 0
 Refuses text =
     (tells_failure text ≡ true) ↔ ((refusal : Refusal) × (text ≡ reply_text (reply.Refused refusal)))
@@ -30,7 +30,7 @@ refused_fails other = refl
 refused : (refusal : Refusal) → Refuses (reply_text (reply.Refused refusal))
 refused refusal = (λ e. (refusal, refl), λ w. refused_fails refusal)
 
--- one that tells of none is that of no refusal
+-- a text that is no failure is that of no refusal
 plain : (text : List ℕ) → tells_failure text ≡ false → Refuses text
 plain text none = (
   λ e. absurd (true≢false (sym e ∙ none)),
@@ -72,7 +72,7 @@ question_fails history state question.Keep text is = subst Refuses (sym is) (pla
 question_fails history state (question.Help topic) text is = subst Refuses (sym is) (plain _ refl)
 question_fails history state other text is = told_fails _ (λ answer. refl) _ text is
 
--- what is answered to what is asked
+-- the answer to a parsed command
 asked_fails : (before : Standing) (a : Result Asked LineFault) (text : List ℕ) (now : Entries) → Tells before a text now → (tells_failure text ≡ true) ↔ Failed a text
 asked_fails before (Err fault) text now tells = (λ e. tt, λ w. ap tells_failure tells.0)
 asked_fails before (Ok asked.Nothing) text now tells = (λ e. true≢false (sym e ∙ ap tells_failure tells.0), λ w. absurd w)

@@ -1,11 +1,11 @@
--- A command that was read is one: by its first line, and what that takes with it.
+-- The lines that were read are a command: a first line, and those that belong to it.
 use Rattle.camp_talk.proofs.Words.{◌≡◌, ℕ, Bool, true, false, List, [], ◌∷◌, ◌++◌, length, map, Option, refl, sym, ap, subst, ◌∙◌, arith, lines_of, script_of_lines, CommandLines, Consumes, Consumes-trans, Ends, HasRead, IsCommand, IsLeft, ReadsCommand, ReadsHeld, ReadsLine, ReadsLines, ReadsNext, ReadsWithin, StopsAtLine, ended, with_last, TakesAll, append-nil, length-map, lines_in, ◌≤◌, as_read, call_part, first_of, script_in, taken, wants}
 use Rattle.camp_script.proofs.CommandCuts.{none_wanted, one_wanted, takes_wanted}
 use Rattle.camp_talk.proofs.Cuts.{EndsWithLine, ends_with_line, with_last-append}
 use Rattle.camp_talk.proofs.Parts.{behind, ends_behind, lines_are_read, lines_behind, lines_held, none_left}
 
 module _ (a b : Option (List ℕ)) (bytes : List ℕ) where
-  -- lines that were read are a command, where the first takes just the others
+  -- lines that were read are a command, if exactly the others belong to the first
   is_command : (first : List ℕ) (rest : List (List ℕ)) → ReadsLines a b [] bytes (first ∷ rest) []
       → ((others : List (List ℕ)) → taken first (rest ++ others) ≡ rest) → ReadsHeld a b true bytes
   is_command first rest reads takes =
@@ -50,7 +50,7 @@ module _ (a b : Option (List ℕ)) (bytes : List ℕ) where
   lines_are : (lines : List (List ℕ)) (last : List ℕ) → ReadsLines a b [] bytes lines last → lines_of bytes ≡ with_last lines last
   lines_are lines last reads = ap lines_of reads.grows ∙ lines_held a b [] bytes lines last reads
 
--- a command was read, and its lines were handed on
+-- a command was read, and its lines were processed
 pub record IsHanded (a b : Option (List ℕ)) (whole : Bool) (bytes : List ℕ) (command : CommandLines) : Type 0 where
   pub held : ReadsHeld a b whole bytes
   pub first : List ℕ
@@ -58,7 +58,7 @@ pub record IsHanded (a b : Option (List ℕ)) (whole : Bool) (bytes : List ℕ) 
   pub has : HasRead command first rest
   pub same : script_of_lines (first ∷ rest) ≡ script_in (lines_of bytes)
 
--- lines of a command are handed on: whole ones, or all that the input has
+-- lines of a command are processed: whole ones, or all that the input has
 abbrev pub HandsOn : Option (List ℕ) → Option (List ℕ) → Bool → List ℕ → CommandLines → Type 0
 HandsOn a b true bytes command =
     (first : List ℕ) × (rest : List (List ℕ)) × ReadsLines a b [] bytes (first ∷ rest) [] × HasRead command (call_part first) rest
@@ -74,9 +74,9 @@ pub call_read : (x : CommandLines) {call first read : List ℕ} (bytes : List �
 call_read x bytes has call first read =
     subst (λ (l : List ℕ). HasRead x l []) (call ∙ ap call_part (first ∙ ap (λ (bytes : List ℕ). first_of (lines_of bytes)) read)) has
 
--- the first line was handed on
+-- the first line was processed
 module _ (a b : Option (List ℕ)) (mid : List ℕ) (x : CommandLines) (has : HasRead x (call_part (first_of (lines_of mid))) []) where
-  -- the input ends in or behind it
+  -- the input ends in it or after it
   first_left : ReadsLine a b false [] mid → IsHanded a b false mid x
   first_left (last, reads, ends) = record {
     held = is_left a b mid [] last reads (takes_last a b mid last) ends;
@@ -97,7 +97,7 @@ module _ (a b : Option (List ℕ)) (mid : List ℕ) (x : CommandLines) (has : Ha
   first_on true (line, reads) = (line, [], reads, has_line line reads)
   first_on false read = first_left read
 
--- the next line is handed on, and nothing else is read
+-- the next line is processed, and nothing else is read
 module _ (a b c : Option (List ℕ)) (mid bytes : List ℕ) (x y : CommandLines) (on : HandsOn a b true mid x) where
   pub next_on : (whole : Bool) → ReadsNext b c whole mid bytes x y → HandsOn a c whole bytes y
   next_on true (line, then, goes) =
@@ -132,7 +132,7 @@ module _ (a b c : Option (List ℕ)) (mid bytes : List ℕ) (x y : CommandLines)
             (has.takes tail ∙ ap (λ (ls : List (List ℕ)). rest ++ ls) (one_wanted x.wanted more tail few));
       }
 
--- all was handed on
+-- all lines were processed
 pub all_on : (a b : Option (List ℕ)) (bytes : List ℕ) (x : CommandLines) (whole : Bool) → HandsOn a b whole bytes x → (whole ≡ true → wants x.wanted ≡ false) → IsHanded a b whole bytes x
 all_on a b bytes x false on all = on
 all_on a b bytes x true (first, rest, reads, has) all = record {
@@ -146,7 +146,7 @@ all_on a b bytes x true (first, rest, reads, has) all = record {
 
 -- ---- no more was read than a command has
 
--- a line at most is taken whole
+-- at most one line is taken whole
 takes_few : (lines : List (List ℕ)) → length lines ≤ 1 → TakesAll lines
 takes_few [] few = tt
 takes_few (line ∷ []) few = takes_wanted (call_part line) []

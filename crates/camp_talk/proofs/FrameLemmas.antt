@@ -1,4 +1,4 @@
--- Frames of requests and of answers, part by part.
+-- Frames of requests and of answers, piece by piece.
 use Rattle.camp_talk.proofs.Words.{◌==◌, ◌≡◌, ◌≢◌, ◌<◌, ◌≤◌, inl, inr, ℕ, Bool, true, false, cond, List, [], ◌∷◌, ◌++◌, length, take, drop, Option, None, Some, Err, refl, sym, ap, subst, ◌∙◌, append_assoc, arith, true≢false, take_all, length-append, length-take, All, All-cons, All-drop, All-head, All-nil, list_all, drop-append_seam, and_parts, Appends, Appends-trans, Consumes, Consumes-trans, append-nil, ◌-◌, lines_of, first_of, AppendsSome, Entries, IsLine, IsNotWriting, IsWriting, Takes}
 use Rattle.std.proofs.Common.{unwrap_or, ◌&&◌}
 use Rattle.std.proofs.lemmas.Bool.{eqb-false}
@@ -48,11 +48,11 @@ module _ (line : List ℕ) where
         (and_parts (is_between 1 10 (length line)) (list_all is_digit line) (tested_at tested n is)).0 in
         grind (arith, nat_tests, between)
 
-  -- as much of it as is held
+  -- as much of it as is stored
   abbrev held : List ℕ
   held = take 1_048_577 line
 
--- what is held of a line that has a number is all of it
+-- a line that has a number is stored whole
 module _ (line : List ℕ) (n : ℕ) where
   held_is : count_of (held line) ≡ Some n → held line ≡ line
   held_is is = take_all 1_048_577 line (omega (arith, counted_short (held line) n is, length-take 1_048_577 line))
@@ -96,7 +96,7 @@ module _ (line : List ℕ) (is : IsLine line) where
       (All-drop (λ byte. byte ≢ 10) (length digits) line is) in
       All-head (λ byte. byte ≢ 10) 10 request behind refl
 
-  -- the input ends behind it, and fewer bytes than it says
+  -- the input ends after it, with fewer bytes than it says
   pub cut_request : (count : ℕ) (more : List ℕ) → count_of line ≡ Some count → length more < count → (request : List ℕ)
       → IsFrame request ((line ++ 10 ∷ []) ++ more) → ⊥
   cut_request count more counts few request framed =
@@ -114,7 +114,7 @@ module _ (line : List ℕ) (is : IsLine line) where
         length-append line (10 ∷ more),
       )
 
-  -- as many as it says
+  -- as many bytes as it says
   pub frame_read : (count : ℕ) (request : List ℕ) → count_of line ≡ Some count → count ≤ 268_435_456 → length request ≡ count
       → IsFrame request ((line ++ 10 ∷ []) ++ request)
   frame_read count request counts few long = record {
@@ -124,7 +124,7 @@ module _ (line : List ℕ) (is : IsLine line) where
     is = append_assoc line (10 ∷ []) request;
   }
 
-  -- what it says is no number of bytes
+  -- it does not give a number of bytes
   pub other_read : (a b : Option (List ℕ)) (why : FrameFault) → IsNotCounted (held line) why → Consumes a b (line ++ 10 ∷ [])
       → StopsReading a b why
   other_read a b NoNumber none reads = record { some = line ++ 10 ∷ []; reads = reads; none = no_number none }
@@ -134,7 +134,7 @@ module _ (line : List ℕ) (is : IsLine line) where
 
 -- ---- the line before a request, as it was read
 
--- a number is not none
+-- a number was parsed
 pub some_are : (n m : ℕ) → n ≡ m → (n == 0) ≡ false → 0 < m
 some_are n m same is = let some = eqb-false n 0 is in omega (arith, same, some)
 
@@ -173,11 +173,11 @@ module _ (a b : Option (List ℕ)) (old new : List ℕ) where
   }
 
 module _ (a b : Option (List ℕ)) (old new : List ℕ) (takes : Takes a b 1_048_577 seen.Line old new) (first : old ≡ []) where
-  -- what is held of it
+  -- the part of it that is stored
   new_is : new ≡ held takes.line
   new_is = takes.grows ∙ ap (λ (bytes : List ℕ). bytes ++ held takes.line) first
 
-  -- it is no number of bytes
+  -- it is not a number of bytes
   pub reads_other : (why : FrameFault) → IsNotCounted new why → StopsReading a b why
   reads_other why none =
       other_read takes.line takes.is_line a b why (subst (λ (bytes : List ℕ). IsNotCounted bytes why) new_is none) takes.consumes
@@ -204,7 +204,7 @@ module _ (a b : Option (List ℕ)) (old new : List ℕ) (takes : Takes a b 1_048
       ends = ends_behind a b c (takes.line ++ 10 ∷ []) takes.consumes ends;
     }
 
-    -- as many as it says
+    -- as many bytes as it says
     pub reads_frame : ReadsBytes b c count true request → ReadsFrame a c request
     reads_frame (reads, long) = record {
       frame = bytes;
@@ -212,7 +212,7 @@ module _ (a b : Option (List ℕ)) (old new : List ℕ) (takes : Takes a b 1_048
       reads = Consumes-trans a b c (takes.line ++ 10 ∷ []) request takes.consumes reads;
     }
 
--- ---- so many bytes
+-- ---- reading a number of bytes
 
 module _ (a b c : Option (List ℕ)) (count : ℕ) (old new : List ℕ) where
   pub more_read : (read : ℕ) → read ≡ length old → Consumes a b old × (length old ≤ count) → ReadsMore b c (count - read) true old new
@@ -230,7 +230,7 @@ module _ (a b c : Option (List ℕ)) (count : ℕ) (old new : List ℕ) where
     ends_behind a b c old first ends,
   )
 
--- ---- what is written
+-- ---- writing
 
 module _ (a b : Option (List ℕ)) (text rest : List ℕ) where
   pub fails_first : AppendsSome a b text → AppendsSome a b (text ++ rest)
@@ -246,7 +246,7 @@ module _ (a b c : Option (List ℕ)) (front text : List ℕ) where
     Appends-trans a b c front done first appends,
   )
 
--- of the number of bytes, the line end and the bytes one can't be written
+-- the number of bytes, the line feed or the bytes can't be written
 module _ (why : TalkFault) (digits answer text : List ℕ) (is : digits ++ 10 ∷ answer ≡ text) where
   pub digits_fail : (a b : Option (List ℕ)) → IsWriting why × AppendsSome a b digits → IsWriting why × AppendsSome a b text
   digits_fail a b (fails, some) = (fails, subst (AppendsSome a b) is (fails_first a b digits (10 ∷ answer) some))
@@ -272,7 +272,7 @@ flush_fails digits answer text is a b c d e first second third keeps = (
       (Appends-trans a b d digits (10 ∷ answer) first (Appends-trans b c d (10 ∷ []) answer second third))) keeps,
 )
 
--- ---- what serving comes to
+-- ---- the result of serving
 
 module _ (a b old new : Option (List ℕ)) (before after : Entries) where
   pub reading_stops : (why : FrameFault) → StopsReading a b why → Keeps old new → after ≡ before → Serves a b old new before (Err why) after

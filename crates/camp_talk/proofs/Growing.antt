@@ -1,4 +1,4 @@
--- What answers commands and requests takes no call back.
+-- Answering commands and requests removes no call from the history.
 use Rattle.camp_talk.proofs.Words.{◌≡◌, ◌⊎◌, inl, inr, ℕ, Bool, true, List, [], ◌∷◌, Option, Result, Ok, Err, sym, subst, LineFault, Answers, Standing, Tells, TellsWant, asked_by, Entries, Exchange, Follow, Asked}
 use Rattle.camp_object.specs.Histories.{IsBeginning}
 use Rattle.camp_object.proofs.Beginnings.{begins_through, begins_self}
@@ -29,7 +29,7 @@ follow_grow first [] last follow = subst (λ (s : Standing). IsBeginning first.h
 follow_grow first (exchange ∷ said) last (next, command, answers, follow) =
     begins_through (answers_grow first exchange.command exchange.answer next answers) (follow_grow next said last follow)
 
--- and so of a request, whether it is answered whole
+-- the same of a request, whether or not it is answered whole
 request_grows : (before : Entries) (request answer : List ℕ) (now : Entries) → AnswersRequest before request answer now → IsBeginning before now
 request_grows before request answer now answers =
     subst (λ (l : Entries). IsBeginning before l) (sym answers.same)
@@ -48,7 +48,7 @@ some_grow before request answer now some = ends some.leaves
         subst (λ (l : Entries). IsBeginning before l) (sym more.same)
         (begins_through so_far (answers_grow some.middle more.last.command more.last.answer more.behind more.answers))
 
--- or read at all
+-- or even read
 pub serves_grow : (a b old new : Option (List ℕ)) (before : Entries) (came : Result Bool FrameFault) (after : Entries)
     → Serves a b old new before came after → IsBeginning before after
 serves_grow a b old new before (Ok true) after serves = request_grows before serves.service.request serves.service.answer after serves.answers

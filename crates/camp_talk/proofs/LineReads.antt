@@ -1,4 +1,4 @@
--- A line is read, part by part, and as much of it is held as is read.
+-- Reads a line piece by piece, and stores as much of it as fits.
 use Rattle.camp_talk.proofs.Words.{◌≡◌, ◌≢◌, ℕ, zero, suc, ◌+◌, ◌-◌, ◌<◌, ◌≤◌, min, Bool, true, false, cond, ◌==◌, nat_lt, List, [], ◌∷◌, ◌++◌, length, take, drop, position_or_len, Consumes, Consumes-trans, drop-append_seam, take-append_seam, All-append, All-cons, All-nil, as_read, Seen, Option, refl, sym, ap, subst, ◌∙◌, append_assoc, append-nil, arith, take_all, take-take, length-append, length-take-le, eqb-true, zero-le, take_more, passes_at_first, Ends, EndsAt, IsLine, ReadsLine, StopsAtLine, Takes, lines_of, with_last, feed_of, ended, seen_of, slice_set, not}
 use Rattle.std.proofs.lemmas.Bool.{eqb-false, ltb-false, ltb-true}
 use Rattle.std.proofs.lemmas.Bool.Decides.{nat_tests}
@@ -6,9 +6,9 @@ use Rattle.camp_talk.proofs.Cuts.{lines-last, lines-line}
 use Rattle.camp_talk.proofs.Parts.{ends_behind}
 use Rattle.camp_talk.specs.declared.lines.Seen.TheVariants as seen
 
--- ---- fronts
+-- ---- prefixes
 
--- a beginning, and behind it as much as there is room for
+-- a prefix, followed by as much as fits
 pub take_behind : (room : ℕ) (done more : List ℕ)
     → take room done ++ take (room - length (take room done)) more ≡ take room (done ++ more)
 take_behind zero done more = refl
@@ -20,7 +20,7 @@ take_behind (suc room) (byte ∷ done) more =
     let left : suc room - suc (length front) ≡ room - length front = omega arith in
     ap (λ n. byte ∷ (front ++ take n more)) left ∙ ap (λ bytes. byte ∷ bytes) (take_behind room done more)
 
--- a beginning of a beginning
+-- a prefix of a prefix
 pub take_least : (len room : ℕ) (bytes : List ℕ) (n : ℕ) → n ≡ min len room → take n bytes ≡ take room (take len bytes)
 take_least zero room bytes n is =
     let none : n ≡ 0 = omega arith in
@@ -56,7 +56,7 @@ module _ (shown : List ℕ) where
   abbrev len : ℕ
   len = position_or_len feed shown
 
-  -- the bytes that are taken of what is shown
+  -- the bytes taken of what is shown
   pub taken_of : take (len + length (feed_of (seen_of (length shown) len))) shown
       ≡ take len shown ++ feed_of (seen_of (length shown) len)
   taken_of = at (nat_lt len (length shown)) refl (length shown == 0)
@@ -113,7 +113,7 @@ module _ (a b : Option (List ℕ)) where
   }
 
 module _ (a b c : Option (List ℕ)) (room : ℕ) (old mid new : List ℕ) where
-  -- a part of a line behind a part
+  -- a part of a line after a part
   taken_behind : (left : ℕ) (met : Seen) → Takes a b room seen.Part old mid → left ≡ room - (length mid - length old)
       → Takes b c left met mid new → Takes a c room met old new
   taken_behind left met first is then = record {
@@ -138,13 +138,13 @@ module _ (a b c : Option (List ℕ)) (room : ℕ) (old mid new : List ℕ) where
       at seen.Line ends = tt
       at seen.End ends = ends_behind a b c (first.line ++ []) first.consumes ends
 
-  -- where so much of the room is left
+  -- given the remaining capacity
   pub taken_on : (start len : ℕ) {told met : Seen} → start ≡ length old → len ≡ length mid → Takes a b room seen.Part old mid → told ≡ met
       → Takes b c (room - (len - start)) told mid new → Takes a c room met old new
   taken_on start len {told} {met} starts ends first is then =
       taken_behind (room - (len - start)) met first (omega arith) (subst (λ (seen : Seen). Takes b c (room - (len - start)) seen mid new) is then)
 
--- ---- a line that is too long is cut
+-- ---- a line that is too long is shortened
 
 pub as_read_short : (line : List ℕ) → length line ≤ 1_048_576 → as_read line ≡ line
 as_read_short [] short = refl
@@ -158,7 +158,7 @@ as_read_long first second rest long =
     let over : nat_lt (length (second ∷ rest)) 1_048_576 ≡ false = grind (arith, nat_tests) in
     ap (λ b. first ∷ cond b (second ∷ rest) (63 ∷ take 4_096 rest)) over
 
--- a line, and the front of it that is held
+-- a line, and the prefix of it that is stored
 pub as_read_front : (line : List ℕ) → as_read (take 1_048_577 line) ≡ as_read line
 as_read_front [] = refl
 as_read_front (first ∷ []) = refl
@@ -252,7 +252,7 @@ module _ (a b : Option (List ℕ)) (line : List ℕ) (is : IsLine line) where
         (subst (λ (ls : List (List ℕ)). length ls ≤ 1) (sym (lines-last line is)) (few_last line));
   }
 
-  -- behind a line
+  -- after a line
   pub stops_behind_line : Consumes a b (line ++ 10 ∷ []) → StopsAtLine a b
   stops_behind_line consumes = record {
     some = line ++ 10 ∷ [];

@@ -1,4 +1,4 @@
--- Commands that are loaded, one behind another.
+-- Loading commands, one after the other.
 use Rattle.camp_talk.proofs.Words.{◌≡◌, ℕ, ◌+◌, Bool, true, false, List, [], ◌∷◌, ◌++◌, Option, Result, Ok, Err, Vec, refl, sym, ap, subst, ◌∙◌, append-nil, flat_map, Consumes, Consumes-nil, Consumes-trans, flat_map-append, All-append, All-cons, All-nil, LineFault, Answers, Standing, Tells, asked_by, Entries, Exchange, Asked, DoesOne, Hears, LoadsOne, Done, Fails, ReadsCommand, TellsSuccess, Wants, tells_failure}
 use Rattle.camp_talk.specs.declared.questions.Asked.TheVariants as asked
 use Rattle.camp_talk.proofs.NotDone.{by_reply}

@@ -1,4 +1,4 @@
--- The text that keeps a history is loaded, call by call.
+-- Loads the text that stores a history, call by call.
 use Rattle.camp_talk.specs.Accounts.{no_account}
 use Rattle.camp_talk.proofs.Words.{◌≡◌, ◌⊎◌, inl, inr, ℕ, Bool, true, false, List, [], ◌∷◌, ◌++◌, length, map, drop, Option, None, Some, Result, Ok, Err, refl, sym, ap, subst, ◌∙◌, append_assoc, append-nil, map-append, drop-append_seam, true≢false, flat_map, All, All-head, All-tail, Call, LineFault, reply_text, Standing, Tells, TellsWant, asked_by, Entries, Exchange, Follow, IsCommand, IsLeft, ReadsCommand, Done, Fails, TellsSuccess, tells_failure, Asked}
 use Rattle.std.proofs.Common.{IsSome}
@@ -32,7 +32,7 @@ module _ (seen now : Entries) (c : Call) (accepted : IsAccepted repository seen 
       let none : IsSome (option_and_then (λ (state : Contents). repository.after state c) (Some answered.state)) = subst (λ (found : Option Contents). IsSome (option_and_then (λ state. repository.after state c) found)) answered.replays here in
       absurd (true≢false (sym (subst (λ (found : Option Contents). IsSome found) answered.stays none)))
 
-  -- it ends the history, and its answer tells no failure
+  -- it is the last of the history, and its answer is no failure
   accepts : (answer : Reply) (text : List ℕ) → text ≡ reply_text answer → Ask repository (alone_at 0) seen c (Ok answer) now → (now ≡ seen ++ (0, c) ∷ []) × (tells_failure text ≡ false)
   accepts (reply.Done at) text tells asks = (
     asks.says.ends ∙ ap (λ (history : Entries). history ++ (0, c) ∷ []) (asks.says.exact refl),
@@ -51,7 +51,7 @@ module _ (c : Call) (can : IsScriptCall c) (short : IsReadWhole c) (before : Sta
   done_so (inl tells) well = (answered_so tells).0
   done_so (inr want) well = absurd (true≢false (ap tells_failure (sym want.1) ∙ well))
 
--- ---- calls that are accepted one behind another
+-- ---- calls that are accepted one after the other
 
 abbrev AcceptedFrom : Entries → List Call → Type 0
 AcceptedFrom before [] = Unit {0}
@@ -71,7 +71,7 @@ run_at_seat_0 [] from = refl
 run_at_seat_0 (entry ∷ history) from =
     run_at_seat_0 history (option_and_then (λ state. repository.after state entry.1) from)
 
--- ---- what a load has come to
+-- ---- the state of a load
 
 -- some calls are done, and the text of the others is left
 record Walked (calls : List Call) (before after : Entries) (left : List ℕ) : Type 0 where
@@ -87,7 +87,7 @@ record Walked (calls : List Call) (before after : Entries) (left : List ℕ) : T
 abbrev commands_of : List Exchange → List ℕ
 commands_of said = flat_map (λ exchange. exchange.command) said
 
--- the call whose text stands first was read
+-- the first call of the text was read
 behind_first : (c : Call) (calls : List Call) (command rest : List ℕ) → IsScriptCall c → IsReadWhole c → IsCommand command → section_text (c ∷ calls) ≡ command ++ rest
     → (command ≡ call_text c) × (section_text calls ≡ rest)
 behind_first c calls command rest can short is same =
@@ -184,7 +184,7 @@ module _ (calls : List Call) (middle : Standing) (left : List ℕ) (walked : Wal
     (subst (λ (cs : List Call). AcceptedFrom middle.history cs) one walked.accepted).0,
   )
 
-  -- the input has ended, and what it left was done
+  -- the input has ended, and the last command, as far as it goes, was done
   ends_well : (rest : Option (List ℕ)) (now : Entries) → EndsWell (Some left) rest middle now → now ≡ alone calls
   ends_well None now ends = absurd ends.reads.0
   ends_well (Some rest) now ends =

@@ -1,4 +1,4 @@
--- The names of a refusal, in what is told of it.
+-- The names of a refusal, in the report on it.
 use Rattle.std.specs.Prelude.{Bool, true, false, cond, bytes_eq, is_some}
 use Rattle.std.specs.Option.{option_map_or}
 use Rattle.std.proofs.lemmas.Option.{none-some}
@@ -17,7 +17,7 @@ use Rattle.camp_talk.specs.Laws.{TellsName}
 use Rattle.camp_talk.specs.declared.questions.Asked.TheVariants as asked
 use Rattle.camp_why.specs.Grounds.{IsGround, LacksBranch, LacksPatch}
 
--- of a branch that is not there it is told
+-- the report on a branch that does not exist names it
 told_absent : (state : Contents) (branch name : List ℕ) → branch ≡ name → catches_of state.branches name ≡ None → absent_text state branch ≡ no_branch_text name
 told_absent state branch name same none =
     ap (absent_text state) same ∙ ap (λ (found : Option (List Catch)). cond (is_some found) [] (no_branch_text name)) none

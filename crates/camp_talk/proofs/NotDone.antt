@@ -11,7 +11,7 @@ use Rattle.camp_talk.specs.Whys.{is_failure}
 use Rattle.camp_talk.specs.declared.questions.Asked.TheVariants.{Nothing}
 
 module _ (old now : Entries) (call : Call) where
-  -- where a text tells that a call was not done, by a test that the text of an accepted one does not pass
+  -- if a text says that a call was not done, by a test that the text of an accepted one fails
   pub by_reply : (fails : List ℕ → Bool) → ((at : ℕ) → fails (reply_text (reply.Done at)) ≡ false) → (text : List ℕ) → fails text ≡ true
       → (answer : Reply) → text ≡ reply_text answer → Ask repository (alone_at 0) old call (Ok answer) now → now ≡ old
   by_reply fails done text is (reply.Done at) tells asks = absurd (true≢false (sym is ∙ ap fails tells ∙ done at))

@@ -1,4 +1,4 @@
--- What is read of a command, part behind part.
+-- What is read of a command, piece by piece.
 use Rattle.camp_talk.proofs.Words.{◌≡◌, ◌≢◌, ℕ, ◌-◌, ◌<◌, Bool, true, false, cond, nat_lt, List, [], ◌∷◌, ◌++◌, length, map, take, drop, All, Consumes, Consumes-trans, drop-append_seam, take-append_seam, flat_map-append, lines_of, as_read, lines_in, Option, None, Some, refl, sym, ap, subst, ◌∙◌, append_assoc, append-nil, arith, length-append, map-append, All-append, All-cons, All-drop, All-head, All-nil, All-tail, All-take, CommandLines, Ends, GoesOn, HasRead, IsLine, ReadsLine, ReadsLines, ReadsNext, ended, with_last}
 use Rattle.camp_talk.proofs.Cuts.{lines-ended, lines_read}
 
@@ -25,7 +25,7 @@ as_read_are_lines (line ∷ lines) are =
     All-cons IsLine (as_read line) (map as_read lines) (as_read_is_line line (All-head IsLine line lines are))
     (as_read_are_lines lines (All-tail IsLine line lines are))
 
--- nothing is read of no bytes alone
+-- nothing is read of no bytes
 pub none_left : (left : List ℕ) → [] ≡ as_read left → left ≡ []
 none_left [] is = refl
 none_left (byte ∷ left) is = cc
@@ -36,7 +36,7 @@ as_read_with_last lines [] = refl
 as_read_with_last lines (byte ∷ last) = map-append as_read lines ((byte ∷ last) ∷ [])
 
 module _ (a b : Option (List ℕ)) (old new : List ℕ) (lines : List (List ℕ)) (last : List ℕ) (reads : ReadsLines a b old new lines last) where
-  -- the lines that were put behind bytes
+  -- the lines that were appended
   pub lines_held : lines_of (ended lines ++ last) ≡ with_last lines last
   lines_held =
       lines_read lines last (subst (All IsLine) (sym reads.are_read) (as_read_are_lines reads.whole reads.are_lines))
@@ -57,7 +57,7 @@ ends_behind None b c bytes consumes ends = tt
 ends_behind (Some xs) None c bytes consumes ends = absurd consumes
 ends_behind (Some xs) (Some ys) c bytes consumes ends = ends
 
--- the lines of what stands behind whole lines
+-- the lines of the rest after whole lines
 pub lines_behind : (a b : Option (List ℕ)) (old new : List ℕ) (lines : List (List ℕ)) (reads : ReadsLines a b old new lines [])
     (some : List ℕ) → lines_in ((ended reads.whole ++ reads.left) ++ some) ≡ lines ++ lines_in some
 lines_behind a b old new lines reads some =
@@ -68,7 +68,7 @@ lines_behind a b old new lines reads some =
     ∙ ap (λ (ls : List (List ℕ)). ls ++ lines_in some) (sym reads.are_read)
 
 module _ (a b c : Option (List ℕ)) (old mid new : List ℕ) where
-  -- lines behind lines
+  -- lines after lines
   pub behind : (lines more : List (List ℕ)) (last : List ℕ) → ReadsLines a b old mid lines []
       → ReadsLines b c mid new more last → ReadsLines a c old new (lines ++ more) last
   behind lines more last first then = record {
@@ -104,9 +104,9 @@ line_at a b old new line reads =
     ∙ ap (λ bytes. take (length line) (drop (length old) bytes)) all
     ∙ ap (take (length line)) (drop-append_seam old (line ++ 10 ∷ [])) ∙ take-append_seam line (10 ∷ [])
 
--- ---- lines that are handed on to a command
+-- ---- lines that are processed as part of a command
 
--- a line was read, and handed on
+-- a line was read, and processed
 module _ (a b : Option (List ℕ)) (old new given : List ℕ) (x y : CommandLines)
     (goes : (first : List ℕ) (rest : List (List ℕ)) → HasRead x first rest → HasRead y first (rest ++ given ∷ [])) where
   pub line_on : (reads : ReadsLine a b true old new) → given ≡ reads.0 → ReadsNext a b true old new x y
@@ -117,6 +117,6 @@ module _ (a b : Option (List ℕ)) (old new given : List ℕ) (x y : CommandLine
   last_on (byte ∷ last, reads, ends) is some =
       (byte ∷ last, reads, subst (λ (l : List ℕ). GoesOn x y (l ∷ [])) is goes, ends)
 
--- what had no LF
+-- the one without a line feed
 pub last_is : (a b : Option (List ℕ)) (old new : List ℕ) (reads : ReadsLine a b false old new) → drop (length old) new ≡ reads.0
 last_is a b old new (last, reads, ends) = ap (drop (length old)) reads.grows ∙ drop-append_seam old last

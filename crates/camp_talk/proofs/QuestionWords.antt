@@ -1,4 +1,4 @@
--- The first words of a question say all that it asks, where it lists no names.
+-- The first words of a question give its whole meaning, unless it lists names.
 use Rattle.camp_talk.proofs.Words.{◌≡◌, false, ℕ, List, ◌∷◌, take, refl, sym, ap, subst, ◌∙◌, Gives, ScriptFault, cond-false, Option, Result, bytes_eq, codes, question_of, short_question}
 use Rattle.camp_talk.specs.declared.questions.Question.{Question}
 

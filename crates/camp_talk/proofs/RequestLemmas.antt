@@ -1,4 +1,4 @@
--- What a request is answered, from the turns that are taken.
+-- The answer to a request, from the steps that are taken.
 use Rattle.camp_talk.specs.Accounts.{no_account}
 use Rattle.camp_talk.proofs.Words.{◌≡◌, ◌⊎◌, inl, inr, ℕ, Bool, true, false, List, [], ◌++◌, Some, Err, append-nil, append_assoc, flat_map, refl, sym, ap, ◌∙◌, Breaks, Entries, Exchange, Exchanges, Holds, IsCommand, IsLeft, ReadsCommand, Standing, Stops, Turns}
 use Rattle.camp_talk.proofs.Firsts.{command_read}
@@ -6,7 +6,7 @@ use Rattle.camp_talk.specs.Requests.{AnswersRequest, AnswersSome}
 use Rattle.camp_talk.specs.declared.faults.TalkFault.{TalkFault}
 use Rattle.camp_talk.specs.declared.faults.TalkFault.TheVariants.{Write}
 
--- a command that was read is whole, or else nothing is left behind it
+-- a command that was read is whole, or else nothing is left after it
 asked_one : (left rest : List ℕ) (whole : Bool) (command : List ℕ) → ReadsCommand (Some left) (Some rest) whole command
     → IsCommand command ⊎ (IsLeft command × (rest ≡ []))
 asked_one left rest true command (reads, is) = inl is
@@ -16,7 +16,7 @@ module _ (history : Entries) (request left rest old held new : List ℕ) (middle
   abbrev first : Standing
   first = record { history = history; lines = 0; cause = no_account }
 
-  -- behind the last command
+  -- after the last command
   pub request_answered : Holds (Some request) (Some left) (Some old) (Some held) first middle
       → Exchanges (Some left) (Some rest) (Some held) (Some new) false middle last
       → (text : List ℕ) × (new ≡ old ++ text) × AnswersRequest history request text last.history
@@ -41,7 +41,7 @@ module _ (history : Entries) (request left rest old held new : List ℕ) (middle
         },
       )
 
-  -- a turn came to a fault
+  -- a step failed
   pub request_ends : (why : TalkFault) → Holds (Some request) (Some left) (Some old) (Some held) first middle
       → Turns (Some left) (Some rest) (Some held) (Some new) middle (Err why) last
       → (text : List ℕ) × (new ≡ old ++ text) × AnswersSome history request text last.history

@@ -1,4 +1,4 @@
--- A line that is skipped asks nothing, and takes no other with it.
+-- A line that is skipped asks nothing, and no other belongs to it.
 use Rattle.camp_talk.proofs.Words.{◌≡◌, ℕ, ◌==◌, true, false, true≢false, cond, List, [], ◌∷◌, codes, Ok, refl, sym, ap, ◌∙◌, eqb-true, bytes_eq, begins_with, is_skipped, words_of, script_of_lines, asked_of, first_of, call_part, map, TakesAll, taken}
 use Rattle.std.specs.Prelude.{slice_index}
 use Rattle.camp_script.proofs.Agreement.{reads_as_defined}

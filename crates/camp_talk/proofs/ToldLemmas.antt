@@ -1,4 +1,4 @@
--- What questions are told, and what is kept of commands.
+-- Texts of answers to questions, and the diagnostics of commands.
 use Rattle.camp_talk.proofs.Words.{◌≡◌, ◌∙◌, ℕ, List, Result, Ok, Err, Vec, IfOk, ap, refl, subst, IsTold}
 use Rattle.std.specs.Prelude.{MatchResult}
 use Rattle.camp_call.specs.declared.replies.Refusal.{Refusal}
@@ -12,7 +12,7 @@ use Rattle.camp_talk.specs.Inside.Said.{TellsFound}
 use Rattle.camp_talk.specs.declared.awaited.Awaited.{Awaited}
 
 module _ {A Z E : Type 0} (text_of : A → List ℕ) (ComesTo : AnswerOf A → Type 0) where
-  -- what was found is told, and the question comes to that
+  -- the text reports what was found, which is the result of the question
   found_told : (found : Result A Unanswered) (said : Result (Vec ℕ Z) E)
       → ((answer : A) → found ≡ Ok answer → ComesTo (Ok answer))
       → ((refusal : Refusal) → found ≡ Err (fault.Refused refusal) → ComesTo (Err refusal))
@@ -43,7 +43,7 @@ along_told text_of state from to names found said tells =
 abbrev kept_with : Awaited → List ℕ → Account
 kept_with awaited told = record { told = told; awaited = awaited }
 
--- lines that were made are kept, with the lines that are awaited
+-- lines that were made are stored, with the lines that may still come
 pub account_told : {Z E F : Type 0} (made : Result (Vec ℕ Z) E) (said : Result Account F) (told : List ℕ) (awaited : Awaited)
     → IfOk made (λ text. text.items ≡ told)
     → IfOk said (λ account. MatchResult made (λ text. account ≡ record { told = text.items; awaited = awaited }) (λ _. ⊥))

@@ -1,4 +1,4 @@
--- Turns of a conversation, one behind another.
+-- Steps of a conversation, one after the other.
 use Rattle.camp_talk.proofs.Words.{refl, sym, ap, subst, ◌∙◌, ◌≢◌, ⊎_elim, cases_Bool, append-nil, flat_map, flat_map-append, Gives, lines_of, LineFault, ScriptFault, Answers, Standing, Tells, TellsWant, asked_by, IsCommand, IsLeft, Entries, IsReading, IsSaid, IsWriting, Learns, LearnsOf, lines_in, is_silent, said_text, Asked, ◌≡◌, ◌≤◌, ◌⊎◌, inl, inr, ℕ, ◌+◌, ◌^◌, Bool, true, false, List, [], ◌∷◌, ◌++◌, length, Option, Result, Ok, Err, Vec, IfOk, OnErr, Appends, Consumes, Appends-nil, Appends-trans, Consumes-nil, Consumes-trans, Exchange, Exchanges, Follow, Holds, ReadsNone, ReadsTooMuch, ReadsWithin, Stops, Turns}
 use Rattle.std.specs.Io.KnownBytes.{Keeps}
 use Rattle.camp_talk.specs.Accounts.{Account}
@@ -9,13 +9,13 @@ use Rattle.camp_talk.specs.declared.faults.TalkFault.{TalkFault}
 use Rattle.camp_talk.specs.declared.questions.Asked.TheVariants.{Nothing}
 use Rattle.camp_talk.specs.declared.faults.TalkFault.TheVariants.{Memory, Read, Write}
 
--- what is kept by the lines of a command is what is kept of it
+-- the diagnostic by the lines of a command is its diagnostic
 learns_so : (before : Standing) (command text : List ℕ) (cause : Account) (fails : Bool)
     → LearnsWith fails before (lines_in command) (asked_by command) text cause → LearnsAt fails before command text cause
 learns_so before command text cause true learns = learns
 learns_so before command text cause false learns = learns
 
--- what is said is what a command is answered
+-- the text that is written is the answer to the command
 module _ {Z E : Type 0} (before : Standing) (now : Entries) (cause : Account) (command : List ℕ) (lines : List (List ℕ))
     (asked : Result Asked ScriptFault) (gives : Gives asked (asked_by command)) (same : lines ≡ lines_in command) where
   pub said_so : (said : Result (Vec ℕ Z) E)

@@ -1,4 +1,4 @@
--- What a view tells, command by command.
+-- The answers of a view, command by command.
 use Rattle.camp_talk.proofs.Words.{◌≡◌, ℕ, true, false, List, [], ◌∷◌, ◌++◌, length, Some, ap, append-nil, append_assoc, flat_map, flat_map-append, refl, subst, sym, take, take-append_seam, ◌∙◌, Call, Exchange, IsCommand, IsNotWriting, IsReading}
 use Rattle.camp_talk.specs.Inside.Viewing.{HoldsView, SeesTurn}
 use Rattle.camp_talk.specs.Views.{AnswersView, Sees, SeesAll}
@@ -11,7 +11,7 @@ use Rattle.camp_repo.specs.Objects.{next_of}
 use Rattle.camp_repo.specs.States.{Contents}
 use Rattle.camp_repo.specs.Steps.{step}
 
--- only a call that writes leads on
+-- only a call that writes leads to a next state
 pub leads_on : (state : Contents) (call : Call) (next : Contents) → step state call ≡ Next next → is_writing call ≡ true
 leads_on state call next is = repository_is_lawful.writes state call next (ap next_of is)
 
@@ -21,18 +21,18 @@ commands said = flat_map (λ (exchange : Exchange). exchange.command) said
 abbrev answers : List Exchange → List ℕ
 answers said = flat_map (λ (exchange : Exchange). exchange.answer) said
 
--- one more behind others
+-- one more after others
 one_behind : (part : Exchange → List ℕ) (said : List Exchange) (more : Exchange)
     → flat_map part said ++ part more ≡ flat_map part (said ++ more ∷ [])
 one_behind part said more =
     ap (λ bytes. flat_map part said ++ bytes) (sym (append-nil (part more))) ∙ sym (flat_map-append part said (more ∷ []))
 
--- where reading failed, no writer did
+-- if reading failed, no writer did
 pub not_writing : (why : TalkFault) → IsReading why → IsNotWriting why
 not_writing Internal is = absurd is
 not_writing other is = is
 
--- what was put behind an answer is taken back
+-- bytes that were appended to an answer are removed again
 pub taken_back : (old more new : List ℕ) → new ≡ old ++ more → take (length old) new ≡ old
 taken_back old more new is = ap (λ bytes. take (length old) bytes) is ∙ take-append_seam old more
 
@@ -68,7 +68,7 @@ module _ (state : Contents) where
               ∙ ap (λ bytes. old ++ bytes) (one_behind (λ (exchange : Exchange). exchange.answer) holds.said more);
         }
 
-    -- behind the last command
+    -- after the last command
     pub view_answered : HoldsView request left old held state middle
         → SeesTurn (Some left) (Some rest) held new state middle false last
         → (text : List ℕ) × (new ≡ old ++ text) × AnswersView state request text

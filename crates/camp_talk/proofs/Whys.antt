@@ -1,4 +1,4 @@
--- The causes that are told.
+-- The causes in a report.
 use Rattle.std.proofs.lemmas.Fmt.{decimal_digit, decimal_step}
 use Rattle.std.specs.Fmt.{decimal}
 use Rattle.std.specs.Prelude.{◌%◌, ◌/◌}

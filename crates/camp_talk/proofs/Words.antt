@@ -1,4 +1,4 @@
--- Words that the proofs of this crate have in common: of the standard library, of definitions, and of crates below.
+-- The words that most proofs of this crate use.
 pub use Rattle.std.proofs.Common.{Bool, Err, IfOk, List, None, Ok, OnErr, Option, Result, Some, Vec, [], ap, append-nil, append_assoc, arith, codes, cond, drop, eqb-true, false, inl, inr, length, length-append, length-take, length-take-le, map, min, nat_lt, ne_eqb, not, refl, rules, subst, suc, sym, take, take-take, take_all, true, true≢false, zero, zero-le, ℕ, ⊎_elim, ◌++◌, ◌+◌, ◌-◌, ◌<◌, ◌==◌, ◌^◌, ◌∙◌, ◌∷◌, ◌≡◌, ◌≢◌, ◌≤◌, ◌⊎◌}
 pub use Rattle.std.proofs.KnownBytes.{Appends-nil, Appends-trans, Consumes-kept, Consumes-nil, Consumes-trans, Keeps-refl}
 pub use Rattle.std.proofs.Math.Seq.{drop-append_seam, take-append_seam}

@@ -1,4 +1,4 @@
--- What a conversation keeps for `why`.
+-- The state that a conversation keeps for `why`.
 use Rattle.std.specs.Prelude.{ℕ, Bool, true, false, ◌||◌, ◌==◌, List, [], ◌∷◌, length, bytes_eq, codes, if◌then◌else◌}
 use Rattle.camp_script.specs.Behind.{behind_word}
 use Rattle.camp_script.specs.Lines.{words_of}
@@ -9,7 +9,7 @@ use Rattle.camp_why.specs.Hints.{begins_signed, call_part, first_word}
 
 -- ---- the lines of a command that was cut off
 
--- whether a line of it may still come
+-- a line of the cut-off command may still come
 abbrev pub awaits_some : Awaited → Bool
 awaits_some Nothing = false
 awaits_some Signed = true
@@ -17,7 +17,7 @@ awaits_some Body = true
 awaits_some Group = true
 awaits_some GroupBody = true
 
--- whether a line may be one of it
+-- a line may be one of it
 abbrev pub may_be : Awaited → List ℕ → Bool
 may_be Nothing line = false
 may_be Signed line = begins_signed line
@@ -25,7 +25,8 @@ may_be Body line = true
 may_be Group line = true
 may_be GroupBody line = true
 
--- which may come behind a line: as in a command that is not cut off, a body ends with `end`, and a group with `done`
+-- the lines that may come after a line: as in a command that is not cut off, a body ends with `end`, and a group with
+-- `done`
 abbrev pub awaited_after : Awaited → List ℕ → Awaited
 awaited_after Nothing line = Nothing
 awaited_after Signed line = Body
@@ -35,16 +36,16 @@ awaited_after Group line =
     if begins_edit (words_of line) then GroupBody
     else (if begins_with (codes "done") (words_of line) then Nothing else Group)
 
--- whether a word is one of three: small, with a capital letter, and in capitals
+-- a word is one of three: in small letters, with a capital letter, and in capitals
 abbrev pub is_form : List ℕ → List ℕ → List ℕ → List ℕ → Bool
 is_form small capital capitals word = bytes_eq word small || (bytes_eq word capital || bytes_eq word capitals)
 
--- whether a line is a record, by its first word; of one behind `whatif`, by that behind it
+-- a line is a record, by its first word; after `whatif`, by the word after that
 abbrev pub is_record : List ℕ → Bool
 is_record line =
     is_form (codes "record") (codes "Record") (codes "RECORD") (first_word (words_of (call_part line)))
 
--- whether the first word of a line is client, or that of a command which may be unknown by what stands behind it
+-- the first word of a line is `client`, or that of a command which may be unknown only because of the words after it
 abbrev pub begins_command : List ℕ → Bool
 begins_command line =
     is_record line
@@ -52,22 +53,22 @@ begins_command line =
     || (begins_with (codes "whatif") (words_of line)
     || begins_with (codes "client") (words_of line)))
 
--- whether a word of a record says that no lines follow
+-- a word of a record says that no lines follow
 abbrev pub is_short : List ℕ → Bool
 is_short word =
     is_form (codes "add") (codes "Add") (codes "ADD") word || is_form (codes "remove") (codes "Remove") (codes "REMOVE") word
 
--- whether it says that those of a group do, also where LF has CR before it
+-- it says that those of a group follow, also if there is a carriage return before the line feed
 abbrev pub is_group : List ℕ → Bool
 is_group word =
     is_form (codes "group") (codes "Group") (codes "GROUP") word
     || is_form (codes "group\r") (codes "Group\r") (codes "GROUP\r") word
 
--- whether it says that those of a body do
+-- it says that those of a body follow
 abbrev pub is_edit : List ℕ → Bool
 is_edit word = is_form (codes "edit") (codes "Edit") (codes "EDIT") word
 
--- which lines follow, by the first of some words that says it; else these
+-- the lines that follow, by the first of some words that says it; else these
 abbrev pub said_in : List (List ℕ) → Awaited → Awaited
 said_in [] other = other
 said_in (word ∷ words) other =
@@ -76,24 +77,25 @@ said_in (word ∷ words) other =
     else (if is_edit word then Body
     else said_in words other))
 
--- which lines follow a record, by what stands behind its branch: by the words behind the name, as its change is one of
--- them; else by the word in the place of the name, which may be forgotten; else a line with a sign, and then a body
+-- the lines that follow a record, by the rest of its line after the branch: by the words after the name, if its
+-- change is one of them; else by the word in the place of the name, which may have been left out; else a line with a
+-- sign, followed by a body
 abbrev pub left_behind : List ℕ → Awaited
 left_behind line = said_in (words_of (behind_word line)) (said_in (words_of line) Signed)
 
--- which lines follow a line that is cut off from them, where it is a record, or may be one that is misspelt
+-- the lines that follow a line that is cut off from them, if it is a record, or may be a misspelt one
 abbrev pub left_by : List ℕ → Awaited
 left_by line = left_behind (behind_word (behind_word (call_part line)))
 
--- ---- what is kept
+-- ---- the diagnostic and the recovery state
 
--- what is kept of the last fault or refusal: the lines that tell why, none where there was none; and which lines of its
--- command may still come, where that is a record that was cut off by a fault in its first line, or may be one
+-- the diagnostic of the last fault or refusal: the lines that `why` shows, none if there was none; and the lines of
+-- its command that may still come, if that is a record that was cut off by a fault in its first line, or may be one
 pub record Account : Type 0 where
   pub told : List ℕ
   pub awaited : Awaited
 
--- of no fault and no refusal
+-- the state before any fault or refusal
 abbrev pub no_account : Account
 no_account = record { told = []; awaited = Nothing }
 
@@ -101,14 +103,14 @@ no_account = record { told = []; awaited = Nothing }
 abbrev pub closed : Account → Account
 closed account = record { told = account.told; awaited = Nothing }
 
--- the same lines; one of its command came
+-- the same lines, after one of its command came
 abbrev pub passed : Account → List ℕ → Account
 passed account line = record { told = account.told; awaited = awaited_after account.awaited line }
 
--- whether an answer leaves a conversation at its place: there is none, or memory ran out
+-- an answer leaves the state as it is: it is empty, or out of memory
 abbrev pub leaves_place : List ℕ → Bool
 leaves_place answer = length answer == 0 || bytes_eq answer (codes "memory\n")
 
--- what is kept behind an answer that is no fault and no refusal
+-- the state after an answer that is neither a fault nor a refusal
 abbrev pub kept_behind : List ℕ → Account → Account
 kept_behind answer account = if leaves_place answer then account else closed account

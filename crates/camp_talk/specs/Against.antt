@@ -1,4 +1,4 @@
--- What stands against a command that is refused: the branches that it names, what is there, and what is not.
+-- What prevents a command that is refused: the branches that it names, and what exists and what does not.
 use Rattle.std.specs.Prelude.{ℕ, Bool, false, List, [], ◌∷◌, ◌++◌, length, filter, take, nat_lt, bytes_eq, Option, None, Some, codes, if◌then◌else◌, is_some}
 use Rattle.std.specs.List.{flat_map}
 use Rattle.std.specs.Option.{option_map_or}
@@ -26,7 +26,7 @@ abbrev pub place_word : Place → List ℕ
 place_word From = codes "FROM"
 place_word Branch = codes "BRANCH"
 
--- the branch from which a call takes something, or that it is about, and the place where it names it
+-- the branch from which a call takes something, or that it is about, and its word
 abbrev pub call_about : Call → Place × List ℕ
 call_about (call.Branch new from) = (From, from)
 call_about (call.Record branch name changes) = (Branch, branch)
@@ -51,7 +51,7 @@ question_about (question.File branch path) = Some (Branch, branch)
 question_about (question.Graph branch names) = Some (Branch, branch)
 question_about other = None
 
--- the same of a command, where it names a branch
+-- the same of a command, if it names a branch
 abbrev pub about : Asked → Option (Place × List ℕ)
 about (asked.Call call) = Some (call_about call)
 about (asked.Question question) = question_about question
@@ -64,7 +64,7 @@ target (asked.Question (question.Missing from to)) = Some to
 target (asked.Question (question.Along from to names)) = Some to
 target other = None
 
--- the first listed patch that a branch lacks, where there is a list
+-- the first listed patch that a branch lacks, if there is a list
 abbrev pub first_lacked_of : List Catch → Option (List (List ℕ)) → Option (List ℕ)
 first_lacked_of catches None = None
 first_lacked_of catches (Some names) = first_lacked catches names
@@ -92,23 +92,23 @@ lacks catches other = None
 abbrev pub most_names : ℕ
 most_names = 20
 
--- a name behind a blank
+-- a name after a blank
 abbrev pub spaced_name : List ℕ → List ℕ
 spaced_name name = codes " " ++ name
 
--- that there are more names than the line has
+-- text: there are more names than the line has
 abbrev pub more_names : List (List ℕ) → List ℕ
 more_names names = if nat_lt most_names (length names) then codes " .." else []
 
--- words, and names behind them: so many at most, and `..` where there are more
+-- words followed by names: at most a limit, then `..` if there are more
 abbrev pub names_line : List ℕ → List (List ℕ) → List ℕ
 names_line words names = words ++ flat_map spaced_name (take most_names names) ++ more_names names ++ codes "\n"
 
--- the branches that there are
+-- text: the branches
 abbrev pub branches_line : Contents → List ℕ
 branches_line state = names_line (codes "Branches:") (branch_names state)
 
--- whether a branch has a patch
+-- a branch has a patch
 abbrev pub holds : Contents → List ℕ → List ℕ → Bool
 holds state name branch = option_map_or (λ catches. has_patch catches name) (catches_of state.branches branch) false
 
@@ -116,60 +116,60 @@ holds state name branch = option_map_or (λ catches. has_patch catches name) (ca
 abbrev pub holders : Contents → List ℕ → List (List ℕ)
 holders state name = filter (holds state name) (branch_names state)
 
--- which branches these are, or that there is none
+-- text: these branches, or that there is none
 abbrev pub holders_line : List ℕ → List (List ℕ) → List ℕ
 holders_line name [] = codes "No branch has " ++ name ++ codes ".\n"
 holders_line name (branch ∷ branches) = names_line (codes "Branches with " ++ name ++ codes ":") (branch ∷ branches)
 
--- ---- what is there, and what is not
+-- ---- what exists, and what does not
 
--- that the branch TO is this one, where there is one
+-- text: the branch TO is this one, if there is one
 abbrev pub target_text : Option (List ℕ) → List ℕ
 target_text None = []
 target_text (Some to) = codes ", and TO is " ++ to
 
--- which branches a command names as FROM, as BRANCH and as TO
+-- text: the branches that a command names as FROM, as BRANCH and as TO
 abbrev pub sides_text : Option (Place × List ℕ) → Option (List ℕ) → List ℕ
 sides_text None to = []
 sides_text (Some place) to = place_word place.0 ++ codes " is " ++ place.1 ++ target_text to ++ codes ".\n"
 
--- that there is no branch of a name
+-- text: there is no branch of a name
 abbrev pub no_branch_text : List ℕ → List ℕ
 no_branch_text branch = codes "There is no branch " ++ branch ++ codes ".\n"
 
--- the same, where there is none
+-- the same, if there is none
 abbrev pub absent_text : Contents → List ℕ → List ℕ
 absent_text state branch = if is_some (catches_of state.branches branch) then [] else no_branch_text branch
 
--- the branch TO, where it is another one
+-- the branch TO, if it is another one
 abbrev pub other_target : Option (Place × List ℕ) → Option (List ℕ) → Option (List ℕ)
 other_target None to = to
 other_target (Some place) None = None
 other_target (Some place) (Some to) = if bytes_eq place.1 to then None else Some to
 
--- of the branches that a command names, which are not there
+-- text: the branches that a command names and that do not exist
 abbrev pub absent_sides : Contents → Option (Place × List ℕ) → Option (List ℕ) → List ℕ
 absent_sides state place to =
     option_map_or (λ side. absent_text state side.1) place [] ++ option_map_or (absent_text state) (other_target place to) []
 
--- that the branch which a call would make is there, where it is
+-- text: the branch that a call would create exists, if it does
 abbrev pub new_text : Contents → Asked → List ℕ
 new_text state (asked.Call (call.Branch new from)) =
     if is_some (catches_of state.branches new) then codes "There is a branch " ++ new ++ codes ".\n" else []
 new_text state other = []
 
--- which branches have the patch that a call would record
+-- text: the branches that have the patch that a call would record
 abbrev pub recorded_text : Contents → Asked → List ℕ
 recorded_text state (asked.Call (call.Record branch name changes)) = holders_line name (holders state name)
 recorded_text state other = []
 
--- what can be done where it is there: it is pulled, unless it is there in the branch itself
+-- the hint if the patch exists: pull it, unless the branch itself has it
 abbrev pub record_cure : Contents → Asked → List ℕ
 record_cure state (asked.Call (call.Record branch name changes)) =
     if holds state name branch then page (codes "Take another name." ∷ []) else cure reason.PatchExists
 record_cure state other = cure reason.PatchExists
 
--- which patches of FROM are those that a pull would bring, and TO has all
+-- text: the patches of FROM that a pull would bring, if TO has all
 abbrev pub had_text : Option (List (List ℕ)) → List ℕ
 had_text None = []
 had_text (Some []) = page (codes "FROM has no patch." ∷ [])
@@ -181,30 +181,30 @@ nothing_text state (asked.Call (call.Pull from to names)) =
     had_text (option_map_or (λ catches. Some (listed catches names)) (catches_of state.branches from) None)
 nothing_text state other = []
 
--- what can be done where one patch stands on another: both are pulled, or both are taken out
+-- the hint if one patch depends on another: pull both, or take both out
 abbrev pub depends_cure : Asked → List ℕ
 depends_cure (asked.Call (call.Obliterate branch names)) = page (codes "List PATCH too; held tells all that has to go." ∷ [])
 depends_cure other = page (codes "List ON too; along tells all that a pull has to list." ∷ [])
 
--- that there is no patch of a name, behind the word for what lacks it
+-- text: there is no patch of a name, after the word for what lacks it
 abbrev pub no_patch_text : List ℕ → List ℕ
 no_patch_text name = codes " has no patch " ++ name ++ codes ".\n"
 
--- that a branch lacks a patch
+-- text: a branch lacks a patch
 abbrev pub lack_line : List ℕ → List ℕ → List ℕ
 lack_line branch name = codes "Branch " ++ branch ++ no_patch_text name
 
--- the same, and which have it
+-- the same, and which branches have it
 abbrev pub lack_text : Contents → List ℕ → Option (List ℕ) → List ℕ
 lack_text state branch None = []
 lack_text state branch (Some name) = lack_line branch name ++ holders_line name (holders state name)
 
--- the same of the first patch that a command names and the branch lacks, by the catches that this has
+-- the same of the first patch that a command names and the branch lacks, given its catches
 abbrev pub lack_in : Contents → Asked → List ℕ → Option (List Catch) → List ℕ
 lack_in state asked branch None = []
 lack_in state asked branch (Some catches) = lack_text state branch (lacks catches asked)
 
--- the same of a command, where it names a branch
+-- the same of a command, if it names a branch
 abbrev pub lacked_text : Contents → Asked → Option (Place × List ℕ) → List ℕ
 lacked_text state asked None = []
 lacked_text state asked (Some place) = lack_in state asked place.1 (catches_of state.branches place.1)

@@ -1,4 +1,4 @@
--- What answers a command, by where a conversation stands.
+-- The answer to a command, by the state of the session.
 use Rattle.std.specs.Prelude.{◌≡◌, ◌⊎◌, ℕ, ◌+◌, Bool, true, false, List, [], ◌++◌, length, Some, Result, Ok, Err, codes}
 use Rattle.std.specs.Fmt.{decimal}
 use Rattle.camp_call.specs.declared.calls.Call.{Call}
@@ -21,30 +21,30 @@ use Rattle.camp_talk.specs.Whys.{cause_of, is_failure, why_told}
 use Rattle.camp_talk.specs.declared.questions.Asked.{Asked}
 use Rattle.camp_talk.specs.declared.questions.Asked.TheVariants as asked
 
--- where a conversation stands: the calls that were accepted, how many lines were read, and what is kept of the last fault
--- or refusal
+-- the state of a session: the accepted calls, the number of lines that were read, and the diagnostic of the last
+-- fault or refusal
 pub record Standing : Type 0 where
   pub history : Entries
   pub lines : ℕ
   pub cause : Account
 
--- the answer to a command with a fault: its line, and what is wrong with it
+-- the answer to a command with a fault: its line, and the kind of the fault
 abbrev pub fault_text : ℕ → FaultKind → List ℕ
 fault_text line kind = (codes "fault " ++ decimal line ++ codes " " ++ kind_words kind) ++ codes "\n"
 
--- the answer where memory ran out
+-- the answer if memory ran out
 abbrev pub memory_text : List ℕ
 memory_text = codes "memory\n"
 
--- a call is asked where nobody else asks: the text is that of the reply, and this is the history behind it
+-- a call is executed while nobody else asks: the text is that of the reply, and this is the history after it
 pub record Replies (seen : Entries) (call : Call) (text : List ℕ) (now : Entries) : Type 0 where
   pub reply : Reply
   pub asks : Ask repository (alone_at 0) seen call (Ok reply) now
   pub tells : text ≡ reply_text reply
 
--- what is asked is answered: a fault, by its line, counted from the beginning of the conversation; nothing, where
--- nothing is asked; a call, by its reply; a question, by what it is told; `why`, by the cause of the last
--- fault or refusal. Only a call can lengthen the history.
+-- the answer to a parsed command: a fault, by its line, counted from the start of the conversation; nothing, if
+-- nothing is asked; a call, by its reply; a question, by its result; `why`, by the diagnostic of the last fault or
+-- refusal. Only a call can add to the history.
 abbrev pub Tells : Standing → Result Asked LineFault → List ℕ → Entries → Type 0
 Tells before (Err fault) text now = (text ≡ fault_text (before.lines + fault.line) fault.kind) × (now ≡ before.history)
 Tells before (Ok asked.Nothing) text now = (text ≡ []) × (now ≡ before.history)
@@ -52,8 +52,8 @@ Tells before (Ok (asked.Call call)) text now = Replies before.history call text 
 Tells before (Ok (asked.Question question)) text now = TellsQuestion before.history question text × (now ≡ before.history)
 Tells before (Ok asked.Why) text now = (text ≡ why_told before.cause.told) × (now ≡ before.history)
 
--- what is kept for `why`: of an answer that is a fault or a refusal its cause, at the state that the command met; and
--- behind any other the lines that were kept before
+-- the diagnostic after an answer: of a fault or a refusal its cause, at the state before the command; after any other
+-- answer the lines from before
 abbrev pub LearnsAt : Bool → Standing → List ℕ → List ℕ → Account → Type 0
 LearnsAt true before command text cause =
     (state : Contents) × (replay repository before.history ≡ Some state) × (cause ≡ cause_of before.cause state command text)
@@ -63,16 +63,15 @@ LearnsAt false before command text cause = cause ≡ kept_behind text before.cau
 abbrev pub Learns : Standing → List ℕ → List ℕ → Account → Type 0
 Learns before command text cause = LearnsAt (is_failure text) before command text cause
 
--- whether a command asks nothing, by its first line: that is blank, or a comment, or there is none
+-- a command asks nothing, by its first line: that is blank, or a comment, or there is none
 abbrev pub is_silent : List ℕ → Bool
 is_silent command = is_skipped (words_of (first_of (lines_in command)))
 
--- memory ran out for a command that asks something, and that is told: nothing has changed
+-- a command that asks something ran out of memory, and this is reported: nothing has changed
 abbrev pub TellsWant : Standing → List ℕ → List ℕ → Entries → Type 0
 TellsWant before command text now = (is_silent command ≡ false) × (text ≡ memory_text) × (now ≡ before.history)
 
--- a command is answered: what it asks is, unless memory ran out; its lines were read; and where it was not done, the
--- cause is kept
+-- a command is answered, unless memory ran out; its lines were read; and if it was not done, its diagnostic is kept
 pub record Answers (before : Standing) (command text : List ℕ) (after : Standing) : Type 0 where
   pub tells : Tells before (asked_by command) text after.history ⊎ TellsWant before command text after.history
   pub counts : after.lines ≡ before.lines + length (lines_of command)

@@ -1,4 +1,4 @@
--- What a command asks: nothing, a call, a question, or the cause of the last fault or refusal.
+-- Parsed commands: nothing, a call, a question, or `why`.
 use Rattle.std.specs.Prelude.{ℕ, List, [], ◌∷◌, Option, None, Some, Result, Ok, Bool, ◌||◌, bytes_eq, codes, if◌then◌else◌}
 use Rattle.std.specs.List.{find}
 use Rattle.camp_call.specs.declared.calls.Call.{Call}
@@ -19,7 +19,7 @@ use Rattle.camp_talk.specs.declared.questions.Question.TheVariants as question
 use Rattle.camp_talk.specs.declared.questions.Topic.{Topic}
 use Rattle.camp_talk.specs.declared.questions.Topic.TheVariants as topic
 
--- ---- the words behind the first of a question
+-- ---- the words of a question after its first
 
 -- a branch and a name: one of a branch, or of a patch
 abbrev pub two_names : List (List ℕ) → Result (List ℕ × List ℕ) LineFault
@@ -31,7 +31,7 @@ abbrev pub branch_and_path : List (List ℕ) → Result (List ℕ × List ℕ) L
 branch_and_path words =
     two_words 1 words >>= λ pair. name_at 1 pair.0 >>= λ branch. path_at 1 pair.1 >>= λ path. Ok (branch, path)
 
--- a branch, and a name at least
+-- a branch, and at least one name
 abbrev pub branch_and_names : List (List ℕ) → Result (List ℕ × List (List ℕ)) LineFault
 branch_and_names (branch ∷ name ∷ names) =
     name_at 1 branch >>= λ branch. names_at 1 (name ∷ names) >>= λ names. Ok (branch, names)
@@ -43,17 +43,17 @@ branch_and_any_names (branch ∷ names) =
     name_at 1 branch >>= λ branch. names_at 1 names >>= λ names. Ok (branch, names)
 branch_and_any_names others = fault_at 1 WrongNumberOfWords
 
--- two branches, and a name at least
+-- two branches, and at least one name
 abbrev pub branches_and_names : List (List ℕ) → Result (List ℕ × List ℕ × List (List ℕ)) LineFault
 branches_and_names (from ∷ to ∷ name ∷ names) =
     name_at 1 from >>= λ from. name_at 1 to >>= λ to. names_at 1 (name ∷ names) >>= λ names. Ok (from, to, names)
 branches_and_names others = fault_at 1 WrongNumberOfWords
 
--- a branch alone
+-- a branch only
 abbrev pub branch_alone : List (List ℕ) → Result (List ℕ) LineFault
 branch_alone words = one_word 1 words >>= name_at 1
 
--- the first of some lines; an empty one, where there is none
+-- the first of some lines, or an empty one
 abbrev pub first_of : List (List ℕ) → List ℕ
 first_of [] = []
 first_of (first ∷ rest) = first
@@ -79,30 +79,30 @@ first_numbered number reasons = find (λ reason. bytes_eq (number_of reason) num
 abbrev pub reason_at : List ℕ → Option Reason
 reason_at number = first_numbered number reasons
 
--- the refusal of a reason; a number that has none is a bad one
+-- the refusal of a reason; a number without a reason is a bad one
 abbrev pub reason_topic : Option Reason → Result Topic LineFault
 reason_topic None = fault_at 1 BadNumber
 reason_topic (Some reason) = Ok (topic.Refusal reason)
 
--- the refusal that help is asked for by `refused` and its number
+-- the refusal for which `help refused NUMBER` asks
 abbrev pub refusal_topic : List ℕ → List ℕ → Result Topic LineFault
 refusal_topic word number =
     if bytes_eq word (codes "refused") then reason_topic (reason_at number) else fault_at 1 WrongNumberOfWords
 
--- what help is asked for by one word: all refusals, or a command
+-- the topic of help with one word: all refusals, or a command
 abbrev pub word_topic : List ℕ → Result Topic LineFault
 word_topic word = if bytes_eq word (codes "refused") then Ok topic.Refusals else topic_at word
 
--- what help is asked for: a refusal, all refusals, one command, or else all
+-- the topic of help: a refusal, all refusals, one command, or else all commands
 abbrev pub help_line : List (List ℕ) → Result Topic LineFault
 help_line [] = Ok topic.Commands
 help_line (word ∷ []) = word_topic word
 help_line (word ∷ number ∷ []) = refusal_topic word number
 help_line others = fault_at 1 WrongNumberOfWords
 
--- ---- the question that a first word and those behind it ask, if they ask one
+-- ---- the question of a first word and those after it, if they ask one
 
--- one that has no words of patches behind it
+-- a question without a list of patches
 abbrev pub plain_question : List ℕ → List (List ℕ) → Result (Option Question) LineFault
 plain_question word words =
     if bytes_eq word (codes "history") then (no_words 1 words >>= λ none. Ok (Some question.History))
@@ -134,7 +134,7 @@ short_question word words =
     then (branch_and_path words >>= λ pair. Ok (Some (question.Annotate pair.0 pair.1)))
     else conflict_question word words))
 
--- any but `whatif`
+-- any question but `whatif`
 abbrev pub question_of : List ℕ → List (List ℕ) → Result (Option Question) LineFault
 question_of word words =
     if bytes_eq word (codes "needs")
@@ -147,47 +147,48 @@ question_of word words =
     then (branch_and_any_names words >>= λ pair. Ok (Some (question.Graph pair.0 pair.1)))
     else short_question word words)))
 
--- ---- what a command asks
+-- ---- the parsed command
 
--- the call that is asked by a script of one section, if it has one; a line `client`, which begins another section, is no
--- command of a conversation
+-- the call of a script of one section, if it has one; a line `client`, which begins another section, is not a command
+-- of a conversation
 abbrev pub call_in : List (List Call) → Result (Option Call) LineFault
 call_in ((call ∷ calls) ∷ []) = Ok (Some call)
 call_in ([] ∷ []) = Ok None
 call_in sections = fault_at 1 UnknownCommand
 
--- what is asked by the call that there is, if there is one
+-- the parsed command of a call, if there is one
 abbrev pub asked_call : Option Call → Asked
 asked_call None = asked.Nothing
 asked_call (Some call) = asked.Call call
 
--- what is asked by a script
+-- the parsed command of a script
 abbrev pub asked_in : List (List Call) → Result Asked LineFault
 asked_in script = call_in script >>= λ call. Ok (asked_call call)
 
--- it is asked what the call that there is would do; there must be one
+-- the question what a call would do; there must be one
 abbrev pub foreseen_call : Option Call → Result Asked LineFault
 foreseen_call None = fault_at 1 UnknownCommand
 foreseen_call (Some call) = Ok (asked.Question (question.WhatIf call))
 
--- what is asked by a script behind `whatif`
+-- the parsed command of a script after `whatif`
 abbrev pub foreseen_in : List (List Call) → Result Asked LineFault
 foreseen_in script = call_in script >>= foreseen_call
 
--- what is asked where the first word is not `whatif`: a question, or else the call of a script
+-- the parsed command if the first word is not `whatif`: a question, or else the call of a script
 abbrev pub question_or_call : Result (List (List Call)) LineFault → Option Question → Result Asked LineFault
 question_or_call script None = script >>= asked_in
 question_or_call script (Some question) = Ok (asked.Question question)
 
--- whether a word asks for the cause of the last fault or refusal; where CR before LF is that cause, it has CR too
+-- a word asks for the diagnostic of the last fault or refusal; if that is a carriage return at the end of a line, it
+-- has one too
 abbrev pub is_why : List ℕ → Bool
 is_why word = bytes_eq word (codes "why") || bytes_eq word (codes "why\r")
 
--- that it is asked, where no word stands behind
+-- this question, if no word follows
 abbrev pub why_of : List (List ℕ) → Result Asked LineFault
 why_of words = no_words 1 words >>= λ none. Ok asked.Why
 
--- what is asked by the words of a first line, and the script that the call of the command is
+-- the parsed command, by the words of a first line, and the script of its call
 abbrev pub asked_with : List (List ℕ) → Result (List (List Call)) LineFault → Result Asked LineFault
 asked_with [] script = script >>= asked_in
 asked_with (word ∷ words) script =
@@ -195,10 +196,10 @@ asked_with (word ∷ words) script =
     else (if is_why word then why_of words
     else (question_of word words >>= question_or_call script))
 
--- what a command of these lines asks, or its fault
+-- the parsed command of these lines, or their fault
 abbrev pub asked_of : List (List ℕ) → Result Asked LineFault
 asked_of lines = asked_with (words_of (first_of lines)) (script_in lines)
 
--- what a command asks, or its fault
+-- the parsed command of bytes, or their fault
 abbrev pub asked_by : List ℕ → Result Asked LineFault
 asked_by command = asked_of (lines_in command)

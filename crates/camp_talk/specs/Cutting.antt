@@ -1,4 +1,4 @@
--- How the lines of a conversation fall into commands: a first line, and those that it takes with it.
+-- How the lines of a conversation are grouped into commands: a first line, and those that belong to it.
 use Rattle.std.specs.Prelude.{◌≡◌, ℕ, nat_lt, List, [], ◌∷◌, ◌++◌, length, map, take, drop, Result, codes, if◌then◌else◌}
 use Rattle.camp_base.specs.Limits.{longest_line}
 use Rattle.camp_base.specs.Signs.{newline}
@@ -9,13 +9,13 @@ use Rattle.camp_script.specs.Reading.{script_of_lines}
 use Rattle.camp_script.specs.declared.faults.LineFault.{LineFault}
 use Rattle.camp_why.specs.Hints.{call_part}
 
--- bytes of a line that is read whole
+-- bytes of the longest line that is read whole
 abbrev pub longest_read : ℕ
 longest_read = 1_048_576
 
--- a line as it is read. A longer one than that is too long: its first byte is read, `?` in place of the second, and then
--- as many bytes as a line of a file has at most. So it begins no command; in a body it has the fault of a line that is
--- too long, where it has a sign; and a comment stays one, where `#` is its first byte.
+-- a line as it is read. Of a longer one the first byte is read, `?` instead of the second, and then as many bytes as
+-- the longest line of a file has. So it begins no command; in a body it has the fault of a line that is too long, if
+-- it has a sign; and a comment stays one, if `#` is its first byte.
 abbrev pub as_read : List ℕ → List ℕ
 as_read [] = []
 as_read (first ∷ rest) =
@@ -30,15 +30,15 @@ abbrev pub call_lines : List (List ℕ) → List (List ℕ)
 call_lines [] = []
 call_lines (first ∷ rest) = call_part first ∷ rest
 
--- the script that the call of a command is, by its lines
+-- the script of the call of a command, by its lines
 abbrev pub script_in : List (List ℕ) → Result (List (List Call)) LineFault
 script_in lines = script_of_lines (call_lines lines)
 
--- what a first line takes with it of the lines behind it, as its call does
+-- the following lines that belong to a first line, by its call
 abbrev pub taken : List ℕ → List (List ℕ) → List (List ℕ)
 taken first lines = command.taken (call_part first) lines
 
--- bytes are a command: they end with a line, and whatever follows, the first line takes just those behind it
+-- bytes are a command: they end with a line, and whatever follows, exactly the lines after the first belong to it
 pub record IsCommand (bytes : List ℕ) : Type 0 where
   pub first : List ℕ
   pub rest : List (List ℕ)
@@ -47,11 +47,12 @@ pub record IsCommand (bytes : List ℕ) : Type 0 where
   pub ended : bytes ≡ front ++ newline ∷ []
   pub takes : (others : List (List ℕ)) → taken first (rest ++ others) ≡ rest
 
--- a first line takes all that is left
+-- all remaining lines belong to a first line
 abbrev pub TakesAll : List (List ℕ) → Type 0
 TakesAll [] = Unit {0}
 TakesAll (first ∷ rest) = taken first rest ≡ rest
 
--- bytes are what the end of the input leaves of a last command: nothing, or what its first line takes
+-- bytes are the last command, which the end of the input may cut off: nothing, or a first line and lines that belong
+-- to it
 abbrev pub IsLeft : List ℕ → Type 0
 IsLeft bytes = TakesAll (lines_in bytes)

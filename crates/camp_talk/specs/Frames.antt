@@ -1,4 +1,4 @@
--- Requests in frames: each stands behind a line with the number of its bytes, and so does its answer.
+-- Requests in frames: each comes after a line with its number of bytes, and so does its answer.
 use Rattle.std.specs.Prelude.{◌≡◌, ◌≢◌, ◌≤◌, ◌⊎◌, ℕ, Bool, true, false, List, [], ◌∷◌, ◌++◌, length, Option, OnSome, Some, Result, Ok, Err, codes}
 use Rattle.std.specs.Fmt.{decimal}
 use Rattle.std.specs.List.{flat_map}
@@ -13,11 +13,11 @@ use Rattle.camp_talk.specs.declared.frames.FrameFault.{FrameFault}
 use Rattle.camp_talk.specs.declared.frames.FrameFault.TheVariants.{Cut, NoNumber, Talk, TooLarge}
 use Rattle.camp_talk.specs.declared.faults.TalkFault.TheVariants.{Write}
 
--- bytes of a request at most
+-- the most bytes of a request
 abbrev pub most_bytes : ℕ
 most_bytes = 268_435_456
 
--- bytes are the frame of a request: its number of bytes in 1 to 10 digits, a line end, and then the request
+-- bytes are the frame of a request: its number of bytes in 1 to 10 digits, a line feed, and the request
 pub record IsFrame (request frame : List ℕ) : Type 0 where
   pub digits : List ℕ
   pub counts : count_of digits ≡ Some (length request)
@@ -38,9 +38,9 @@ pub record Service : Type 0 where
   pub frame : List ℕ
   pub answer : List ℕ
 
--- by what a reader had and has left, and what a writer held and holds, where that is known
+-- by the content of a reader and of a writer, before and after, if that is known
 module _ (remaining rest old new : Option (List ℕ)) where
-  -- the frame of a request was read, no more and no less, and that of its answer was written, no more and no less
+  -- exactly the frame of a request was read, and exactly that of its answer was written
   pub record ServesOne (before after : Entries) : Type 0 where
     pub service : Service
     pub is : IsFrame service.request service.frame
@@ -48,14 +48,14 @@ module _ (remaining rest old new : Option (List ℕ)) where
     pub answers : AnswersRequest before service.request service.answer after
     pub writes : Appends old new (framed service.answer)
 
-  -- the input has ended behind a request
+  -- the input has ended after a request
   pub record ServesNoMore (before after : Entries) : Type 0 where
     pub reads : Consumes remaining rest []
     pub ends : OnSome remaining (IsAtEnd rest)
     pub keeps : Keeps old new
     pub same : after ≡ before
 
-  -- what was read begins no frame
+  -- the bytes that were read do not begin a frame
   pub record ReadsNoFrame (before after : Entries) : Type 0 where
     pub some : List ℕ
     pub reads : Consumes remaining rest some
@@ -63,7 +63,7 @@ module _ (remaining rest old new : Option (List ℕ)) where
     pub keeps : Keeps old new
     pub same : after ≡ before
 
-  -- the input has ended behind some bytes that are no whole frame
+  -- the input has ended within a frame
   pub record ReadsCut (before after : Entries) : Type 0 where
     pub some : List ℕ
     pub some_are : some ≢ []
@@ -73,7 +73,7 @@ module _ (remaining rest old new : Option (List ℕ)) where
     pub keeps : Keeps old new
     pub same : after ≡ before
 
-  -- the frame of a request was read, and of its commands only some were answered
+  -- the frame of a request was read, and only some of its commands were answered
   pub record AnswersNot (before after : Entries) : Type 0 where
     pub service : Service
     pub is : IsFrame service.request service.frame
@@ -81,7 +81,7 @@ module _ (remaining rest old new : Option (List ℕ)) where
     pub answers : AnswersSome before service.request service.answer after
     pub keeps : Keeps old new
 
-  -- a request was read and answered, and a beginning of the frame of its answer was written
+  -- a request was read and answered, and a prefix of the frame of its answer was written
   pub record WritesNot (before after : Entries) : Type 0 where
     pub service : Service
     pub is : IsFrame service.request service.frame
@@ -89,9 +89,9 @@ module _ (remaining rest old new : Option (List ℕ)) where
     pub answers : AnswersRequest before service.request service.answer after
     pub writes : AppendsSome old new (framed service.answer)
 
-  -- one request is served. Ok: whether there may be more, or else the input has ended. NoNumber or TooLarge: no frame begins
-  -- so. Cut: the input has ended inside one. Any other fault: the request could not be read, or not be answered whole, and
-  -- nothing was written; or its answer could not be written.
+  -- the service of one request. Ok: whether there may be more, or else the input has ended. NoNumber or TooLarge: no
+  -- frame begins like this. Cut: the input has ended within one. Any other fault: the request could not be read, or
+  -- not be answered whole, and nothing was written; or its answer could not be written.
   abbrev pub Serves : Entries → Result Bool FrameFault → Entries → Type 0
   Serves before (Ok true) after = ServesOne before after
   Serves before (Ok false) after = ServesNoMore before after
@@ -108,15 +108,15 @@ ServedInTurn first (service ∷ others) last =
     (next : Entries) × IsFrame service.request service.frame × AnswersRequest first service.request service.answer next
     × ServedInTurn next others last
 
--- frames of requests were read, no more and no less, and the frames of their answers were written, no more and no less:
--- the n-th answer is that of the n-th request, after the requests before it
+-- exactly the frames of requests were read, and exactly the frames of their answers were written: the n-th answer is
+-- that of the n-th request, after the requests before it
 pub record ServesInTurn (remaining rest old new : Option (List ℕ)) (first last : Entries) : Type 0 where
   pub services : List Service
   pub follow : ServedInTurn first services last
   pub reads : Consumes remaining rest (flat_map (λ service. service.frame) services)
   pub writes : Appends old new (flat_map (λ service. framed service.answer) services)
 
--- where requests are served: what a reader has left, what a writer holds, and the accepted calls
+-- the place of a service: the rest of a reader, the content of a writer, and the accepted calls
 pub record Counter : Type 0 where
   pub left : Option (List ℕ)
   pub held : Option (List ℕ)
@@ -126,14 +126,14 @@ pub record Counter : Type 0 where
 abbrev pub ServesAt : Counter → Result Bool FrameFault → Counter → Type 0
 ServesAt from answer to = Serves from.left to.left from.held to.held from.history answer to.history
 
--- the words that tell a fault
+-- the words that report a fault
 abbrev pub frame_words : FrameFault → List ℕ
 frame_words NoNumber = codes "the line before a request is no number of 1 to 10 digits"
 frame_words TooLarge = codes "a request has more than 268435456 bytes"
 frame_words Cut = codes "the input ends inside a request"
 frame_words (Talk fault) = fault_words fault
 
--- the exit status that tells it
+-- the exit status for it
 abbrev pub frame_status : FrameFault → ℕ
 frame_status (Talk fault) = fault_status fault
 frame_status other = 1

@@ -1,4 +1,4 @@
--- What is told of commands.
+-- The text of `help`.
 use Rattle.std.specs.Prelude.{ℕ, List, [], ◌∷◌, ◌++◌, codes}
 use Rattle.std.specs.List.{flat_map}
 use Rattle.camp_talk.specs.Pages.{page}
@@ -6,14 +6,14 @@ use Rattle.camp_talk.specs.Refusals.{reasons, refusal_text, saying}
 use Rattle.camp_talk.specs.declared.questions.Topic.{Topic}
 use Rattle.camp_talk.specs.declared.questions.Topic.TheVariants as topic
 
--- the commands, in the order in which they are told
+-- the commands, in the order of the text
 abbrev pub commands : List Topic
 commands =
     topic.Branch ∷ topic.Record ∷ topic.Pull ∷ topic.Obliterate ∷ topic.Tree ∷ topic.Conflicts ∷ topic.Names
     ∷ topic.Branches ∷ topic.File ∷ topic.Needs ∷ topic.Held ∷ topic.Missing ∷ topic.Along ∷ topic.Show
     ∷ topic.Annotate ∷ topic.Open ∷ topic.Side ∷ topic.Marks ∷ topic.Graph ∷ topic.WhatIf ∷ topic.Why ∷ topic.History ∷ topic.Keep ∷ topic.Help ∷ []
 
--- how a command is written, and what it does, in a line for each of its forms
+-- the form of a command, and what it does, in a line for each of its forms
 abbrev pub summary : Topic → List ℕ
 summary topic.Commands = []
 summary topic.Refusals = []
@@ -53,7 +53,7 @@ summary topic.Help = page (
     codes "help refused: what the refusals say" ∷
     codes "help refused NUMBER: one of them, and what can be done" ∷ [])
 
--- more about a command, where there is more to tell
+-- more about a command, if there is more to say
 abbrev pub details : Topic → List ℕ
 details topic.Record = page (
     codes "A body has the old lines, each behind -, and then the new ones, each behind +." ∷
@@ -84,7 +84,7 @@ details topic.Why = page (
 details topic.History = page (codes "Of each its number, its seat, which is 0, and its words; of a body and a group the counts." ∷ [])
 details other = []
 
--- a command as one writes it
+-- an example of a command
 abbrev pub example : Topic → List ℕ
 example topic.Commands = []
 example topic.Refusals = []
@@ -117,11 +117,11 @@ example topic.History = page (codes "history" ∷ [])
 example topic.Keep = page (codes "keep" ∷ [])
 example topic.Help = page (codes "help record" ∷ [])
 
--- what is told of a command
+-- the text about a command
 abbrev pub command_text : Topic → List ℕ
 command_text command = summary command ++ details command ++ page (codes "Example:" ∷ []) ++ example command
 
--- what is told of all commands, of all refusals, and of each
+-- the text about all commands, about all refusals, and about each
 abbrev pub help_text : Topic → List ℕ
 help_text topic.Commands = flat_map summary commands
 help_text topic.Refusals = flat_map saying reasons

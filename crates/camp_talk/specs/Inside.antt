@@ -1,4 +1,4 @@
--- Words that serve only private functions.
+-- Definitions that only private functions use.
 pub mod Framing
 pub mod Hearing
 pub mod Parts

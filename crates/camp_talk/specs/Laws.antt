@@ -1,4 +1,4 @@
--- The laws of answers, and of what is loaded.
+-- The laws of answers, and of loading.
 use Rattle.std.specs.Prelude.{◌≡◌, ◌≢◌, ◌↔◌, ◌⊎◌, ◌<◌, ◌≤◌, ◌^◌, ℕ, true, false, List, [], ◌∷◌, ◌++◌, length, map, Option, Some, Result, Ok, Err}
 use Rattle.std.specs.Fmt.{decimal}
 use Rattle.std.specs.List.{All, AllByRecursion}
@@ -41,19 +41,20 @@ use Rattle.camp_why.specs.Hints.{hint}
 use Rattle.camp_why.specs.Laws.{IsInRange, wants_cause}
 use Rattle.camp_why.specs.declared.causes.Cause.{Cause}
 
--- the first line of a counted text has the word and says how many lines follow, and these are the lines of the text
+-- the first line of a counted text has the word and the number of lines that follow, and these are the lines of the
+-- text
 abbrev pub CountsAreTold : Type 0
 CountsAreTold =
     (word text : List ℕ) → All (λ byte. byte ≢ newline) word → length (lines_of text) < 2 ^ 64 →
     lines_of (counted word text) ≡ (word ++ space ∷ decimal (length (lines_of text))) ∷ lines_of text
 
--- turns that serve requests, one after the other, serve them in turn
+-- steps that serve requests one after the other give each the answer after those before it
 abbrev pub RequestsAreServedInTurn : Type 0
 RequestsAreServedInTurn =
     (first last : Counter) (over : List Counter) → Leads ServesAt first over last →
     ServesInTurn first.left last.left first.held last.held first.history last.history
 
--- what is asked has a fault, or this text is that of a refusal
+-- the parsed command has a fault, or this text is that of a refusal
 abbrev pub Failed : Result Asked LineFault → List ℕ → Type 0
 Failed (Err fault) text = Unit {0}
 Failed (Ok asked.Nothing) text = ⊥
@@ -61,7 +62,7 @@ Failed (Ok (asked.Call call)) text = (refusal : Refusal) × (text ≡ reply_text
 Failed (Ok asked.Why) text = ⊥
 Failed (Ok (asked.Question question)) text = (refusal : Refusal) × (text ≡ reply_text (Refused refusal))
 
--- an answer tells of failure exactly where its command has a fault, it is a refusal, or memory ran out
+-- an answer is a failure exactly if its command has a fault, it is a refusal, or memory ran out
 abbrev pub FailuresAreTold : Type 0
 FailuresAreTold =
     (before : Standing) (command text : List ℕ) (after : Standing) → Answers before command text after →
@@ -75,15 +76,15 @@ IsReadWhole call = AllByRecursion (λ line. length line ≤ longest_read) (lines
 abbrev pub at_seat_0 : Entries → Entries
 at_seat_0 history = map (λ call. (0, call)) (calls_of history)
 
--- what a load of the text that keeps a history comes to: Ok, and its calls are there, and its state; or memory or the
--- reader ended it, and its first calls are there; and no command is told not to be done
+-- the result of loading the text that stores a history: Ok, and its calls and its state are there; or memory or the
+-- reader ended it, and its first calls are there; and no command is reported as not done
 abbrev pub ComesBack : Entries → Contents → Result (Unit {0}) LoadFault → Entries → Type 0
 ComesBack history state (Ok done) now = (now ≡ at_seat_0 history) × (replay repository now ≡ Some state)
 ComesBack history state (Err (Answer line text)) now = ⊥
 ComesBack history state (Err (Memory line)) now = IsBeginning now (at_seat_0 history)
 ComesBack history state (Err (Talk why)) now = IsBeginning now (at_seat_0 history)
 
--- so it is for each history that leads to a state, however many its calls are, where a script can ask each of them
+-- this holds of each history that leads to a state, however long, if a script can contain each of its calls
 abbrev pub KeptIsLoaded : Type 0
 KeptIsLoaded =
     (history : Entries) (state : Contents) → replay repository history ≡ Some state →
@@ -91,9 +92,9 @@ KeptIsLoaded =
     (rest : Option (List ℕ)) (result : Result (Unit {0}) LoadFault) (now : Entries) →
     Loads (Some (kept_text history)) rest [] result now → ComesBack history state result now
 
--- lines behind a refusal of a call, which begins with this line, name a cause: it is one of that refusal, what it says of
--- the call and the state is so, and it stands, behind the branches that the call names, between what the refusal says and
--- what can be done
+-- lines after a refusal of a call, which begin with this line, give a cause: it is one of that refusal, what it says
+-- of the call and the state is true, and it comes after the branches that the call names, between the meaning of the
+-- refusal and the hint
 pub record NamesCause (state : Contents) (call : Call) (refusal : Refusal) (line lines : List ℕ) : Type 0 where
   pub cause : Cause
   pub of : refusal_by cause ≡ refusal
@@ -102,7 +103,7 @@ pub record NamesCause (state : Contents) (call : Call) (refusal : Refusal) (line
       ++ (sides_text (Some (call_about call)) (target (asked.Call call)) ++ cause_text cause)
       ++ cure_at state (asked.Call call) (Some cause) (reason_of refusal)
 
--- where a command asks a call that a state refuses with a limit or for its changes, the lines behind it name a cause
+-- if a command asks a call that a state refuses because of a limit or its changes, the lines after it give a cause
 abbrev pub CausesAreTold : Type 0
 CausesAreTold =
     (before : Account) (state : Contents) (command : List ℕ) (call : Call) (refusal : Refusal) → IsLawfulState state → IsCall call →
@@ -123,7 +124,7 @@ names_in (refusal.Diverged name) = name ∷ []
 names_in (refusal.NoMerge left right) = left ∷ right ∷ []
 names_in (refusal.SameBranch branch) = branch ∷ []
 
--- what is told of a refusal is about the name in it: that there is no such branch, or that a branch lacks this patch
+-- the report on a refusal is about the name in it: that there is no such branch, or that a branch lacks this patch
 abbrev pub TellsName : Contents → Call → Refusal → Type 0
 TellsName state call (refusal.NoBranch name) =
     (front : List ℕ) × (back : List ℕ)
@@ -132,23 +133,24 @@ TellsName state call (refusal.NoPatch name) =
     lacked_text state (asked.Call call) (Some (call_about call)) ≡ lack_text state (call_about call).1 (Some name)
 TellsName state call other = Unit {0}
 
--- lines behind a refusal of a call, which begins with this line, tell of it: what it says is so, and they are its answer,
--- that line, what its number says, which branches the call names, what is there and what is not, and what can be done
+-- lines after a refusal of a call, which begin with this line, describe it: what it says is true, and the lines are
+-- its answer, that line, the meaning of its number, the branches that the call names, what exists and what does not,
+-- and the hint
 pub record TellsRefusal (state : Contents) (call : Call) (refusal : Refusal) (line lines : List ℕ) : Type 0 where
   pub ground : IsGround state call refusal
   pub named : TellsName state call refusal
   pub tells : lines ≡ refusal_told state (asked.Call call) line (reply_text (Refused refusal))
       (cause_found state (asked.Call call) (reason_of refusal)) (reason_of refusal)
 
--- where a command asks a call that a state refuses, the lines behind it tell of the refusal
+-- if a command asks a call that a state refuses, the lines after it describe the refusal
 abbrev pub RefusalsAreTold : Type 0
 RefusalsAreTold =
     (before : Account) (state : Contents) (command : List ℕ) (call : Call) (refusal : Refusal) → IsLawfulState state → IsCall call →
     IsInRange call → AreNames (names_in refusal) → asked_by command ≡ Ok (asked.Call call) → step state call ≡ refused refusal →
     TellsRefusal state call refusal (first_of (lines_in command)) (cause_of before state command (reply_text (Refused refusal))).told
 
--- lines behind a command with a fault tell of it: they are its answer, the line that has the fault, as much of it as is
--- shown, which word is no name, what is to be seen there, the rule, and which lines behind it are taken for its own
+-- lines after a command with a fault describe it: its answer, the line that has the fault, as much of it as is shown,
+-- which word is not a name, the hint on the line, the rule, and which lines after it are taken for its own
 pub record TellsFault (fault : LineFault) (command answer lines : List ℕ) : Type 0 where
   pub line : List ℕ
   pub is : line ≡ line_at fault.line (lines_in command)
@@ -166,8 +168,8 @@ abbrev pub IsOfItsOwn : Account → FaultKind → List ℕ → Type 0
 IsOfItsOwn before kind line =
     (may_be before.awaited line ≡ false) ⊎ ((is_unknown kind ≡ false) ⊎ (begins_command line ≡ true))
 
--- where a command has a fault of its own, the lines behind it tell of it; where it is taken for a line of the one before
--- it, what was kept of that one stays, but for which lines may come
+-- if a command has a fault of its own, the lines after it describe it; if it is taken for a line of the one before
+-- it, the diagnostic of that one stays, and only the lines that may come change
 pub record FaultsAreTold : Type 0 where
   pub own : (before : Account) (state : Contents) (command answer : List ℕ) (fault : LineFault) → asked_by command ≡ Err fault →
       IsOfItsOwn before fault.kind (first_of (lines_in command)) →
@@ -176,8 +178,8 @@ pub record FaultsAreTold : Type 0 where
       IsLineOf before fault.kind (first_of (lines_in command)) →
       cause_of before state command answer ≡ passed before (first_of (lines_in command))
 
--- what is kept of a command is of a record that was cut off: the command has a fault in its first line, which is one of a
--- record, or may be; the lines tell of it; and those may come that follow such a line
+-- the diagnostic of a command is that of a record that was cut off: the command has a fault in its first line, which
+-- is one of a record, or may be; the lines describe it; and those may come that follow such a line
 pub record IsCutOff (command answer : List ℕ) (now : Account) : Type 0 where
   pub fault : LineFault
   pub asks : asked_by command ≡ Err fault
@@ -186,14 +188,14 @@ pub record IsCutOff (command answer : List ℕ) (now : Account) : Type 0 where
   pub tells : now.told ≡ fault_lines fault.kind (first_of (lines_in command)) answer now.awaited
   pub awaits : now.awaited ≡ left_by (first_of (lines_in command))
 
--- what was kept before waits for a line, and the command is taken for it: the same is told
+-- the diagnostic from before waits for a line, and the command is taken for it: the report is the same
 pub record IsNextLine (before : Account) (command : List ℕ) (now : Account) : Type 0 where
   pub fault : LineFault
   pub asks : asked_by command ≡ Err fault
   pub taken : IsLineOf before fault.kind (first_of (lines_in command))
   pub is : now ≡ passed before (first_of (lines_in command))
 
--- only so what is kept of a command that is not done waits for lines
+-- only then does the diagnostic of a command that is not done wait for lines
 abbrev pub RecordsAreAwaited : Type 0
 RecordsAreAwaited =
     (before : Account) (state : Contents) (command answer : List ℕ) → awaits_some (cause_of before state command answer).awaited ≡ true →

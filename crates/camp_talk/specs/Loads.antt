@@ -1,4 +1,4 @@
--- What comes of commands that are loaded: each is asked as in a conversation, and has to be done.
+-- Loading commands: each is executed as in a conversation, and has to be done.
 use Rattle.std.specs.Prelude.{◌≡◌, ℕ, ◌+◌, Bool, true, false, ◌||◌, List, Option, Result, Ok, Err, codes}
 use Rattle.std.specs.List.{All, flat_map}
 use Rattle.std.specs.Io.KnownBytes.{Consumes}
@@ -11,24 +11,24 @@ use Rattle.camp_talk.specs.declared.faults.LoadFault.{LoadFault}
 use Rattle.camp_talk.specs.declared.faults.LoadFault.TheVariants.{Answer, Memory, Talk}
 use Rattle.camp_why.specs.Hints.{begins}
 
--- whether an answer tells that its command was not done: it is a fault, a refusal or want of memory
+-- an answer says that its command was not done: it is a fault, a refusal or out of memory
 abbrev pub tells_failure : List ℕ → Bool
 tells_failure answer = begins (codes "fault ") answer || begins (codes "refused ") answer || begins memory_text answer
 
--- an answer tells that its command was done, or that nothing was asked
+-- an answer says that its command was done, or that nothing was asked
 abbrev pub TellsSuccess : List ℕ → Type 0
 TellsSuccess answer = tells_failure answer ≡ false
 
--- by what a reader had and has left
+-- by the content of a reader, before and after
 module _ (remaining rest : Option (List ℕ)) where
-  -- these commands were read, no more and no less, and each was done
+  -- exactly these commands were read, and each was done
   pub record Done (first last : Standing) : Type 0 where
     pub said : List Exchange
     pub follow : Follow first said last
     pub well : All (λ exchange. TellsSuccess exchange.answer) said
     pub reads : Consumes remaining rest (flat_map (λ exchange. exchange.command) said)
 
-  -- the input has ended, and what it left of a command was done
+  -- the input has ended, and the last command, as far as it goes, was done
   pub record EndsWell (before : Standing) (now : Entries) : Type 0 where
     pub said : Exchange
     pub reads : ReadsCommand remaining rest false said.command
@@ -37,8 +37,7 @@ module _ (remaining rest : Option (List ℕ)) where
     pub well : TellsSuccess said.answer
     pub same : now ≡ after.history
 
-  -- the command that begins at this line was read, and this is the answer to what it asks: it was not done, and nothing
-  -- has changed
+  -- the command that begins at this line was read, and this is its answer: it was not done, and nothing has changed
   pub record Fails (before : Standing) (line : ℕ) (answer : List ℕ) (now : Entries) : Type 0 where
     pub whole : Bool
     pub command : List ℕ
@@ -48,8 +47,8 @@ module _ (remaining rest : Option (List ℕ)) where
     pub at : line ≡ before.lines + 1
     pub same : now ≡ before.history
 
-  -- the command that begins at this line was read, and there was no memory for what it asks, or for its answer: nothing
-  -- has changed
+  -- the command that begins at this line was read, and ran out of memory, itself or for its answer: nothing has
+  -- changed
   pub record Wants (before : Standing) (line : ℕ) (now : Entries) : Type 0 where
     pub whole : Bool
     pub command : List ℕ
@@ -58,7 +57,7 @@ module _ (remaining rest : Option (List ℕ)) where
     pub at : line ≡ before.lines + 1
     pub same : now ≡ before.history
 
-  -- what a load comes to, where these commands were done
+  -- the result of a load after these commands were done
   abbrev pub Ends : Standing → Result (Unit {0}) LoadFault → Entries → Type 0
   Ends before (Ok done) now = EndsWell before now
   Ends before (Err (Answer line text)) now = Fails before line text.items now

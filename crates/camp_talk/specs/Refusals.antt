@@ -1,4 +1,4 @@
--- What is told of refusals.
+-- The texts about refusals.
 use Rattle.std.specs.Prelude.{ℕ, List, [], ◌∷◌, ◌++◌, codes}
 use Rattle.camp_call.specs.declared.replies.Refusal.{Refusal}
 use Rattle.camp_call.specs.declared.replies.Refusal.TheVariants as refusal
@@ -6,7 +6,7 @@ use Rattle.camp_talk.specs.Pages.{page}
 use Rattle.camp_talk.specs.declared.questions.Reason.{Reason}
 use Rattle.camp_talk.specs.declared.questions.Reason.TheVariants as reason
 
--- why something is refused, in the order of the numbers
+-- the reasons for refusals, in the order of their numbers
 abbrev pub reasons : List Reason
 reasons =
     reason.BadName ∷ reason.BadPath ∷ reason.BadLine ∷ reason.NoBranch ∷ reason.BranchExists ∷ reason.PatchExists
@@ -43,7 +43,7 @@ number_of reason.Diverged = codes "12"
 number_of reason.NoMerge = codes "13"
 number_of reason.SameBranch = codes "14"
 
--- how a refusal is written, and what it says; the first three are told as faults
+-- the form of a refusal, and its meaning; the first three are reported as faults
 abbrev pub saying : Reason → List ℕ
 saying reason.BadName = page (codes "1: a word is no name; it is told as the fault bad name" ∷ [])
 saying reason.BadPath = page (codes "2: a word is no path; it is told as the fault bad path" ∷ [])
@@ -60,7 +60,7 @@ saying reason.Diverged = page (codes "refused 12 NAME: in one branch NAME can't 
 saying reason.NoMerge = page (codes "refused 13 LEFT RIGHT: LEFT of TO and RIGHT of FROM do not merge" ∷ [])
 saying reason.SameBranch = page (codes "refused 14 BRANCH: a branch does not pull from itself" ∷ [])
 
--- what can be done about it
+-- the hint on it
 abbrev pub cure : Reason → List ℕ
 cure reason.BadName = page (codes "A name has 1 to 40 of a to z, 0 to 9 and -, and begins with no -. Write it so." ∷ [])
 cure reason.BadPath = page (
@@ -85,6 +85,6 @@ cure reason.Diverged = page (codes "Obliterate it in one of them, with what stan
 cure reason.NoMerge = page (codes "Pull without RIGHT, or obliterate LEFT in TO first." ∷ [])
 cure reason.SameBranch = page (codes "Name another branch." ∷ [])
 
--- what is told of a refusal
+-- the text about a refusal
 abbrev pub refusal_text : Reason → List ℕ
 refusal_text reason = saying reason ++ cure reason

@@ -1,4 +1,4 @@
--- What a request is answered: its bytes are a conversation of their own.
+-- The answer to a request: its bytes are a conversation of their own.
 use Rattle.std.specs.Prelude.{◌≡◌, ◌⊎◌, ℕ, List, [], ◌++◌}
 use Rattle.std.specs.List.{flat_map}
 use Rattle.camp_talk.specs.Accounts.{no_account}
@@ -7,8 +7,8 @@ use Rattle.camp_talk.specs.Cutting.{IsCommand, IsLeft}
 use Rattle.camp_talk.specs.Entries.{Entries}
 use Rattle.camp_talk.specs.Talks.{Exchange, Follow}
 
--- a request is commands, one behind another, and what its end leaves of a last one; the answer is that of each, one behind
--- another. It begins with these accepted calls, and these are there behind it. Lines count from its beginning.
+-- a request is commands, one after the other, and perhaps a last one cut off by its end; the answer is that of each,
+-- in order. It begins with these accepted calls, and leaves those. Lines count from its start.
 pub record AnswersRequest (history : Entries) (request answer : List ℕ) (now : Entries) : Type 0 where
   pub said : List Exchange
   pub last : Exchange
@@ -21,7 +21,7 @@ pub record AnswersRequest (history : Entries) (request answer : List ℕ) (now :
   pub asks : request ≡ flat_map (λ exchange. exchange.command) said ++ last.command
   pub tells : answer ≡ flat_map (λ exchange. exchange.answer) said ++ last.answer
 
--- the command that stands next in a request was asked, or what its end leaves of one, and a beginning of its answer is there
+-- the next command of a request was executed, or what its end leaves of one, and a prefix of its answer is there
 pub record AsksOneMore (middle : Standing) (rest front : List ℕ) (now : Entries) : Type 0 where
   pub last : Exchange
   pub more : List ℕ
@@ -33,7 +33,7 @@ pub record AsksOneMore (middle : Standing) (rest front : List ℕ) (now : Entrie
   pub unsaid : List ℕ
   pub tells : last.answer ≡ front ++ unsaid
 
--- of a request some commands were answered, one behind another, and then maybe one more was asked
+-- some commands of a request were answered, one after the other, and perhaps one more was executed
 pub record AnswersSome (history : Entries) (request answer : List ℕ) (now : Entries) : Type 0 where
   pub said : List Exchange
   pub middle : Standing

@@ -1,4 +1,4 @@
--- What questions are answered, each at the state after a history.
+-- The texts of answers to questions, each at the state after a history.
 use Rattle.std.specs.Prelude.{◌≡◌, ℕ, List, [], ◌∷◌, ◌++◌, length, Option, None, Some, Ok, Err, codes}
 use Rattle.std.specs.List.{flat_map, zip}
 use Rattle.std.specs.Fmt.{decimal}
@@ -44,26 +44,26 @@ use Rattle.camp_talk.specs.declared.questions.Question.{Question}
 use Rattle.camp_talk.specs.declared.questions.Question.TheVariants as question
 use Rattle.camp_talk.specs.declared.questions.Topic.{Topic}
 
--- a text behind the word of its command and the number of its lines
+-- a text after the word of its command and the number of its lines
 abbrev pub counted : List ℕ → List ℕ → List ℕ
 counted word text = word ++ space ∷ decimal (length (lines_of text)) ++ newline ∷ text
 
--- what is told of what a question comes to: its answer, or its refusal, as a call is told one
+-- the text of the result of a question: its answer, or its refusal as that of a call
 abbrev pub told : {A : Type 0} → (A → List ℕ) → AnswerOf A → List ℕ
 told text_of (Ok answer) = text_of answer
 told text_of (Err refusal) = reply_text (Refused refusal)
 
--- it is told what a question comes to
+-- this text reports the result of a question
 pub record IsTold {A : Type 0} (text_of : A → List ℕ) (ComesTo : AnswerOf A → Type 0) (text : List ℕ) : Type 0 where
   pub answer : AnswerOf A
   pub comes : ComesTo answer
   pub tells : text ≡ told text_of answer
 
--- names behind the word of a command, each on a line
+-- names after the word of a command, each on a line
 abbrev pub names_told : List ℕ → List (List ℕ) → List ℕ
 names_told word names = counted word (flat_map name_text names)
 
--- that there is no file
+-- text: there is no such file
 abbrev pub no_file_told : List ℕ
 no_file_told = codes "no file\n"
 
@@ -72,22 +72,22 @@ abbrev pub file_told : Option Lines → List ℕ
 file_told None = no_file_told
 file_told (Some lines) = counted (codes "file") (flat_map (signed_line equals_sign) lines)
 
--- pairs of patches in an open conflict
+-- pairs of patches in an unresolved conflict
 abbrev pub open_told : List (List ℕ × List ℕ) → List ℕ
 open_told pairs = counted (codes "open") (flat_map pair_text pairs)
 
--- the changes of a side, as a script has those of a group
+-- the changes of a side, in the form of a group of a script
 abbrev pub side_told : List Primitive → List ℕ
 side_told changes = counted (codes "side") (flat_map change_text changes)
 
--- what a side has at a place: `side`, the name of its patch and the number of its lines, and then each behind `+`
+-- a side of a hunk: `side`, the name of its patch and the number of its lines, followed by each after `+`
 abbrev pub side_text : Version → List ℕ
 side_text side =
     line_text (codes "side" ∷ side.name ∷ decimal (length side.lines) ∷ [])
     ++ flat_map (signed_line plus_sign) side.lines
 
--- the lines before a place, each behind `=`; `conflict`, how many sides it has, and how many lines; these, each behind `=`;
--- and the sides
+-- the context lines of a hunk, each after `=`; `conflict`, the number of its sides and of its lines; these, each
+-- after `=`; and the sides
 abbrev pub place_text : Place → List ℕ
 place_text place =
     flat_map (signed_line equals_sign) place.before
@@ -95,21 +95,21 @@ place_text place =
     ++ flat_map (signed_line equals_sign) place.lines
     ++ flat_map side_text place.sides
 
--- a file with its places
+-- a file with its hunks
 abbrev pub marked_lines : MarkedFile → List ℕ
 marked_lines file = flat_map place_text file.places ++ flat_map (signed_line equals_sign) file.rest
 
--- a file with the open sides of its conflicts, or that there is no file
+-- a file with the unresolved sides of its conflicts, or that there is no file
 abbrev pub marks_told : Marked → List ℕ
 marks_told marked.NoFile = no_file_told
 marks_told (marked.File file) =
     counted (codes "marks") (marked_lines file)
 
--- a picture in DOT
+-- a graph in DOT
 abbrev pub graph_told : Picture → List ℕ
 graph_told picture = counted (codes "graph") (graph_text picture)
 
--- NAME =LINE: a line of a file behind the name of the patch that put it there
+-- NAME =LINE: a line of a file after the name of the patch that added it
 abbrev pub annotated_line : List ℕ × List ℕ → List ℕ
 annotated_line pair = pair.1 ++ space ∷ signed_line equals_sign pair.0
 
@@ -122,28 +122,28 @@ annotated_told NoFile = no_file_told
 abbrev pub catch_line : Catch → List ℕ
 catch_line catch = catch_text [] catch ++ newline ∷ []
 
--- a patch: its catches, and then its changes, as a script has those of a group
+-- a patch: its catches, followed by its changes, in the form of a group of a script
 abbrev pub patch_told : Patch → List ℕ
 patch_told patch = counted (codes "show") (flat_map catch_line patch.catches ++ flat_map change_text patch.changes)
 
--- how a branch stands: its conflicts and its tree, each as the question for it is answered
+-- the state of a branch: its conflicts and its tree, each as the question for it is answered
 abbrev pub standing_text : Option Standing → List ℕ
 standing_text None = []
 standing_text (Some standing) = conflicts_text standing.conflicts ++ tree_text standing.tree
 
--- the reply that a call would get, and how the branch that it would write to would stand
+-- the reply that a call would get, and the state of the branch that it would write to
 abbrev pub foreseen_told : Foreseen → List ℕ
 foreseen_told seen = counted (codes "whatif") (reply_text seen.reply ++ standing_text seen.changed)
 
--- a script that gives a history back
+-- a script that restores a history
 abbrev pub kept_told : Entries → List ℕ
 kept_told history = counted (codes "keep") (kept_text history)
 
--- how commands are written, or what refusals say
+-- the forms of commands, or the meanings of refusals
 abbrev pub help_told : Topic → List ℕ
 help_told topic = counted (codes "help") (help_text topic)
 
--- what each question is told, at the state after a history
+-- the answer to each question, at the state after a history
 abbrev pub TellsAt : Entries → Contents → Question → List ℕ → Type 0
 TellsAt history state (question.Needs branch names) text =
     IsTold (names_told (codes "needs")) (AreNeeded state branch names) text
@@ -169,7 +169,7 @@ TellsAt history state question.History text = text ≡ history_text history
 TellsAt history state question.Keep text = text ≡ kept_told history
 TellsAt history state (question.Help topic) text = text ≡ help_told topic
 
--- what a question is told after a history
+-- the answer to a question after a history
 abbrev pub TellsQuestion : Entries → Question → List ℕ → Type 0
 TellsQuestion history question text =
     (state : Contents) × (replay repository history ≡ Some state) × TellsAt history state question text

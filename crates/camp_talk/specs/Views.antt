@@ -1,4 +1,4 @@
--- What a view is told: a state is asked the commands of a request, and stays.
+-- Requests to a view: a state is asked the commands of a request, and does not change.
 use Rattle.std.specs.Prelude.{◌≡◌, ℕ, ◌+◌, Bool, true, false, List, [], ◌∷◌, ◌++◌, length, Result, Ok, Err, codes}
 use Rattle.std.specs.Fmt.{decimal}
 use Rattle.std.specs.List.{flat_map}
@@ -20,13 +20,13 @@ use Rattle.camp_talk.specs.declared.questions.Asked.TheVariants as asked
 use Rattle.camp_talk.specs.declared.questions.Question.{Question}
 use Rattle.camp_talk.specs.declared.questions.Question.TheVariants as question
 
--- whether a question asks about the history, which a state does not tell
+-- a question asks about the history, which a state does not have
 abbrev pub is_of_history : Question → Bool
 is_of_history question.History = true
 is_of_history question.Keep = true
 is_of_history other = false
 
--- whether a command asks for more than a state tells: it would write, or asks about the history or another command
+-- a command asks for more than a state has: it would write, or asks about the history or another command
 abbrev pub is_beyond : Asked → Bool
 is_beyond asked.Nothing = false
 is_beyond (asked.Call call) = is_writing call
@@ -41,26 +41,26 @@ beyond_text line = (codes "fault " ++ decimal line ++ codes " not asked of a vie
 abbrev pub shown_reply : Contents → Call → List ℕ
 shown_reply state call = reply_text (reply_of (step state call))
 
--- what a state tells of what is asked: nothing, where nothing is; of a call its reply; of a question what it is told, for
--- which no history is needed; of another command nothing can be told
+-- the answer of a state to a parsed command: nothing, if it asks nothing; to a call its reply; to a question its
+-- answer, for which no history is needed; to another command there is none
 abbrev pub ShowsAsked : Contents → Asked → List ℕ → Type 0
 ShowsAsked state asked.Nothing text = text ≡ []
 ShowsAsked state (asked.Call call) text = text ≡ shown_reply state call
 ShowsAsked state (asked.Question question) text = TellsAt [] state question text
 ShowsAsked state asked.Why text = ⊥
 
--- what is asked at a line: more than a state tells, or not
+-- the parsed command of a line asks for more than a state has, or not
 abbrev pub ShowsAt : Bool → Contents → ℕ → Asked → List ℕ → Type 0
 ShowsAt true state line asked text = text ≡ beyond_text line
 ShowsAt false state line asked text = ShowsAsked state asked text
 
--- what is asked is answered: a fault, by its line, counted from the beginning of the request; what asks for more than a
--- state tells by a fault of its own; and anything else as a conversation answers it that stands at this state
+-- the answer to a parsed command: a fault, by its line, counted from the start of the request; a fault of its own, if
+-- it asks for more than a state has; else the answer of a conversation at this state
 abbrev pub Shows : Contents → ℕ → Result Asked LineFault → List ℕ → Type 0
 Shows state before (Err fault) text = text ≡ fault_text (before + fault.line) fault.kind
 Shows state before (Ok asked) text = ShowsAt (is_beyond asked) state (before + 1) asked text
 
--- a command is answered, by how many lines stand before it, and then its own are counted too
+-- a command is answered, given the number of lines before it; then its own are counted too
 pub record Sees (state : Contents) (before : ℕ) (said : Exchange) (after : ℕ) : Type 0 where
   pub shows : Shows state before (asked_by said.command) said.answer
   pub counts : after ≡ before + length (lines_of said.command)
@@ -71,8 +71,8 @@ SeesAll state first [] last = first ≡ last
 SeesAll state first (said ∷ others) last =
     (next : ℕ) × IsCommand said.command × Sees state first said next × SeesAll state next others last
 
--- a request is commands, one behind another, and what its end leaves of a last one; the answer is that of each, one behind
--- another
+-- a request is commands, one after the other, and perhaps a last one cut off by its end; the answer is that of each,
+-- in order
 pub record AnswersView (state : Contents) (request answer : List ℕ) : Type 0 where
   pub said : List Exchange
   pub last : Exchange

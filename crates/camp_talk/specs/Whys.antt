@@ -1,4 +1,4 @@
--- What is told of the last command that was not done.
+-- The report on the last command that was not done.
 use Rattle.std.specs.Prelude.{ℕ, ◌-◌, Bool, true, false, not, ◌||◌, ◌&&◌, ◌==◌, List, [], ◌∷◌, ◌++◌, length, drop, take, nat_lt, Option, None, Some, Result, Ok, Err, bytes_eq, codes, if◌then◌else◌}
 use Rattle.std.specs.Char.{is_ascii_whitespace}
 use Rattle.std.specs.Fmt.{decimal}
@@ -33,22 +33,22 @@ use Rattle.camp_why.specs.declared.misfits.Misfit.TheVariants as misfit
 use Rattle.camp_why.specs.declared.stops.Hindrance.{Hindrance}
 use Rattle.camp_why.specs.declared.stops.Hindrance.TheVariants as hindrance
 
--- whether an answer is a fault or a refusal
+-- an answer is a fault or a refusal
 abbrev pub is_failure : List ℕ → Bool
 is_failure answer = begins (codes "fault ") answer || begins (codes "refused ") answer
 
--- what is told of a cause; of none, that there was none
+-- the report on a diagnostic; if there is none, that there was no failure
 abbrev pub cause_told : List ℕ → List ℕ
 cause_told [] = page (codes "No command had a fault or was refused here." ∷ [])
 cause_told (byte ∷ bytes) = byte ∷ bytes
 
--- that, behind `why` and the number of its lines
+-- the same, after `why` and the number of its lines
 abbrev pub why_told : List ℕ → List ℕ
 why_told cause = counted (codes "why") (cause_told cause)
 
 -- ---- of a command with a fault
 
--- what is to be seen in the line
+-- text: the hint on the line
 abbrev pub hint_text : Hint → List ℕ
 hint_text seen.Nothing = []
 hint_text seen.OfBody = page (codes "It begins with - or +, as a line of a body does, and no body has begun here." ∷ [])
@@ -81,7 +81,7 @@ hint_text seen.OldBehindNew = page (codes "An old line stands behind a new one: 
 hint_text seen.NoSign = page (
     codes "It has no sign, - or +. If the body was to be over, a line that is just end is missing." ∷ [])
 
--- the rule of a body or a group that is broken, or of a number of lines, and what to write
+-- text: the broken rule of a body or a group, or of a number of lines, and what to write
 abbrev pub body_rule : FaultKind → List ℕ
 body_rule kind.BadEdit = page (
     codes "A body has old lines, each behind -, then new ones, each behind +, one at least in" ∷
@@ -95,7 +95,7 @@ body_rule kind.BadGroup = page (
 body_rule kind.GroupNotEnded = page (codes "A group ends with the line done. Write it." ∷ [])
 body_rule other = []
 
--- the rule that is broken, and what to write
+-- text: the broken rule, and what to write
 abbrev pub rule : FaultKind → List ℕ
 rule kind.UnknownCommand = page (
     codes "A line begins with a command; a record says BRANCH, NAME, and then add, remove, edit or group:" ∷
@@ -112,38 +112,38 @@ rule kind.BadNumber = page (
 rule kind.BadLine = cure reason.BadLine
 rule other = body_rule other
 
--- the line of a number, counted from 1; an empty one, where there is none
+-- the line of a number, counted from 1, or an empty one
 abbrev pub line_at : ℕ → List (List ℕ) → List ℕ
 line_at number lines = first_of (drop (number - 1) lines)
 
--- bytes of a line that are shown
+-- the most bytes of a line that are shown
 abbrev pub most_shown : ℕ
 most_shown = 200
 
--- that not all bytes of a line are shown
+-- text: not all bytes of a line are shown
 abbrev pub cut_text : List ℕ → List ℕ
 cut_text line =
     if nat_lt most_shown (length line) then page (codes "Its first 200 bytes are shown, and it has more." ∷ []) else []
 
--- a line behind `>`, as much of it as is shown
+-- a line after `>`, as much of it as is shown
 abbrev pub shown_line : List ℕ → List ℕ
 shown_line line = codes ">" ++ take most_shown line ++ codes "\n" ++ cut_text line
 
--- that a word is no name
+-- text: a word is not a name
 abbrev pub no_name_text : List ℕ → List ℕ
 no_name_text word = codes "This is no name: " ++ word ++ codes "\n"
 
--- the same, where it is not too long to be shown
+-- the same, if it is not too long to be shown
 abbrev pub misnamed_text : List ℕ → List ℕ
 misnamed_text word =
     if nat_lt most_shown (length word) then page (codes "A word of more than 200 bytes is no name." ∷ []) else no_name_text word
 
--- which word has the fault, where it is one among many
+-- text: which word has the fault, if it is one of many
 abbrev pub word_text : FaultKind → List ℕ → List ℕ
 word_text kind.BadName line = misnamed_text (misnamed (words_of line))
 word_text other line = []
 
--- that the lines behind it are taken for its own, where it is known to have some
+-- text: the lines after it are taken for its own, if it has some
 abbrev pub awaited_text : Awaited → List ℕ
 awaited_text Nothing = []
 awaited_text Signed = []
@@ -151,25 +151,25 @@ awaited_text Body = page (codes "Behind it lines that begin no command are taken
 awaited_text Group = page (codes "Behind it lines that begin no command are taken for its group, up to done." ∷ [])
 awaited_text GroupBody = page (codes "Behind it lines that begin no command are taken for its group, up to done." ∷ [])
 
--- the answer, the line, the word that has the fault, what is to be seen there, the rule, what to write, and which lines
--- behind it are taken for its own
+-- the answer, the line, the word that has the fault, the hint on it, the rule, what to write, and which lines after
+-- it are taken for its own
 abbrev pub fault_lines : FaultKind → List ℕ → List ℕ → Awaited → List ℕ
 fault_lines kind line answer awaited =
     answer ++ shown_line line ++ word_text kind line ++ hint_text (hint kind line) ++ rule kind ++ awaited_text awaited
 
 -- ---- of a command that is refused
 
--- a line without the white space at its end, a carriage return among it
+-- a line without the white space at its end, including a carriage return
 abbrev pub trimmed : List ℕ → List ℕ
 trimmed line = take (length line - suffix_len is_ascii_whitespace line) line
 
--- that two lines differ at their ends alone, where they do
+-- text: two lines differ only at their ends, if they do
 abbrev pub ends_text : List ℕ → List ℕ → List ℕ
 ends_text stands expected =
     if bytes_eq (trimmed stands) (trimmed expected)
     then page (codes "They differ in white space at their ends, as a blank or a carriage return is." ∷ []) else []
 
--- that another line stands there than an edit takes away
+-- text: the file has another line than an edit removes
 abbrev pub met_text : ℕ → List ℕ → List ℕ → List ℕ
 met_text at stands expected =
     codes ": line " ++ decimal at ++ codes " is\n=" ++ stands ++ codes "\nand the edit takes away\n-" ++ expected
@@ -179,13 +179,14 @@ met_text at stands expected =
 abbrev pub two_numbers : List ℕ → ℕ → List ℕ → ℕ → List ℕ → List ℕ
 two_numbers front first middle second back = front ++ decimal first ++ middle ++ decimal second ++ back
 
--- the old line that finds none, and the line at which it would stand; without old lines, that LINE is too great
+-- text: the old line past the end of the file, and the line at which it would be; without old lines, that LINE is too
+-- great
 abbrev pub lacks_text : ℕ → Option (List ℕ) → List ℕ
 lacks_text at None = codes "LINE is " ++ decimal at ++ codes ": it is at most one more than the file has lines.\n"
 lacks_text at (Some line) =
     codes "There is no line " ++ decimal at ++ codes ", where the edit takes away\n-" ++ line ++ codes "\n"
 
--- why a change does not apply: what is there, and what was expected
+-- text: why a change does not apply: what exists, and what was expected
 abbrev pub misfit_text : Misfit → List ℕ
 misfit_text misfit.FileIsThere = codes ": it is there already.\n"
 misfit_text misfit.NoFile = codes ": there is none.\n"
@@ -195,7 +196,7 @@ misfit_text (misfit.EndsBefore has wants at lacks) =
     ++ lacks_text at lacks
 misfit_text (misfit.OtherLine at stands expected) = met_text at stands expected ++ ends_text stands expected
 
--- why a record stops
+-- text: why a record stops
 abbrev pub hindrance_text : Hindrance → List ℕ
 hindrance_text (hindrance.Misfit why) = misfit_text why
 hindrance_text (hindrance.TooLong count) =
@@ -205,11 +206,11 @@ hindrance_text (hindrance.TooLong count) =
 abbrev pub change_text : ℕ → List ℕ → List ℕ
 change_text change path = codes "Change " ++ decimal change ++ codes ", file " ++ path
 
--- that a number is the most
+-- text: a number is the limit
 abbrev pub most_text : ℕ → List ℕ
 most_text most = decimal most ++ codes " is the most.\n"
 
--- what stands against a command; of a record that stops, where and why
+-- text: what prevents a command; of a record that stops, where and why
 abbrev pub cause_text : Cause → List ℕ
 cause_text (cause.FullRepository count most) =
     two_numbers (codes "There are ") count (codes " branches, and ") most (codes " is the most.\n")
@@ -222,23 +223,24 @@ cause_text (cause.LongSide change path old new) =
     ++ two_numbers (codes ": the edit has ") old (codes " old lines and ") new (codes " new ones, and 65535 is the most of each.\n")
 cause_text (cause.Stops stop) = change_text stop.change stop.path ++ hindrance_text stop.why
 
--- the same, where its refusal does not say it all
+-- the same, if its refusal does not say it all
 abbrev pub found_text : Option Cause → List ℕ
 found_text None = []
 found_text (Some found) = cause_text found
 
--- why a command is refused at a state, by the reason that its answer tells; a question has no more than its refusal says
+-- why a command is refused at a state, by the reason in its answer; for a question only what its refusal says
 abbrev pub cause_found : Contents → Asked → Reason → Option Cause
 cause_found state (asked.Call call) reason.TooLarge = explained state call refusal.TooLarge
 cause_found state (asked.Call call) reason.DoesNotApply = explained state call refusal.DoesNotApply
 cause_found state other reason = None
 
--- the reason of a refusal, by the words of its answer: behind `refused` stands the number
+-- the reason of a refusal, by the words of its answer: the number follows `refused`
 abbrev pub reason_in : List (List ℕ) → Option Reason
 reason_in (word ∷ number ∷ names) = reason_at number
 reason_in others = None
 
--- what is there and what is not, in the state that the command met: what its refusal is about, by the cause that was found
+-- text: what exists and what does not, in the state before the command: the subject of its refusal, by the cause that
+-- was found
 abbrev pub facts_text : Contents → Asked → Option Cause → Reason → List ℕ
 facts_text state asked found reason.NoBranch = absent_sides state (about asked) (target asked) ++ branches_line state
 facts_text state asked found reason.BranchExists = new_text state asked ++ branches_line state
@@ -248,11 +250,11 @@ facts_text state asked found reason.NothingToDo = nothing_text state asked
 facts_text state asked found reason.SameBranch = branches_line state
 facts_text state asked found other = found_text found
 
--- what stands against a command: which branches it names, and what is there and what is not
+-- text: what prevents a command: the branches that it names, and what exists and what does not
 abbrev pub against_text : Contents → Asked → Option Cause → Reason → List ℕ
 against_text state asked found reason = sides_text (about asked) (target asked) ++ facts_text state asked found reason
 
--- what can be done where a limit would be passed
+-- the hint if a limit would be exceeded
 abbrev pub limit_cure : Cause → List ℕ
 limit_cure (cause.FullRepository count most) = page (codes "Record in one of the branches that there are." ∷ [])
 limit_cure (cause.FullBranch has more most) = page (
@@ -261,61 +263,64 @@ limit_cure (cause.FullWithPull has more most) = page (codes "Pull fewer patches,
 limit_cure (cause.LongSide change path old new) = page (codes "Cut the edit in parts." ∷ [])
 limit_cure (cause.Stops stop) = page (codes "Put some of the lines into another file." ∷ [])
 
--- what can be done about a refusal of a command, by the cause that was found
+-- the hint on the refusal of a command, by the cause that was found
 abbrev pub cure_at : Contents → Asked → Option Cause → Reason → List ℕ
 cure_at state asked found reason.PatchExists = record_cure state asked
 cure_at state asked (Some found) reason.TooLarge = limit_cure found
 cure_at state asked found reason.Depends = depends_cure asked
 cure_at state asked found other = cure other
 
--- the answer, the first line of the command, what the answer says, what stands against the command, and what can be done
+-- the answer, the first line of the command, the meaning of the answer, what prevents the command, and the hint
 abbrev pub refusal_told : Contents → Asked → List ℕ → List ℕ → Option Cause → Reason → List ℕ
 refusal_told state asked line answer found reason =
     answer ++ shown_line line ++ saying reason ++ against_text state asked found reason ++ cure_at state asked found reason
 
--- the same by its reason; an answer that has none is told alone
+-- the same by its reason; of an answer without one only itself
 abbrev pub refusal_lines : Contents → Asked → List ℕ → List ℕ → Option Reason → List ℕ
 refusal_lines state asked line answer None = answer
 refusal_lines state asked line answer (Some reason) =
     refusal_told state asked line answer (cause_found state asked reason) reason
 
--- ---- of any
+-- ---- of both
 
--- whether a kind is that of an unknown command
+-- a kind is that of an unknown command
 abbrev pub is_unknown : FaultKind → Bool
 is_unknown kind.UnknownCommand = true
 is_unknown other = false
 
--- whether a line with a fault of a kind begins no command
+-- a line with a fault of a kind begins no command
 abbrev pub is_no_command : FaultKind → List ℕ → Bool
 is_no_command kind line = is_unknown kind && not (begins_command line)
 
--- whether it is a record, or may be one whose first word is misspelt
+-- it is a record, or may be one whose first word is misspelt
 abbrev pub may_record : FaultKind → List ℕ → Bool
 may_record kind line = is_record line || is_no_command kind line
 
--- which lines may follow a command with a fault of a kind in the line of a number: where that is its first, those that it
--- was cut off from
+-- the lines that may follow a command with a fault of a kind in the line of a number: if that is its first, those
+-- that it was cut off from
 abbrev pub cut_off : ℕ → FaultKind → List ℕ → Awaited
 cut_off number kind line = if number == 1 && may_record kind line then left_by line else Nothing
 
--- whether a fault comes of one before it: its line begins no command, and may be one of a body or a group that was cut off
+-- a fault is the consequence of one before it: its line begins no command, and may be one of a body or a group that
+-- was cut off
 abbrev pub comes_of_another : Awaited → FaultKind → List ℕ → Bool
 comes_of_another awaited kind line = may_be awaited line && is_no_command kind line
 
--- what is kept of a command with a fault of its own, and which lines may follow it
+-- the diagnostic of a command with a fault of its own, and the lines that may follow it
 abbrev pub fault_account : LineFault → List (List ℕ) → List ℕ → Account
 fault_account fault lines answer =
     let awaited = cut_off fault.line fault.kind (first_of lines) in
     record { told = fault_lines fault.kind (line_at fault.line lines) answer awaited; awaited = awaited }
 
--- what is kept of a command with a fault; where that comes of a fault before it, the lines that tell of that one stay
+-- the diagnostic of a command with a fault; if that is the consequence of a fault before it, the lines about that one
+-- stay
 abbrev pub fault_cause : Account → LineFault → List (List ℕ) → List ℕ → Account
 fault_cause before fault lines answer =
     if comes_of_another before.awaited fault.kind (first_of lines) then passed before (first_of lines)
     else fault_account fault lines answer
 
--- what is kept of a command that is not done, by what was kept before, the state, its lines, what it asks and its answer
+-- the diagnostic of a command that is not done, by the diagnostic before it, the state, its lines, its parsed form
+-- and its answer
 abbrev pub cause_with : Account → Contents → List (List ℕ) → Result Asked LineFault → List ℕ → Account
 cause_with before state lines (Err fault) answer = fault_cause before fault lines answer
 cause_with before state lines (Ok asked) answer = record {

@@ -1,4 +1,4 @@
-//! What a conversation keeps for `why`.
+//! The state that a conversation keeps for `why`.
 ghost use Rattle.std.specs.Prelude.{◌≡◌, IfOk, MatchResult};
 ghost use Rattle.camp_talk.specs.Accounts.{closed, leaves_place, no_account, passed};
 
@@ -6,12 +6,12 @@ use crate::awaited::Awaited;
 use std::alloc::{AllocError, Global};
 use std::marker::Model;
 
-/// What is kept of the last fault or refusal.
+/// The diagnostic of the last fault or refusal.
 #[derive(Drop)]
 pub struct Account {
-    /// The lines that tell why; none, where there was none.
+    /// The lines that `why` shows; none if there was no fault and no refusal.
     told: Vec<u8>,
-    /// Which lines of its command may still come, where that was cut off by a fault in its first line.
+    /// The lines of its command that may still come, if that was cut off by a fault in its first line.
     awaited: Awaited,
 }
 
@@ -24,7 +24,7 @@ impl Model for Account {
 }
 
 impl Account {
-    /// Of no fault and no refusal.
+    /// Starts without a fault or refusal.
     pub fn new(alloc: Global) -> Account
         ensures exact { result ≡ no_account }
     {
@@ -34,7 +34,7 @@ impl Account {
         }
     }
 
-    /// Of a fault or a refusal with these lines, unless there was no memory for them.
+    /// Makes the diagnostic with these lines, unless memory ran out for them.
     pub(crate) fn of(
         told: Result<Vec<u8>, AllocError>,
         awaited: Awaited,
@@ -57,14 +57,14 @@ impl Account {
         self.awaited
     }
 
-    /// The same, where one line more of its command came.
+    /// Returns the same after one more line of its command.
     pub(crate) fn passed(&self, alloc: Global, line: &[u8]) -> Result<Account, AllocError>
         ensures { IfOk result (λ account. account ≡ passed self.now line.now) }
     {
         Account::of(Vec::from_slice(alloc, &self.told), self.awaited.after(line))
     }
 
-    /// No line of its command may come.
+    /// Closes it: no line of its command may come.
     pub(crate) fn close(&mut self)
         ensures { self.new ≡ closed self.old }
     {
@@ -72,7 +72,7 @@ impl Account {
     }
 }
 
-/// Whether an answer leaves a conversation at its place: there is none, or memory ran out.
+/// True if an answer leaves the state as it is: it is empty, or out of memory.
 pub(crate) fn leaves_place(answer: &[u8]) -> bool
     ensures { result ≡ leaves_place answer.now }
 {

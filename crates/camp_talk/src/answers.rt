@@ -27,9 +27,9 @@ use std::alloc::{AllocError, Global};
 use std::io;
 use std::io::Write;
 
-/// The text of the answer to a command, by the number of the lines before it. Where it is not done, `cause`
-/// becomes what is kept of that. Where memory runs out the book and the cause stay; where nothing is asked none is
-/// wanted.
+/// Executes a command and renders its answer, given the number of the lines before it. If it is not done,
+/// `cause` becomes its diagnostic. If memory runs out the book and the diagnostic stay; a command that asks
+/// nothing does not allocate.
 pub(crate) fn respond(
     alloc: Global,
     book: &mut Book<State>,
@@ -65,7 +65,7 @@ pub(crate) fn respond(
     Ok(text)
 }
 
-// The text of the answer to what a command asks, by the number of the lines before it and what is kept of the
+// Renders the answer to a parsed command, given the number of the lines before it and the diagnostic of the
 // last fault or refusal.
 fn answer(
     alloc: Global,
@@ -107,8 +107,8 @@ fn answer_asked(
     }
 }
 
-// The text of the reply to a call. That of an accepted one is made before it is asked, so that the call
-// can't be accepted without being told.
+// Executes a call and renders its reply. The text for an accepted call is made before it is executed, so that
+// no call is accepted without a report.
 fn reply(alloc: Global, book: &mut Book<State>, call: &Call) -> Result<Vec<u8>, AllocError>
     ensures text { IfOk result (λ text. Replies book.old call.now text.items book.new) }
     ensures kept { OnErr result (book.new ≡ book.old) }
@@ -125,7 +125,7 @@ fn reply(alloc: Global, book: &mut Book<State>, call: &Call) -> Result<Vec<u8>, 
     }
 }
 
-// The text of the reply to the next accepted call.
+// Renders the reply to the next accepted call.
 fn accepted_text(alloc: Global, book: &Book<State>) -> Result<Vec<u8>, AllocError>
     ensures { IfOk result (λ text. text.items ≡ answer_text (Ok (Reply.Done (length book.now + 1)))) }
 {
@@ -133,7 +133,7 @@ fn accepted_text(alloc: Global, book: &Book<State>) -> Result<Vec<u8>, AllocErro
     answer_text(alloc, &Ok(Reply::Done(at)))
 }
 
-/// The text of the answer to a command with a fault, by the number of the lines before it.
+/// Renders the answer to a command with a fault, given the number of the lines before it.
 pub(crate) fn fault_text(
     alloc: Global,
     before: u64,
@@ -148,7 +148,8 @@ pub(crate) fn fault_text(
     joined(alloc, &[b"fault ", line, b" ", kind, b"\n"])
 }
 
-/// Writes an answer and flushes it. Of none, nothing is flushed. Where the writer fails, a beginning of it is written.
+/// Writes an answer and flushes it. An empty one is not flushed. If the writer fails, a prefix of the answer
+/// is written.
 pub fn write_answer<W: Write>(writer: &mut W, text: &[u8]) -> io::Result<()>
     ensures writes { MatchResult result
         (λ _. Appends (W.contents writer.old) (W.contents writer.new) text.now)
@@ -162,7 +163,7 @@ pub fn write_answer<W: Write>(writer: &mut W, text: &[u8]) -> io::Result<()>
     Ok(())
 }
 
-/// Writes what answers a command: a text, or that there was no memory for it.
+/// Writes the answer to a command: a text, or out of memory.
 pub(crate) fn write_said<W: Write>(
     writer: &mut W,
     said: &Result<Vec<u8>, AllocError>,

@@ -1,4 +1,4 @@
-//! What a command asks.
+//! Parsing commands.
 ghost use Rattle.std.specs.Prelude.{◌≡◌, ◌∷◌, [], List, Result, bytes_eq, codes};
 ghost use Rattle.camp_call.specs.declared.calls.Call.{Call as SaidCall};
 ghost use Rattle.camp_script.specs.Gives.{Gives};
@@ -13,7 +13,7 @@ use camp_call::Call;
 use camp_script::{FaultKind, Script, ScriptFault, Words, at_line, without_end};
 use std::alloc::Global;
 
-/// Whether a line asks nothing: it has no word, or the first begins with `#`.
+/// True if a line asks nothing: it has no word, or the first begins with `#`.
 pub(crate) fn is_skipped(line: &[u8]) -> bool
     ensures { result ≡ is_skipped (words_of line.now) }
 {
@@ -23,14 +23,14 @@ pub(crate) fn is_skipped(line: &[u8]) -> bool
     }
 }
 
-/// Whether a word, or a line, is this one.
+/// True if a word, or a line, is this one.
 pub(crate) fn is_word(word: &[u8], other: &[u8]) -> bool
     ensures { result ≡ bytes_eq word.now other.now }
 {
     word == other
 }
 
-/// What a command asks, by the script that its call is.
+/// Parses a command, given the script of its call.
 pub(crate) fn read_asked(
     alloc: Global,
     bytes: &[u8],
@@ -56,7 +56,7 @@ pub(crate) fn read_asked(
     }
 }
 
-/// The first line of bytes; an empty one, where there is none.
+/// Returns the first line of bytes, or an empty one.
 pub(crate) fn first_line(bytes: &[u8]) -> &[u8]
     ensures value { result.now ≡ first_of (lines_of bytes.now) }
 {
@@ -66,7 +66,7 @@ pub(crate) fn first_line(bytes: &[u8]) -> &[u8]
     }
 }
 
-// The call of a script, if it has one.
+// Returns the call of a script, if it has one.
 fn call_in(script: Script) -> Result<Option<Call>, ScriptFault>
     ensures { Gives result (call_in script) }
 {
@@ -92,7 +92,8 @@ fn read_call(script: Result<Script, ScriptFault>) -> Result<Asked, ScriptFault>
     }
 }
 
-// Whether a word asks for the cause of the last fault or refusal. Where lines end with CR and LF it has a CR.
+// True if a word asks for the diagnostic of the last fault or refusal. If lines end with CR and LF it has a
+// CR.
 fn is_why(word: &[u8]) -> bool
     ensures { result ≡ is_why word.now }
 {

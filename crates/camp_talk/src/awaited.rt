@@ -7,22 +7,22 @@ use crate::asking::is_word;
 use camp_script::{Words, begins_edit, begins_with, behind_word};
 use camp_why::{begins_signed, call_part};
 
-/// Which lines of a command may still come that was cut off from them.
+/// The lines that may still come of a command that was cut off from them.
 #[derive(Clone, Copy)]
 pub(crate) enum Awaited {
     Nothing,
-    /// A line with a sign, and then those of a body.
+    /// A line with a sign, followed by those of a body.
     Signed,
     /// Those of a body, up to `end`.
     Body,
     /// Those of a group, up to `done`.
     Group,
-    /// Those of a body, and then of its group.
+    /// Those of a body, followed by those of its group.
     GroupBody,
 }
 
 impl Awaited {
-    /// Whether a line may be one of them.
+    /// True if a line may be one of them.
     pub(crate) fn may_be(self, line: &[u8]) -> bool
         ensures { result ≡ may_be self line.now }
     {
@@ -33,7 +33,7 @@ impl Awaited {
         }
     }
 
-    /// What may come behind a line.
+    /// Returns the lines that may come after a line.
     pub(crate) fn after(self, line: &[u8]) -> Awaited
         ensures { result ≡ awaited_after self line.now }
     {
@@ -49,14 +49,16 @@ impl Awaited {
     }
 }
 
-/// Which lines follow a line that is cut off from them, where it is a record, or may be one that is misspelt.
+/// Returns the lines that follow a line that is cut off from them, if it is a record, or may be a misspelt
+/// one.
 pub(crate) fn left_by(line: &[u8]) -> Awaited
     ensures { result ≡ left_by line.now }
 {
     left_behind(behind_word(behind_word(call_part(line))))
 }
 
-/// Whether the first word of a line is `client`, or that of a command which may be unknown by what stands behind it.
+/// True if the first word of a line is `client`, or that of a command which may be unknown only because of
+/// the words after it.
 pub(crate) fn begins_command(line: &[u8]) -> bool
     ensures { result ≡ begins_command line.now }
 {
@@ -66,7 +68,7 @@ pub(crate) fn begins_command(line: &[u8]) -> bool
         || begins_with(line, b"client")
 }
 
-/// Whether a line is a record, also behind `whatif`.
+/// True if a line is a record, perhaps after `whatif`.
 pub(crate) fn is_record(line: &[u8]) -> bool
     ensures { result ≡ is_record line.now }
 {
@@ -76,14 +78,14 @@ pub(crate) fn is_record(line: &[u8]) -> bool
     }
 }
 
-// Which lines follow a record, by what stands behind its branch.
+// Returns the lines that follow a record, by the rest of its line after the branch.
 fn left_behind(line: &[u8]) -> Awaited
     ensures { result ≡ left_behind line.now }
 {
     said_in(behind_word(line), said_in(line, Awaited::Signed))
 }
 
-// Which lines follow, by the first word of a line that says it; else these.
+// Returns the lines that follow, by the first word of a line that says it; else these.
 fn said_in(line: &[u8], other: Awaited) -> Awaited
     ensures { result ≡ said_in (words_of line.now) other }
 {
@@ -101,28 +103,28 @@ fn said_in(line: &[u8], other: Awaited) -> Awaited
     other
 }
 
-// Whether a word of a record says that no lines follow.
+// True if a word of a record says that no lines follow.
 fn is_short(word: &[u8]) -> bool
     ensures { result ≡ is_short word.now }
 {
     is_form(word, b"add", b"Add", b"ADD") || is_form(word, b"remove", b"Remove", b"REMOVE")
 }
 
-// Whether it says that those of a group do.
+// True if it says that those of a group follow.
 fn is_group(word: &[u8]) -> bool
     ensures { result ≡ is_group word.now }
 {
     is_form(word, b"group", b"Group", b"GROUP") || is_form(word, b"group\r", b"Group\r", b"GROUP\r")
 }
 
-// Whether it says that those of a body do.
+// True if it says that those of a body follow.
 fn is_edit(word: &[u8]) -> bool
     ensures { result ≡ is_edit word.now }
 {
     is_form(word, b"edit", b"Edit", b"EDIT")
 }
 
-// Whether a word is one of three: small, with a capital letter, and in capitals.
+// True if a word is one of three: in small letters, with a capital letter, and in capitals.
 fn is_form(word: &[u8], small: &[u8], capital: &[u8], capitals: &[u8]) -> bool
     ensures { result ≡ is_form small.now capital.now capitals.now word.now }
 {

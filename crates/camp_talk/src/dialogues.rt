@@ -1,4 +1,4 @@
-//! Turns that are taken one after the other.
+//! Steps that are taken one after the other.
 ghost use Rattle.std.specs.Prelude.{◌≡◌, ◌-◌, ◌^◌, ◌<◌, Bool, IfOk, Result, true, ℕ};
 ghost use Rattle.camp_talk.specs.Accounts.{no_account};
 ghost use Rattle.camp_talk.specs.Dialogues.{TakesTurns};
@@ -10,24 +10,24 @@ use camp_repo::{Book, State};
 use std::alloc::Global;
 use std::io::{BufRead, Write};
 
-/// What is done turn by turn.
+/// A dialogue that is held step by step.
 pub trait Dialogue {
-    /// Why it can't go on.
+    /// Why it can't continue.
     type Fault;
 
-    // What a turn comes to: from where it begins, by its answer, to where it ends.
+    // The relation of a step: the place before it, its result, and the place after it.
     ghost comes_to: { Self → Result Bool Self.Fault → Self → Type 0 };
 
-    // How many more turns there may be at most.
+    // The most steps that may still come.
     ghost left: { Self → ℕ };
 
-    /// Takes one turn. Whether there may be more.
+    /// Takes one step. True if there may be more.
     fn turn(&mut self) -> Result<bool, Self::Fault>
         ensures turns { comes_to self.old result self.new }
         ensures fewer { IfOk result (λ more. more ≡ true → left self.new < left self.old) };
 }
 
-/// Takes turns, one after the other, until there is no more, or one can't be taken.
+/// Takes steps, one after the other, until there is no more, or one fails.
 pub fn talk<D: Dialogue>(dialogue: &mut D) -> Result<(), D::Fault>
     ensures talks { TakesTurns D.comes_to dialogue.old result dialogue.new }
 {
@@ -35,21 +35,22 @@ pub fn talk<D: Dialogue>(dialogue: &mut D) -> Result<(), D::Fault>
     Ok(())
 }
 
-/// A conversation: the commands of a reader are asked of a book at seat 0, and their answers go to a writer.
+/// A conversation: the commands of a reader are executed on a book at seat 0, and their answers go to a
+/// writer.
 #[derive(Drop)]
 pub struct Conversation<R, W> {
     alloc: Global,
     book: Book<State>,
-    /// How many lines were read.
+    /// The number of lines that were read.
     lines: u64,
-    /// What is kept of the last fault or refusal.
+    /// The diagnostic of the last fault or refusal.
     cause: Account,
     reader: R,
     writer: W,
 }
 
 impl<R: BufRead, W: Write> Conversation<R, W> {
-    /// Before the first command.
+    /// Starts before the first command.
     pub fn new(alloc: Global, book: Book<State>, reader: R, writer: W) -> Conversation<R, W>
         ensures book { result.book ≡ book }
         ensures first { result.lines ≡ 0 }

@@ -10,18 +10,18 @@ use std::{fmt, io};
 /// Why a conversation ended before its input did.
 #[derive(Clone, Copy, Debug)]
 pub enum TalkFault {
-    /// There was no memory for the lines of a command.
+    /// The lines of a command ran out of memory.
     Memory,
     /// The reader failed, with this error.
     Read(io::Error),
-    /// The writer failed, with this error. A beginning of an answer was written.
+    /// The writer failed, with this error. A prefix of an answer was written.
     Write(io::Error),
-    /// A line has no number below 2^64. No conversation comes to that.
+    /// A line has no number below 2^64. No conversation reaches that.
     Internal,
 }
 
 impl TalkFault {
-    /// The exit status of a program that ends with it.
+    /// Returns the exit status of a program that ends with it.
     pub fn status(&self) -> u8
         ensures exact { result ≡ fault_status self.now }
     {
@@ -52,14 +52,14 @@ impl Error for TalkFault {}
 pub enum LoadFault {
     /// The command that begins at this line was answered by this text, which is a fault or a refusal.
     Answer { line: u64, text: Vec<u8> },
-    /// There was no memory for the command that begins at this line, or for its answer.
+    /// The command that begins at this line, or its answer, ran out of memory.
     Memory { line: u64 },
     /// The next command could not be read.
     Talk(TalkFault),
 }
 
 impl LoadFault {
-    /// The exit status of a program that ends with it.
+    /// Returns the exit status of a program that ends with it.
     pub fn status(&self) -> u8
         ensures exact { result ≡ load_status self.now }
     {

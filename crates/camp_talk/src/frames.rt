@@ -1,4 +1,4 @@
-//! Requests in frames: each stands behind a line with the number of its bytes, and so does its answer.
+//! Requests in frames: each comes after a line with its number of bytes, and so does its answer.
 ghost use Rattle.std.specs.Prelude.{◌≡◌, ◌-◌, ◌^◌, Some};
 ghost use Rattle.camp_talk.specs.Frames.{Serves, frame_status, frame_words};
 ghost use Rattle.camp_talk.specs.declared.frames.FrameFault.TheVariants as frame;
@@ -15,18 +15,18 @@ use std::io::{BufRead, Write};
 /// Why no more requests can be served.
 #[derive(Clone, Copy, Debug)]
 pub enum FrameFault {
-    /// The line before a request is no number of 1 to 10 digits.
+    /// The line before a request is not a number of 1 to 10 digits.
     NoNumber,
-    /// A request has more bytes than one may have.
+    /// A request is too long.
     TooLarge,
-    /// The input ended inside a request, or inside the line before it.
+    /// The input ended within a request, or within the line before it.
     Cut,
     /// A request could not be read or not be answered, or its answer not be written.
     Talk(TalkFault),
 }
 
 impl FrameFault {
-    /// The exit status of a program that ends with it.
+    /// Returns the exit status of a program that ends with it.
     pub fn status(&self) -> u8
         ensures exact { result ≡ frame_status self.now }
     {
@@ -67,14 +67,14 @@ impl From<TalkFault> for FrameFault {
 pub struct FramedConversation<R, W> {
     alloc: Global,
     book: Book<State>,
-    /// How many requests were served.
+    /// The number of requests that were served.
     served: u64,
     reader: R,
     writer: W,
 }
 
 impl<R: BufRead, W: Write> FramedConversation<R, W> {
-    /// Before the first request.
+    /// Starts before the first request.
     pub fn new(alloc: Global, book: Book<State>, reader: R, writer: W) -> FramedConversation<R, W>
         ensures book { result.book ≡ book }
         ensures first { result.served ≡ 0 }

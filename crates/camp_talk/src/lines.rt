@@ -1,4 +1,4 @@
-//! The lines of a reader, behind one another.
+//! Reading the lines of a reader.
 ghost use Rattle.std.specs.Io.KnownBytes.{Consumes};
 ghost use Rattle.std.specs.Prelude.{◌≡◌, ◌==◌, ◌+◌, ◌-◌, ◌^◌, ◌<◌, ◌≤◌, ◌++◌, [], length, take, drop, IfOk, IfErr, OnErr};
 ghost use Rattle.std.specs.List.{position_or_len};
@@ -12,24 +12,24 @@ use std::io::{self, BufRead, ErrorKind};
 /// The most bytes of a line that is read whole.
 const LONGEST_READ: usize = 1_048_576;
 
-// A line of so many is too long.
+// A line of this many bytes is too long.
 const TOO_LONG: usize = LONGEST_READ + 1;
 
-// So many bytes are read of a line that is too long.
+// Bytes that are read of a line that is too long.
 const CUT_LINE: usize = 4_098;
 
-/// What a reader was seen to have of a line.
+/// What a reader shows of a line.
 #[derive(Clone, Copy)]
 pub(crate) enum Seen {
-    /// A part, and more is to come.
+    /// A part, and more may follow.
     Part,
-    /// The line, and its LF.
+    /// The line, and its line feed.
     Line,
     /// No more: the input has ended.
     End,
 }
 
-/// Reads a line behind bytes. Whether it has its LF; where it has none, the input has ended.
+/// Appends a line. True if it has a line feed; else the input has ended.
 pub(crate) fn read_line<R: BufRead>(reader: &mut R, text: &mut Vec<u8>) -> Result<bool, TalkFault>
     ensures line { IfOk result (λ whole.
         ReadsLine (R.remaining reader.old) (R.remaining reader.new) whole text.old.items text.new.items) }
@@ -48,8 +48,8 @@ pub(crate) fn read_line<R: BufRead>(reader: &mut R, text: &mut Vec<u8>) -> Resul
     }
 }
 
-/// Reads a line and its LF. Puts as much of the line behind bytes as shows whether it is too long. Whether it
-/// has its LF; where it has none, the input has ended.
+/// Reads a line with its line feed. Appends enough of it to show whether it is too long. True if it has a
+/// line feed; else the input has ended.
 pub(crate) fn read_front<R: BufRead>(reader: &mut R, text: &mut Vec<u8>) -> Result<bool, TalkFault>
     ensures front { IfOk result (λ whole. Takes (R.remaining reader.old) (R.remaining reader.new)
         (longest_read + 1) (last_seen whole) text.old.items text.new.items) }
@@ -68,8 +68,8 @@ pub(crate) fn read_front<R: BufRead>(reader: &mut R, text: &mut Vec<u8>) -> Resu
     Err(TalkFault::Read(ErrorKind::TimedOut.into()))
 }
 
-// Reads what the reader shows of a line, and its LF where it shows that. Puts as much of the line behind
-// bytes as has room.
+// Reads what the reader shows of a line, with its line feed if it shows that. Appends as much of the line as
+// fits.
 fn read_some<R: BufRead>(reader: &mut R, text: &mut Vec<u8>, room: usize) -> Result<Seen, TalkFault>
     ensures some { IfOk result (λ seen.
         Takes (R.remaining reader.old) (R.remaining reader.new) room seen text.old.items text.new.items) }
@@ -92,7 +92,7 @@ fn read_some<R: BufRead>(reader: &mut R, text: &mut Vec<u8>, room: usize) -> Res
     Ok(seen)
 }
 
-/// The fault of a reader that failed with this error. A reader that is interrupted is asked again.
+/// Returns the fault of a reader that failed with this error; retries a reader that is interrupted.
 pub(crate) fn unless_interrupted(error: io::Error) -> Result<(), TalkFault>
     ensures fault { IfErr result IsReading }
 {
@@ -103,7 +103,7 @@ pub(crate) fn unless_interrupted(error: io::Error) -> Result<(), TalkFault>
     }
 }
 
-/// Puts bytes behind others. Where there was no memory, the others are as they were.
+/// Appends bytes to others, which are unchanged if memory runs out.
 pub(crate) fn hold(text: &mut Vec<u8>, bytes: &[u8]) -> Result<(), TalkFault>
     ensures items { IfOk result (λ _. text.new.items ≡ text.old.items ++ bytes.now) }
     ensures kept { OnErr result (text.new.items ≡ text.old.items) }
@@ -115,7 +115,7 @@ pub(crate) fn hold(text: &mut Vec<u8>, bytes: &[u8]) -> Result<(), TalkFault>
     }
 }
 
-// How many bytes stand before the first LF, or how many there are.
+// Counts the bytes before the first line feed, or all if there is none.
 fn line_len(shown: &[u8]) -> usize
     ensures place { result ≡ position_or_len (λ byte. byte == newline) shown.now }
     ensures within { result ≤ length shown.now }
@@ -126,7 +126,7 @@ fn line_len(shown: &[u8]) -> usize
         .unwrap_or(shown.len())
 }
 
-// What is seen where so many bytes are shown, and so many of them stand before an LF.
+// Returns what is shown, given the number of bytes that are shown and the number of those before a line feed.
 fn seen_of(shown: usize, len: usize) -> Seen
     ensures { result ≡ seen_of shown len }
 {
@@ -139,7 +139,7 @@ fn seen_of(shown: usize, len: usize) -> Seen
     Seen::Part
 }
 
-// How many bytes of a line are taken, with its LF where that was seen.
+// Returns how many bytes of a line are taken, with its line feed if that was shown.
 fn taken_len(len: usize, seen: Seen) -> usize
     requires { len < 2 ^ 64 - 1 }
     ensures { result ≡ len + length (feed_of seen) }
@@ -150,7 +150,7 @@ fn taken_len(len: usize, seen: Seen) -> usize
     }
 }
 
-// Cuts the line that stands behind so many bytes, where it is too long.
+// Shortens the line that begins at an index, if it is too long.
 fn cut_line(text: &mut Vec<u8>, start: usize)
     requires { start ≤ length text.old.items }
     ensures { text.new.items ≡ take start text.old.items ++ as_read (drop start text.old.items) }
@@ -162,7 +162,7 @@ fn cut_line(text: &mut Vec<u8>, start: usize)
     text.truncate(start + CUT_LINE);
 }
 
-/// The line that begins at a place of bytes and ends with them, without its LF.
+/// Returns the line from an index to the end of bytes, without its line feed.
 pub(crate) fn last_line(text: &[u8], start: usize) -> &[u8]
     requires { start < length text.now }
     ensures { result.now ≡ take (length text.now - 1 - start) (drop start text.now) }

@@ -1,4 +1,4 @@
-//! Commands that are loaded: each has to be done.
+//! Loading commands: each has to be done.
 ghost use Rattle.std.specs.Prelude.{◌≡◌, true, IfOk};
 ghost use Rattle.camp_talk.specs.Inside.Hearing.{LoadsOne};
 ghost use Rattle.camp_talk.specs.Loads.{Loads, tells_failure};
@@ -10,8 +10,8 @@ use camp_repo::{Book, State};
 use std::alloc::Global;
 use std::io::BufRead;
 
-/// Asks the commands of a reader of a book at seat 0, one after the other, until the input ends or one is
-/// not done. Of the answers only the one that tells so is kept.
+/// Executes the commands of a reader on a book at seat 0, one after the other, until the input ends or one is
+/// not done. Only the answer that says so is kept.
 pub fn load<R: BufRead>(
     alloc: Global,
     book: &mut Book<State>,
@@ -25,7 +25,7 @@ pub fn load<R: BufRead>(
     Ok(())
 }
 
-// Loads a command. Whether there may be more: else the input has ended. `lines` counts those that were read.
+// Loads a command. True if there may be more; else the input has ended. `lines` counts those that were read.
 fn load_one<R: BufRead>(
     alloc: Global,
     book: &mut Book<State>,
@@ -57,7 +57,7 @@ fn load_one<R: BufRead>(
     Ok(is_whole)
 }
 
-// Whether an answer tells that its command was not done.
+// True if an answer says that its command was not done.
 fn tells_failure(answer: &[u8]) -> bool
     ensures { result ≡ tells_failure answer.now }
 {

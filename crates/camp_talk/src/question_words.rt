@@ -1,4 +1,4 @@
-//! The words of questions.
+//! Parsing questions.
 ghost use Rattle.std.specs.Prelude.{map};
 ghost use Rattle.camp_script.specs.Gives.{Gives};
 ghost use Rattle.camp_talk.specs.Asking.{branch_alone, branch_and_any_names, branch_and_names, branch_and_path, branches_and_names, conflict_question, plain_question, question_of, short_question, two_names};
@@ -14,7 +14,7 @@ use camp_script::{
 };
 use std::alloc::Global;
 
-/// The question that a first word and those behind it ask, if they ask one.
+/// Parses a question from its first word and the others, if they ask one.
 pub(crate) fn read_question(
     alloc: Global,
     word: &[u8],

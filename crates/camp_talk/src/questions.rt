@@ -1,46 +1,46 @@
-//! Questions of a conversation.
+//! The questions of a conversation.
 use camp_base::{Name, Path};
 use camp_call::{Call, Names};
 
 /// A question. It changes nothing.
 #[derive(Debug, Drop)]
 pub enum Question {
-    /// What patches need in a branch.
+    /// The dependencies of patches in a branch.
     Needs { branch: Name, names: Names },
-    /// What must go where patches are taken out of a branch.
+    /// The patches that must be taken out of a branch together with these.
     Held { branch: Name, names: Names },
-    /// What one branch has and another lacks.
+    /// The patches that one branch has and another lacks.
     Missing { from: Name, to: Name },
-    /// A patch as it stands in a branch.
+    /// A patch as it is in a branch.
     Show { branch: Name, name: Name },
-    /// Which patch put each line of a file there.
+    /// The patch that added each line of a file.
     Annotate { branch: Name, path: Path },
-    /// What a pull of patches from one branch into another has to list.
+    /// The patches that a pull from one branch into another has to list.
     Along { from: Name, to: Name, names: Names },
-    /// The pairs of patches of a branch that are in an open conflict.
+    /// The pairs of patches of a branch that are in an unresolved conflict.
     Open(Name),
-    /// What a patch in conflict says.
+    /// The side of a patch in conflict.
     Side { branch: Name, name: Name },
-    /// A file with the open sides of its conflicts.
+    /// A file with the unresolved sides of its conflicts.
     Marks { branch: Name, path: Path },
-    /// The lines of a file.
+    /// Renders the lines of a file.
     File { branch: Name, path: Path },
     /// The branches.
     Branches,
-    /// The patches of a branch, what each needs directly, and which are in conflict: all of them, or where
-    /// some are named, these, what they need and what needs them.
+    /// The patches of a branch, their direct dependencies, and the conflicts between them: all of them or, if
+    /// some are named, these with their dependencies and dependents.
     Graph { branch: Name, names: Names },
-    /// What a call would be answered, and how its branch would stand then.
+    /// The reply that a call would get, and the state of its branch after it.
     WhatIf(Call),
     /// The accepted calls.
     History,
-    /// A script that gives the repository back.
+    /// A script that restores the repository.
     Keep,
-    /// How commands are written, or what refusals say.
+    /// The forms of commands, or the meanings of refusals.
     Help(Topic),
 }
 
-/// What is asked for help on: all commands, or one; all refusals, or one.
+/// The topic of help: all commands, or one; all refusals, or one.
 #[derive(Clone, Copy, Debug)]
 pub enum Topic {
     Commands,
@@ -91,12 +91,12 @@ pub enum Reason {
     SameBranch,
 }
 
-/// What a command asks.
+/// A parsed command.
 #[derive(Drop)]
 pub(crate) enum Asked {
     Nothing,
     Call(Call),
     Question(Question),
-    /// The cause of the last fault or refusal.
+    /// The diagnostic of the last fault or refusal.
     Why,
 }

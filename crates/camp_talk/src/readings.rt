@@ -1,4 +1,4 @@
-//! A command of a reader, and what it asks.
+//! Reading and parsing a command.
 ghost use Rattle.std.specs.Prelude.{◌≡◌, length, Ok, true, IfOk, IfErr};
 ghost use Rattle.camp_script.specs.CommandLines.{wants};
 ghost use Rattle.camp_script.specs.Gives.{Gives};
@@ -28,7 +28,7 @@ pub(crate) struct Command {
     pub(crate) asked: Result<Asked, ScriptFault>,
 }
 
-// The lines of a command, and the script that its call is.
+// Returns the lines of a command, and the script of its call.
 #[derive(Drop)]
 struct Lines {
     bytes: Vec<u8>,
@@ -86,7 +86,7 @@ fn read_lines<R: BufRead>(alloc: Global, reader: &mut R) -> Result<Lines, TalkFa
     })
 }
 
-// Reads the next line of a command. Whether it has its LF; where it has none, the input has ended.
+// Reads the next line of a command. True if it has a line feed; else the input has ended.
 fn read_next<R: BufRead>(
     reader: &mut R,
     bytes: &mut Vec<u8>,
@@ -110,7 +110,7 @@ fn read_next<R: BufRead>(
     Ok(false)
 }
 
-/// The number of the lines of bytes.
+/// Counts the lines of bytes.
 pub(crate) fn count_lines(bytes: &[u8]) -> u64
     ensures { result ≡ length (lines_of bytes.now) }
 {

@@ -8,10 +8,11 @@ use crate::{Account, TalkFault};
 use camp_repo::{Book, State};
 use std::alloc::Global;
 
-/// Appends the answer to a request: what a conversation of just these bytes answers, which begins at the book as
-/// it is. A body or a group that is not ended has its fault; an empty request has an empty answer; several commands
-/// have their answers one behind another. Lines count from the beginning of the request. After a fault the book
-/// holds what the commands before it did; a command whose answer is not there whole may have been done.
+/// Executes a request and appends its answer: that of a conversation of exactly these bytes, which begins at
+/// the book as it is. A body or a group that has not ended has its fault; an empty request has an empty
+/// answer; several commands have their answers in order. Lines count from the start of the request. After a
+/// fault the book has the effects of the commands before it; a command whose answer is not there whole may
+/// have been executed.
 #[tactic(auto, using(crate::proofs::Turns::begins_so, crate::proofs::Turns::holds_on))]
 pub fn answer_request(
     alloc: Global,
@@ -37,7 +38,8 @@ pub fn answer_request(
     }
 }
 
-// Why an answer that is written to memory could not be made: where it could not be written, memory ran out.
+// Returns why an answer that is written to memory could not be made: if it could not be written, memory ran
+// out.
 fn in_memory(why: TalkFault) -> TalkFault
     ensures { IsNotWriting result }
 {

@@ -1,4 +1,4 @@
-//! One request in its frame: it is read, answered, and the answer written.
+//! Serving one request in its frame.
 ghost use Rattle.std.specs.Prelude.{◌≡◌, [], true, IfErr, IfOk, MatchOption, MatchResult};
 ghost use Rattle.std.specs.Io.KnownBytes.{Appends};
 ghost use Rattle.camp_talk.specs.Frames.{Serves, framed};
@@ -19,8 +19,9 @@ use std::io::{BufRead, ErrorKind, Write};
 /// The most bytes of a request.
 const MAX_REQUEST: u64 = 268_435_456;
 
-/// Reads a request in its frame, answers it over a book at seat 0, writes the frame of the answer and flushes.
-/// Whether there may be more: else the input has ended. `served` counts the requests that were served.
+/// Reads a request in its frame, answers it over a book at seat 0, writes the frame of the answer and
+/// flushes. True if there may be more; else the input has ended. `served` counts the requests that were
+/// served.
 pub fn serve<R: BufRead, W: Write>(
     alloc: Global,
     book: &mut Book<State>,
@@ -67,7 +68,7 @@ fn read_request<R: BufRead>(alloc: Global, reader: &mut R) -> Result<Option<Vec<
     Ok(Some(request))
 }
 
-// The number of the bytes of a request, by the line before it.
+// Parses the line before a request as its number of bytes.
 fn request_len(line: &[u8]) -> Result<u64, FrameFault>
     ensures { MatchResult result (IsCounted line.now) (IsNotCounted line.now) }
 {
@@ -78,7 +79,7 @@ fn request_len(line: &[u8]) -> Result<u64, FrameFault>
     }
 }
 
-// Reads so many bytes. Whether they were all there; else the input has ended.
+// Reads a number of bytes. True if they were all there; else the input has ended.
 fn read_bytes<R: BufRead>(
     reader: &mut R,
     bytes: &mut Vec<u8>,
@@ -100,7 +101,7 @@ fn read_bytes<R: BufRead>(
     Err(TalkFault::Read(ErrorKind::TimedOut.into()))
 }
 
-// Reads what the reader shows, as far as there is room. Whether there may be more; else the input has ended.
+// Reads what the reader shows, up to the capacity. True if there may be more; else the input has ended.
 fn read_more<R: BufRead>(reader: &mut R, bytes: &mut Vec<u8>, room: u64) -> Result<bool, TalkFault>
     ensures reads { IfOk result (λ more. ReadsMore (R.remaining reader.old) (R.remaining reader.new) room more bytes.old.items bytes.new.items) }
     ensures fault { IfErr result IsReading }

@@ -1,4 +1,4 @@
-//! One command of a conversation: it is read, asked and answered.
+//! One command of a conversation: it is read, executed and answered.
 ghost use Rattle.std.specs.Prelude.{◌≡◌, ◌+◌, true, IfOk, IfErr};
 ghost use Rattle.camp_talk.specs.Inside.Hearing.{Hears};
 ghost use Rattle.camp_talk.specs.Talks.{HasRisen, ReadsNone, Turns};
@@ -10,21 +10,21 @@ use camp_repo::{Book, State};
 use std::alloc::{AllocError, Global};
 use std::io::{BufRead, Write};
 
-/// A command that was read and asked.
+/// A command that was read and executed.
 #[derive(Drop)]
 pub(crate) struct Heard {
-    /// The text that answers it, unless there was no memory.
+    /// The response, or out of memory.
     pub(crate) said: Result<Vec<u8>, AllocError>,
     /// The number of its first line.
     pub(crate) line: u64,
-    /// How many lines were read, its own among them.
+    /// The number of lines that were read, including its own.
     pub(crate) lines: u64,
     /// Its last line was read; else the input has ended.
     pub(crate) is_whole: bool,
 }
 
-/// Reads a command, and asks it of a book at seat 0. So many lines were read before it. Where it has a fault or is
-/// refused, `cause` becomes what is kept of that.
+/// Reads a command, and executes it on a book at seat 0, given the number of lines before it. If it has a
+/// fault or is refused, `cause` becomes its diagnostic.
 pub(crate) fn hear<R: BufRead>(
     alloc: Global,
     book: &mut Book<State>,
@@ -62,9 +62,9 @@ pub(crate) fn hear<R: BufRead>(
     })
 }
 
-/// Reads a command, asks it of a book at seat 0, writes its answer and flushes. Whether there may be
-/// more: else the input has ended. `lines` counts the lines that were read; after a fault it stays. `cause` is
-/// what is kept of the last fault or refusal, and at first of none.
+/// Reads a command, executes it on a book at seat 0, writes its answer and flushes. True if there may be
+/// more; else the input has ended. `lines` counts the lines that were read; after a fault it is unchanged.
+/// `cause` is the diagnostic of the last fault or refusal.
 pub fn turn<R: BufRead, W: Write>(
     alloc: Global,
     book: &mut Book<State>,

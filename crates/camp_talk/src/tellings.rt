@@ -18,7 +18,7 @@ use camp_repo::{Book, Call, State};
 use camp_script::{history_text, kept_text};
 use std::alloc::{AllocError, Global};
 
-/// The text of the answer to a question about the repository of a book.
+/// Renders the answer to a question about the repository of a book.
 pub fn answer_question(
     alloc: Global,
     book: &Book<State>,
@@ -29,7 +29,7 @@ pub fn answer_question(
     answer_at(alloc, book.history(), book.state(), question)
 }
 
-/// The text of the answer at the state after a history.
+/// Renders the answer at the state after a history.
 pub(crate) fn answer_at(
     alloc: Global,
     history: &[(u32, Call)],

@@ -1,4 +1,4 @@
-//! What answers to questions have in common.
+//! Parts of the answers to questions.
 ghost use Rattle.std.specs.Prelude.{◌≡◌, ◌++◌, IfOk, MatchResult, OnOk, string_bytes};
 ghost use Rattle.std.specs.List.{flat_map};
 ghost use Rattle.camp_script.specs.Texts.{reply_text};
@@ -14,7 +14,7 @@ use camp_script::answer_text;
 use itoa::Buffer;
 use std::alloc::{AllocError, Global};
 
-/// A text behind the word of its command and the number of its lines.
+/// Renders a text after the word of its command and the number of its lines.
 pub(crate) fn counted(alloc: Global, word: &str, text: &[u8]) -> Result<Vec<u8>, AllocError>
     ensures { IfOk result (λ whole. whole.items ≡ counted word.now text.now) }
 {
@@ -23,7 +23,7 @@ pub(crate) fn counted(alloc: Global, word: &str, text: &[u8]) -> Result<Vec<u8>,
     joined(alloc, &[word.as_bytes(), b" ", lines, b"\n", text])
 }
 
-/// The same of a text that was made, unless there was no memory for it.
+/// The same for a text that was made, unless memory ran out.
 pub(crate) fn counted_text(
     alloc: Global,
     word: &str,
@@ -34,21 +34,21 @@ pub(crate) fn counted_text(
     counted(alloc, word, &text?)
 }
 
-/// The bytes of words that were made, unless there was no memory for them.
+/// Returns the bytes of words that were made, unless memory ran out.
 pub(crate) fn made(words: Result<String, AllocError>) -> Result<Vec<u8>, AllocError>
     ensures { IfOk result (λ text. MatchResult words (λ words. text.items ≡ string_bytes words) (λ _. ⊥)) }
 {
     Ok(words?.into_bytes())
 }
 
-/// Parts, one behind the other.
+/// Joins parts, one after the other.
 pub(crate) fn joined(alloc: Global, parts: &[&[u8]]) -> Result<Vec<u8>, AllocError>
     ensures { IfOk result (λ text. text.items ≡ flat_map (λ part. part.now) parts.now) }
 {
     parts.concat(alloc)
 }
 
-/// A text and another one behind it, unless there was no memory for one of them.
+/// Joins a text and another one after it, unless memory ran out for one of them.
 pub(crate) fn both(
     first: Result<Vec<u8>, AllocError>,
     second: Result<Vec<u8>, AllocError>,
@@ -62,7 +62,7 @@ pub(crate) fn both(
     Ok(whole)
 }
 
-/// Appends parts, one behind the other.
+/// Appends parts, one after the other.
 pub(crate) fn append_parts(text: &mut Vec<u8>, parts: &[&[u8]]) -> Result<(), AllocError>
     ensures { OnOk result (text.new.items ≡ text.old.items ++ flat_map (λ part. part.now) parts.now) }
 {
@@ -72,7 +72,7 @@ pub(crate) fn append_parts(text: &mut Vec<u8>, parts: &[&[u8]]) -> Result<(), Al
     Ok(())
 }
 
-/// The text of what a question without an answer is told: its refusal. Want of memory has none.
+/// Renders the refusal of a question without an answer. Out of memory has no text.
 pub(crate) fn unanswered(alloc: Global, why: Unanswered) -> Result<Vec<u8>, AllocError>
     ensures { IfOk result (λ text. (refusal : SaidRefusal) × (why ≡ fault.Refused refusal) × (text.items ≡ reply_text (reply.Refused refusal))) }
 {

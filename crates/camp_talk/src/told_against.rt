@@ -1,4 +1,4 @@
-//! What stands against a command that is refused: the branches that it names, what is there, and what is not.
+//! What prevents a command that is refused: the branches that it names, and what exists and what does not.
 ghost use Rattle.std.specs.List.{flat_map};
 ghost use Rattle.std.specs.Prelude.{◌≡◌, ◌++◌, IfOk, OnOk, Some, codes, take};
 ghost use Rattle.camp_talk.specs.Against.{about, absent_sides, absent_text, branches_line, depends_cure, had_text, holders, holders_line, holds, lack_line, lack_text, lacked_text, lacks, more_names, most_names, names_line, new_text, nothing_text, other_target, place_word, record_cure, recorded_text, sides_text, target};
@@ -21,7 +21,7 @@ pub(crate) enum Place {
     Branch,
 }
 
-/// Which branches a command names as FROM, as BRANCH and as TO.
+/// Renders the branches that a command names as FROM, as BRANCH and as TO.
 pub(crate) fn tell_sides(alloc: Global, asked: &Asked) -> Result<Vec<u8>, AllocError>
     ensures { IfOk result (λ text. text.items ≡ sides_text (about asked.now) (target asked.now)) }
 {
@@ -36,7 +36,7 @@ pub(crate) fn tell_sides(alloc: Global, asked: &Asked) -> Result<Vec<u8>, AllocE
     joined(alloc, &[place, b" is ", from, b", and TO is ", to, b".\n"])
 }
 
-/// Of the branches that a command names, which are not there; and which there are.
+/// Renders those of the branches that a command names that do not exist; and the branches that do.
 pub(crate) fn tell_absent(
     alloc: Global,
     state: &State,
@@ -57,21 +57,21 @@ pub(crate) fn tell_absent(
     both(Ok(text), tell_branches(alloc, state))
 }
 
-/// That the branch which a call would make is there; and which there are.
+/// Renders that the branch that a call would create exists; and the branches.
 pub(crate) fn tell_new(alloc: Global, state: &State, asked: &Asked) -> Result<Vec<u8>, AllocError>
     ensures { IfOk result (λ text. text.items ≡ new_text state.now asked.now ++ branches_line state.now) }
 {
     both(new_text(alloc, state, asked), tell_branches(alloc, state))
 }
 
-/// The branches that there are.
+/// Renders the branches.
 pub(crate) fn tell_branches(alloc: Global, state: &State) -> Result<Vec<u8>, AllocError>
     ensures { IfOk result (λ text. text.items ≡ branches_line state.now) }
 {
     names_line(alloc, &[b"Branches:"], state.names())
 }
 
-/// Which branches have the patch that a call would record.
+/// Renders the branches that have the patch that a call would record.
 pub(crate) fn tell_recorded(
     alloc: Global,
     state: &State,
@@ -85,7 +85,7 @@ pub(crate) fn tell_recorded(
     }
 }
 
-/// That a branch lacks a patch that a command names, and which have it.
+/// Renders that a branch lacks a patch that a command names, and which branches have it.
 pub(crate) fn tell_lacked(
     alloc: Global,
     state: &State,
@@ -105,7 +105,7 @@ pub(crate) fn tell_lacked(
     }
 }
 
-/// Which patches of FROM are those that a pull would bring, where TO has all.
+/// Renders the patches of FROM that a pull would bring, if TO has all.
 pub(crate) fn tell_nothing(
     alloc: Global,
     state: &State,
@@ -137,7 +137,7 @@ fn had_text(alloc: Global, names: &[Name]) -> Result<Vec<u8>, AllocError>
     names_line(alloc, &[b"TO has already:"], names)
 }
 
-/// What can be done where the patch is there that a call would record.
+/// Renders the hint if the patch exists that a call would record.
 pub(crate) fn record_cure(state: &State, asked: &Asked) -> &'static str
     ensures { result.now ≡ record_cure state.now asked.now }
 {
@@ -152,7 +152,7 @@ pub(crate) fn record_cure(state: &State, asked: &Asked) -> &'static str
     }
 }
 
-/// What can be done where one patch stands on another.
+/// Renders the hint if one patch depends on another.
 pub(crate) fn depends_cure(asked: &Asked) -> &'static str
     ensures { result.now ≡ depends_cure asked.now }
 {
@@ -164,7 +164,7 @@ pub(crate) fn depends_cure(asked: &Asked) -> &'static str
     }
 }
 
-// The branch TO, where it is another one than the branch that a command is about.
+// Returns the branch TO, if it is another one than the branch that a command is about.
 fn other_target(place: &Option<(Place, Name)>, to: Option<Name>) -> Option<Name>
     ensures { result ≡ other_target place.now to }
 {
@@ -180,7 +180,7 @@ fn other_target(place: &Option<(Place, Name)>, to: Option<Name>) -> Option<Name>
     Some(to)
 }
 
-// The word for a branch in the form of a command.
+// Returns the word for a branch in the form of a command.
 fn place_word(place: Place) -> &'static str
     ensures { result.now ≡ place_word place }
 {
@@ -190,7 +190,7 @@ fn place_word(place: Place) -> &'static str
     }
 }
 
-// The branch from which a command takes something, or that it is about.
+// Returns the branch from which a command takes something, or that it is about.
 fn about(asked: &Asked) -> Option<(Place, Name)>
     ensures { result ≡ about asked.now }
 {
@@ -221,7 +221,7 @@ fn about(asked: &Asked) -> Option<(Place, Name)>
     }
 }
 
-// The branch that a command names as TO.
+// Returns the branch that a command names as TO.
 fn target(asked: &Asked) -> Option<Name>
     ensures { result ≡ target asked.now }
 {
@@ -232,7 +232,7 @@ fn target(asked: &Asked) -> Option<Name>
     }
 }
 
-// The first patch that a command names and a branch lacks.
+// Returns the first patch that a command names and a branch lacks.
 fn lacks(branch: &Branch, asked: &Asked) -> Option<Name>
     ensures { result ≡ lacks branch.now asked.now }
 {
@@ -257,7 +257,7 @@ fn lacks(branch: &Branch, asked: &Asked) -> Option<Name>
     }
 }
 
-// Appends that there is no branch of a name, where there is none.
+// Appends that there is no branch of a name, if there is none.
 fn append_absent(text: &mut Vec<u8>, state: &State, branch: &Name) -> Result<(), AllocError>
     ensures { OnOk result (text.new.items ≡ text.old.items ++ absent_text state.now branch.now) }
 {
@@ -267,7 +267,7 @@ fn append_absent(text: &mut Vec<u8>, state: &State, branch: &Name) -> Result<(),
     append_parts(text, &[b"There is no branch ", branch.bytes(), b".\n"])
 }
 
-// That the branch which a call would make is there, where it is.
+// Appends that the branch that a call would create exists, if it does.
 fn new_text(alloc: Global, state: &State, asked: &Asked) -> Result<Vec<u8>, AllocError>
     ensures { IfOk result (λ text. text.items ≡ new_text state.now asked.now) }
 {
@@ -279,7 +279,7 @@ fn new_text(alloc: Global, state: &State, asked: &Asked) -> Result<Vec<u8>, Allo
     }
 }
 
-// That a branch lacks a patch, and which have it.
+// Appends that a branch lacks a patch, and which branches have it.
 fn lack_text(
     alloc: Global,
     state: &State,
@@ -311,7 +311,7 @@ fn tell_holders(alloc: Global, state: &State, patch: &Name) -> Result<Vec<u8>, A
     holders_line(alloc, patch, &holders)
 }
 
-// The branches that have a patch.
+// Returns the branches that have a patch.
 fn holders(alloc: Global, state: &State, patch: &Name) -> Result<Vec<Name>, AllocError>
     ensures { IfOk result (λ names. names.items ≡ holders state.now patch.now) }
 {
@@ -329,7 +329,7 @@ fn holds(state: &State, patch: &Name, branch: &Name) -> bool
     }
 }
 
-// Which branches have a patch, or that there is none.
+// Appends the branches that have a patch, or that there is none.
 fn holders_line(alloc: Global, patch: &Name, branches: &[Name]) -> Result<Vec<u8>, AllocError>
     ensures { IfOk result (λ text. text.items ≡ holders_line patch.now branches.now) }
 {
@@ -339,7 +339,7 @@ fn holders_line(alloc: Global, patch: &Name, branches: &[Name]) -> Result<Vec<u8
     names_line(alloc, &[b"Branches with ", patch.bytes(), b":"], branches)
 }
 
-// Words, and names behind them: so many at most, and `..` where there are more.
+// Appends words followed by names: at most a limit, then `..` if there are more.
 fn names_line(alloc: Global, words: &[&[u8]], names: &[Name]) -> Result<Vec<u8>, AllocError>
     ensures { IfOk result (λ text. text.items ≡ names_line (flat_map (λ part. part.now) words.now) names.now) }
 {
@@ -352,7 +352,7 @@ fn names_line(alloc: Global, words: &[&[u8]], names: &[Name]) -> Result<Vec<u8>,
     Ok(text)
 }
 
-// That there are more names than are told, where there are, and the end of the line.
+// Appends that there are more names than are shown, if there are, and the end of the line.
 fn more_names(names: &[Name]) -> &'static str
     ensures { result.now ≡ more_names names.now ++ codes "\n" }
 {

@@ -1,4 +1,4 @@
-//! Conflicts, and what their sides say, as texts.
+//! Conflicts and their sides as texts.
 ghost use Rattle.std.specs.Prelude.{◌≡◌, ◌++◌, IfOk, OnOk};
 ghost use Rattle.std.specs.List.{flat_map};
 ghost use Rattle.camp_script.specs.Texts.{pair_text};
@@ -14,7 +14,7 @@ use camp_script::{append_lines, append_pairs, changes_text};
 use itoa::Buffer;
 use std::alloc::{AllocError, Global};
 
-/// The pairs of patches in an open conflict.
+/// Renders the pairs of patches in an unresolved conflict.
 pub(crate) fn tell_open(
     alloc: Global,
     found: Result<Conflicts, Unanswered>,
@@ -35,7 +35,7 @@ fn pairs_text(alloc: Global, pairs: &[(Name, Name)]) -> Result<Vec<u8>, AllocErr
     Ok(text)
 }
 
-/// The changes of the side of a patch.
+/// Renders the changes of the side of a patch.
 pub(crate) fn tell_side(
     alloc: Global,
     found: Result<Said, Unanswered>,
@@ -48,7 +48,7 @@ pub(crate) fn tell_side(
     }
 }
 
-/// A file with the open sides of its conflicts.
+/// Renders a file with the unresolved sides of its conflicts.
 pub(crate) fn tell_marks(
     alloc: Global,
     found: Result<Marked, Unanswered>,

@@ -17,7 +17,8 @@ use std::alloc::{AllocError, Global};
 /// The most bytes of a line that are shown.
 const SHOWN: usize = 200;
 
-/// What is kept of a command with a fault. Where that comes of a fault before it, what was kept of that one stays.
+/// Makes the diagnostic of a command with a fault. If that is the consequence of a fault before it, the
+/// diagnostic of that one stays.
 pub(crate) fn fault_cause(
     alloc: Global,
     before: &Account,
@@ -34,7 +35,7 @@ pub(crate) fn fault_cause(
     fault_account(alloc, fault, command, answer)
 }
 
-// What is kept of a command with a fault of its own, and which lines may follow it.
+// Makes the diagnostic of a command with a fault of its own, with the lines that may follow it.
 fn fault_account(
     alloc: Global,
     fault: &LineFault,
@@ -49,23 +50,23 @@ fn fault_account(
     Account::of(told, awaited)
 }
 
-// Whether a fault comes of one before it: its line begins no command, and may be one of a body or a group that was
-// cut off.
+// True if a fault is the consequence of one before it: its line begins no command, and may be one of a body
+// or a group that was cut off.
 fn comes_of_another(awaited: Awaited, kind: FaultKind, line: &[u8]) -> bool
     ensures { result ≡ comes_of_another awaited kind line.now }
 {
     awaited.may_be(line) && is_no_command(kind, line)
 }
 
-// Whether a line with a fault of a kind begins no command.
+// True if a line with a fault of a kind begins no command.
 fn is_no_command(kind: FaultKind, line: &[u8]) -> bool
     ensures { result ≡ is_no_command kind line.now }
 {
     kind == FaultKind::UnknownCommand && !begins_command(line)
 }
 
-// Which lines may follow a command with a fault of a kind in the line of a number: where that is its first, those
-// that it was cut off from.
+// Returns the lines that may follow a command with a fault of a kind in the line of a number: if that is its
+// first, those that it was cut off from.
 fn cut_off(number: u64, kind: FaultKind, line: &[u8]) -> Awaited
     ensures { result ≡ cut_off number kind line.now }
 {
@@ -75,14 +76,14 @@ fn cut_off(number: u64, kind: FaultKind, line: &[u8]) -> Awaited
     Awaited::Nothing
 }
 
-// Whether a line with a fault of a kind is a record, or may be one whose first word is misspelt.
+// True if a line with a fault of a kind is a record, or may be one whose first word is misspelt.
 fn may_record(kind: FaultKind, line: &[u8]) -> bool
     ensures { result ≡ may_record kind line.now }
 {
     is_record(line) || is_no_command(kind, line)
 }
 
-// The line of a number, counted from 1; an empty one, where there is none.
+// Returns the line of a number, counted from 1, or an empty one.
 fn line_at(command: &[u8], number: u64) -> &[u8]
     ensures { result.now ≡ line_at number (lines_of command.now) }
 {
@@ -93,8 +94,8 @@ fn line_at(command: &[u8], number: u64) -> &[u8]
     }
 }
 
-// Of a command with a fault: its answer, the line, what is to be seen in it, the rule, what to write, and which
-// lines behind it are taken for its own.
+// Renders the report on a command with a fault: its answer, the line, the hint on it, the rule, what to
+// write, and which lines after it are taken for its own.
 fn fault_lines(
     alloc: Global,
     kind: FaultKind,
@@ -111,7 +112,7 @@ fn fault_lines(
     both(front, rules)
 }
 
-// That the lines behind it are taken for its own, where it is known to have some.
+// Renders that the lines after it are taken for its own, if it has some.
 fn awaited_text(awaited: Awaited) -> &'static str
     ensures { result.now ≡ awaited_text awaited }
 {
@@ -126,7 +127,7 @@ fn awaited_text(awaited: Awaited) -> &'static str
     }
 }
 
-/// An answer, and behind it the line of its command behind `>`, as much of it as is shown.
+/// Renders an answer, followed by the line of its command after `>`, as much of it as is shown.
 pub(crate) fn with_line(alloc: Global, answer: &[u8], line: &[u8]) -> Result<Vec<u8>, AllocError>
     ensures { IfOk result (λ text. text.items ≡ answer.now ++ shown_line line.now) }
 {
@@ -134,14 +135,15 @@ pub(crate) fn with_line(alloc: Global, answer: &[u8], line: &[u8]) -> Result<Vec
     joined(alloc, &[answer, b">", shown(line), end])
 }
 
-// The front of a line, as much as is shown.
+// Returns the start of a line, as much as is shown.
 fn shown(line: &[u8]) -> &[u8]
     ensures { result.now ≡ take most_shown line.now }
 {
     &line[..SHOWN.min(line.len())]
 }
 
-// What stands behind the front of a line that is shown: its LF, and where it has more bytes, that.
+// Renders what follows the start of a line that is shown: a line feed and, if the line has more bytes, that
+// it has.
 fn shown_end(line: &[u8]) -> &str
     ensures { result.now ≡ codes "\n" ++ cut_text line.now }
 {
@@ -151,7 +153,7 @@ fn shown_end(line: &[u8]) -> &str
     "\n"
 }
 
-// Which word has the fault, where it is one among many.
+// Renders which word has the fault, if it is one of many.
 fn word_text(alloc: Global, kind: FaultKind, line: &[u8]) -> Result<Vec<u8>, AllocError>
     ensures { IfOk result (λ text. text.items ≡ word_text kind line.now) }
 {
@@ -170,23 +172,23 @@ fn misnamed_text(alloc: Global, word: &[u8]) -> Result<Vec<u8>, AllocError>
     joined(alloc, &[b"This is no name: ", word, b"\n"])
 }
 
-// That a line of a body is empty.
+// Renders that a line of a body is empty.
 const EMPTY: &str = "It is empty: for an empty line of the file write - or + alone.\n\
     If the body was to be over, a line that is just end is missing.\n";
 
-// That a line of a body begins with a blank.
+// Renders that a line of a body begins with a blank.
 const BLANK: &str = "It begins with a blank: the sign comes first, and end stands alone.\n\
     If the body was to be over, a line that is just end is missing.\n";
 
-// That an edit reaches too far.
+// Renders that an edit reaches too far.
 const TOO_FAR: &str =
     "The edit reaches too far: LINE and the numbers of lines of both sides add up to too much.\n";
 
-// That a line of a body has no sign.
+// Renders that a line of a body has no sign.
 const NO_SIGN: &str =
     "It has no sign, - or +. If the body was to be over, a line that is just end is missing.\n";
 
-// What is to be seen in the line.
+// Renders the hint on the line.
 fn hint_text(hint: Hint) -> &'static str
     ensures { result.now ≡ hint_text hint }
 {
@@ -227,7 +229,7 @@ fn hint_text(hint: Hint) -> &'static str
     }
 }
 
-// The rule that is broken, and what to write.
+// Renders the broken rule, and what to write.
 fn rule(kind: FaultKind) -> &'static str
     ensures { result.now ≡ rule kind }
 {
@@ -252,7 +254,7 @@ fn rule(kind: FaultKind) -> &'static str
     }
 }
 
-// The rule of a body or a group that is broken, or of a number of lines, and what to write.
+// Renders the broken rule of a body or a group, or of a number of lines, and what to write.
 fn body_rule(kind: FaultKind) -> &'static str
     ensures { result.now ≡ body_rule kind }
 {

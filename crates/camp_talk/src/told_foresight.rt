@@ -1,4 +1,4 @@
-//! What a call would come to, as a text.
+//! The foreseen result of a call as a text.
 ghost use Rattle.std.specs.Prelude.{◌≡◌, IfOk};
 ghost use Rattle.camp_questions.specs.Foresight.{Foresees};
 ghost use Rattle.camp_questions.specs.declared.foresight.Foreseen.{Foreseen as SaidForeseen};
@@ -11,8 +11,8 @@ use camp_repo::{Call, Reply, State};
 use camp_script::answer_text;
 use std::alloc::{AllocError, Global};
 
-/// The reply that a call would get, and how the branch that it would write to would stand. A count of
-/// calls that has no room is told as want of memory.
+/// Renders the reply that a call would get, and the state of the branch that it would write to. A count of
+/// calls that overflows is reported as out of memory.
 pub(crate) fn tell_foreseen(
     alloc: Global,
     state: &State,

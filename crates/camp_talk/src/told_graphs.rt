@@ -1,4 +1,4 @@
-//! A picture of a branch as a text.
+//! The graph of a branch as a text.
 ghost use Rattle.std.specs.Prelude.{IfOk};
 ghost use Rattle.camp_talk.specs.Inside.Said.{TellsFound};
 ghost use Rattle.camp_talk.specs.Told.{graph_told};
@@ -7,7 +7,7 @@ use crate::told::{counted, unanswered};
 use camp_questions::{Picture, Unanswered, graph_text};
 use std::alloc::{AllocError, Global};
 
-/// How patches hang together, in DOT.
+/// Renders dependencies and conflicts in DOT.
 pub(crate) fn tell_graph(
     alloc: Global,
     found: Result<Picture, Unanswered>,

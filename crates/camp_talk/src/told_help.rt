@@ -1,4 +1,4 @@
-//! What is told of commands.
+//! The text of `help`.
 ghost use Rattle.std.specs.Prelude.{◌≡◌, IfOk};
 ghost use Rattle.std.specs.List.{flat_map};
 ghost use Rattle.camp_talk.specs.Help.{command_text, commands, details, example, help_text, summary};
@@ -9,7 +9,7 @@ use crate::told::{counted_text, joined};
 use crate::told_refusals::{all_sayings, refusal_text};
 use std::alloc::{AllocError, Global};
 
-/// How commands are written, or what refusals say.
+/// Renders the forms of commands, or the meanings of refusals.
 pub(crate) fn tell_help(alloc: Global, topic: Topic) -> Result<Vec<u8>, AllocError>
     ensures { IfOk result (λ text. text.items ≡ help_told topic) }
 {
@@ -47,7 +47,7 @@ fn all_summaries(alloc: Global) -> Result<Vec<u8>, AllocError>
     Ok(text)
 }
 
-/// The commands, in the order in which they are told.
+/// The commands, in the order of the text.
 pub(crate) fn commands() -> [Topic; 24]
     ensures { result ≡ commands }
 {
@@ -85,13 +85,13 @@ const RECORD_FORMS: &str = "record BRANCH NAME add PATH: record a patch that add
     record BRANCH NAME edit PATH LINE: record an edit; its body follows, up to end\n\
     record BRANCH NAME group: record several changes, which follow, up to done\n";
 
-// How help is asked for.
+// How to ask for help.
 const HELP_FORMS: &str = "help: all commands\n\
     help COMMAND: more about one\n\
     help refused: what the refusals say\n\
     help refused NUMBER: one of them, and what can be done\n";
 
-// How a command is written, and what it does, in a line for each of its forms.
+// Returns the form of a command, and what it does, in a line for each of its forms.
 fn summary(topic: Topic) -> &'static str
     ensures { result.now ≡ summary topic }
 {
@@ -133,22 +133,22 @@ fn summary(topic: Topic) -> &'static str
     }
 }
 
-// What `marks` tells.
+// The answer of `marks`.
 const MARKS: &str =
     "Lines behind =. At each place conflict SIDES LINES, and what stands there; then of each\n\
     patch side NAME LINES, and behind + what it would put there.\n";
 
-// What `graph` draws.
+// The output of `graph`.
 const GRAPH: &str = "Where patches are named: these, what they need, and what needs them.\n\
     An arrow leads to what a patch needs directly; a line joins two in conflict, which is red\n\
     and bold where it is open, and dashed and pale where it is settled.\n";
 
-// What `why` tells.
+// The answer of `why`.
 const WHY: &str =
     "Its answer, and its line behind >. Of a refusal what that says, what stands against the command,\n\
     and what can be done; of a fault what is to be seen in the line, and the rule.\n";
 
-// More about a command, where there is more to tell.
+// Returns more about a command, if there is more to say.
 fn details(topic: Topic) -> &'static str
     ensures { result.now ≡ details topic }
 {
@@ -187,7 +187,7 @@ fn details(topic: Topic) -> &'static str
     }
 }
 
-/// A command as one writes it.
+/// Returns an example of a command.
 pub(crate) fn example(topic: Topic) -> &'static str
     ensures { result.now ≡ example topic }
 {

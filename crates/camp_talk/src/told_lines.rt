@@ -1,4 +1,4 @@
-//! The lines of a file, and the patches that put them there.
+//! The lines of a file, and the patches that added them, as texts.
 ghost use Rattle.std.specs.Prelude.{◌≡◌, IfOk};
 ghost use Rattle.std.specs.List.{flat_map, zip};
 ghost use Rattle.camp_script.specs.Signs.{equals_sign};
@@ -13,7 +13,7 @@ use camp_script::append_lines;
 use camp_share::SharedList;
 use std::alloc::{AllocError, Global};
 
-/// The lines of a file, each behind the name of the patch that put it there.
+/// Renders the lines of a file, each after the name of the patch that added it.
 pub(crate) fn tell_annotated(
     alloc: Global,
     found: Result<Annotated, Unanswered>,
@@ -29,14 +29,14 @@ pub(crate) fn tell_annotated(
     }
 }
 
-/// That a branch has no such file.
+/// Renders that a branch has no such file.
 pub(crate) fn no_file(alloc: Global) -> Result<Vec<u8>, AllocError>
     ensures { IfOk result (λ text. text.items ≡ no_file_told) }
 {
     Vec::from_slice(alloc, b"no file\n")
 }
 
-/// The lines of a file.
+/// Renders the lines of a file.
 pub(crate) fn tell_file(
     alloc: Global,
     found: Result<Option<SharedList<Line>>, Unanswered>,

@@ -1,4 +1,4 @@
-//! Questions that are answered with names.
+//! Questions that are answered with names, as texts.
 ghost use Rattle.std.specs.Prelude.{◌≡◌, codes, IfOk};
 ghost use Rattle.camp_questions.specs.Files.{branch_names};
 ghost use Rattle.camp_talk.specs.Inside.Said.{TellsFound};
@@ -10,7 +10,7 @@ use camp_repo::{Names, State};
 use camp_script::append_names;
 use std::alloc::{AllocError, Global};
 
-/// The names that a question comes to, behind the word of its command.
+/// Renders the names that answer a question, after the word of its command.
 pub(crate) fn tell_found(
     alloc: Global,
     word: &str,
@@ -24,7 +24,7 @@ pub(crate) fn tell_found(
     }
 }
 
-/// The names of the branches.
+/// Renders the names of the branches.
 pub(crate) fn tell_branches(alloc: Global, state: &State) -> Result<Vec<u8>, AllocError>
     ensures { IfOk result (λ text. text.items ≡ names_told (codes "branches") (branch_names state.now)) }
 {
@@ -32,7 +32,7 @@ pub(crate) fn tell_branches(alloc: Global, state: &State) -> Result<Vec<u8>, All
     tell_names(alloc, "branches", &names)
 }
 
-// Names behind the word of their command.
+// Renders names after the word of their command.
 fn tell_names(alloc: Global, word: &str, names: &Names) -> Result<Vec<u8>, AllocError>
     ensures { IfOk result (λ text. text.items ≡ names_told word.now names.now) }
 {

@@ -1,4 +1,4 @@
-//! A patch as it stands in a branch, as a text.
+//! A patch as it is in a branch, as a text.
 ghost use Rattle.std.specs.Prelude.{◌≡◌, IfOk};
 ghost use Rattle.std.specs.List.{flat_map};
 ghost use Rattle.camp_talk.specs.Inside.Said.{TellsFound};
@@ -12,7 +12,7 @@ use camp_script::changes_text;
 use camp_share::Shared;
 use std::alloc::{AllocError, Global};
 
-/// The catches of a patch, and what they change.
+/// Renders the catches of a patch, and their changes.
 pub(crate) fn tell_shown(
     alloc: Global,
     found: Result<Shown, Unanswered>,

@@ -1,4 +1,4 @@
-//! What is told of refusals.
+//! The texts about refusals.
 ghost use Rattle.std.specs.Prelude.{◌≡◌, IfOk};
 ghost use Rattle.std.specs.List.{flat_map};
 ghost use Rattle.camp_talk.specs.Refusals.{cure, number_of, reasons, refusal_text, saying};
@@ -7,7 +7,7 @@ use crate::questions::Reason;
 use crate::told::joined;
 use std::alloc::{AllocError, Global};
 
-/// What each refusal says.
+/// Renders the meaning of each refusal.
 pub(crate) fn all_sayings(alloc: Global) -> Result<Vec<u8>, AllocError>
     ensures { IfOk result (λ text. text.items ≡ flat_map saying reasons) }
 {
@@ -19,14 +19,14 @@ pub(crate) fn all_sayings(alloc: Global) -> Result<Vec<u8>, AllocError>
     Ok(text)
 }
 
-/// What a refusal says, and what can be done about it.
+/// Renders the meaning of a refusal, and the hint on it.
 pub(crate) fn refusal_text(alloc: Global, reason: Reason) -> Result<Vec<u8>, AllocError>
     ensures { IfOk result (λ text. text.items ≡ refusal_text reason) }
 {
     joined(alloc, &[saying(reason).as_bytes(), cure(reason).as_bytes()])
 }
 
-/// Why something is refused, in the order of the numbers.
+/// The reasons for refusals, in the order of their numbers.
 pub(crate) fn reasons() -> [Reason; 14]
     ensures { result ≡ reasons }
 {
@@ -48,7 +48,7 @@ pub(crate) fn reasons() -> [Reason; 14]
     ]
 }
 
-/// The number of a refusal.
+/// Returns the number of a refusal.
 pub(crate) fn number_of(reason: Reason) -> &'static str
     ensures { result.now ≡ number_of reason }
 {
@@ -70,7 +70,7 @@ pub(crate) fn number_of(reason: Reason) -> &'static str
     }
 }
 
-/// How a refusal is written, and what it says.
+/// Returns the form of a refusal, and its meaning.
 pub(crate) fn saying(reason: Reason) -> &'static str
     ensures { result.now ≡ saying reason }
 {
@@ -94,7 +94,7 @@ pub(crate) fn saying(reason: Reason) -> &'static str
     }
 }
 
-/// What can be done about a refusal.
+/// Returns the hint on a refusal.
 pub(crate) fn cure(reason: Reason) -> &'static str
     ensures { result.now ≡ cure reason }
 {

@@ -1,4 +1,4 @@
-//! Why a command was not done.
+//! The report on a command that was not done.
 ghost use Rattle.std.specs.Prelude.{◌≡◌, IfOk, Result, codes};
 ghost use Rattle.camp_script.specs.Gives.{Gives};
 ghost use Rattle.camp_script.specs.Lines.{lines_of, words_of};
@@ -27,7 +27,7 @@ use camp_why::{Cause, Hindrance, Misfit, explain};
 use itoa::Buffer;
 use std::alloc::{AllocError, Global};
 
-/// What is told of a cause.
+/// Renders the report on a diagnostic.
 pub(crate) fn tell_why(alloc: Global, cause: &[u8]) -> Result<Vec<u8>, AllocError>
     ensures { IfOk result (λ text. text.items ≡ why_told cause.now) }
 {
@@ -43,15 +43,15 @@ fn told(cause: &[u8]) -> &[u8]
     cause
 }
 
-/// Whether an answer is a fault or a refusal.
+/// True if an answer is a fault or a refusal.
 pub(crate) fn is_failure(answer: &[u8]) -> bool
     ensures { result ≡ is_failure answer.now }
 {
     answer.starts_with(b"fault ") || answer.starts_with(b"refused ")
 }
 
-/// What is kept of a command that was not done, by what was kept before, the state that it met, its lines, what it
-/// asks, and its answer.
+/// Makes the diagnostic of a command that was not done, by the diagnostic before it, the state before the
+/// command, its lines, its parsed form, and its answer.
 pub(crate) fn cause_of(
     alloc: Global,
     before: &Account,
@@ -74,7 +74,7 @@ pub(crate) fn cause_of(
     }
 }
 
-// The reason of a refusal, by its answer.
+// Returns the reason of a refusal, by its answer.
 fn reason_in(answer: &[u8]) -> Option<Reason>
     ensures { result ≡ reason_in (words_of (first_of (lines_of answer.now))) }
 {
@@ -88,8 +88,8 @@ fn reason_in(answer: &[u8]) -> Option<Reason>
     }
 }
 
-// Of a command that is refused: its answer, its first line, what the answer says, what stands against the command, and what can be
-// done.
+// Renders the report on a command that is refused: its answer, its first line, the meaning of the answer,
+// what prevents the command, and the hint.
 fn refusal_lines(
     alloc: Global,
     state: &State,
@@ -125,7 +125,7 @@ fn refusal_told(
     joined(alloc, &[front.as_slice(), says, against.as_slice(), cure])
 }
 
-// What stands against a command: which branches it names, and what is there and what is not.
+// Renders what prevents a command: the branches that it names, and what exists and what does not.
 fn against_text(
     alloc: Global,
     state: &State,
@@ -139,7 +139,7 @@ fn against_text(
     both(sides, facts_text(alloc, state, asked, found, reason))
 }
 
-// What is there and what is not: what a refusal is about, by the cause that was found.
+// Renders what exists and what does not: the subject of a refusal, by the cause that was found.
 fn facts_text(
     alloc: Global,
     state: &State,
@@ -160,7 +160,7 @@ fn facts_text(
     }
 }
 
-// What can be done about a refusal of a command.
+// Renders the hint on the refusal of a command.
 fn cure_at(state: &State, asked: &Asked, found: &Option<Cause>, reason: Reason) -> &'static str
     ensures { result.now ≡ cure_at state.now asked.now found.now reason }
 {
@@ -172,7 +172,7 @@ fn cure_at(state: &State, asked: &Asked, found: &Option<Cause>, reason: Reason) 
     }
 }
 
-// What can be done where a limit would be passed.
+// Renders the hint if a limit would be exceeded.
 fn limit_cure(cause: &Cause) -> &'static str
     ensures { result.now ≡ limit_cure cause.now }
 {
@@ -198,7 +198,7 @@ fn found_text(alloc: Global, found: &Option<Cause>) -> Result<Vec<u8>, AllocErro
     }
 }
 
-// Why a command is refused for a reason. A question has no more than its refusal says.
+// Renders why a command is refused for a reason; for a question only what its refusal says.
 fn cause_found(state: &State, asked: &Asked, reason: Reason) -> Result<Option<Cause>, AllocError>
     ensures { IfOk result (λ found. found ≡ cause_found state.now asked.now reason) }
 {
@@ -212,7 +212,7 @@ fn cause_found(state: &State, asked: &Asked, reason: Reason) -> Result<Option<Ca
     }
 }
 
-// What stands against a command.
+// Renders what prevents a command.
 fn cause_text(alloc: Global, cause: &Cause) -> Result<Vec<u8>, AllocError>
     ensures { IfOk result (λ text. text.items ≡ cause_text cause.now) }
 {
@@ -263,7 +263,7 @@ fn cause_text(alloc: Global, cause: &Cause) -> Result<Vec<u8>, AllocError>
     }
 }
 
-// That a number is the most.
+// Renders that a number is the limit.
 fn most_text(alloc: Global, most: usize) -> Result<Vec<u8>, AllocError>
     ensures { IfOk result (λ text. text.items ≡ most_text most) }
 {
@@ -271,7 +271,7 @@ fn most_text(alloc: Global, most: usize) -> Result<Vec<u8>, AllocError>
     joined(alloc, &[digits.format(most).as_bytes(), b" is the most.\n"])
 }
 
-// A text with two numbers.
+// Renders a text with two numbers.
 fn two_numbers<'a>(
     alloc: Global,
     front: &'a str,
@@ -290,7 +290,7 @@ fn two_numbers<'a>(
     joined(alloc, &[front, first, middle, second, back])
 }
 
-// The number of a change, and the path of its file.
+// Renders the number of a change, and the path of its file.
 fn change_text(alloc: Global, change: usize, path: &Path) -> Result<Vec<u8>, AllocError>
     ensures { IfOk result (λ text. text.items ≡ change_text change path.now) }
 {
@@ -299,7 +299,7 @@ fn change_text(alloc: Global, change: usize, path: &Path) -> Result<Vec<u8>, All
     joined(alloc, &[b"Change ", change, b", file ", path.bytes()])
 }
 
-// That an edit has a side that is too long.
+// Renders that an edit has a side that is too long.
 fn long_text(alloc: Global, old: usize, new: usize) -> Result<Vec<u8>, AllocError>
     ensures { IfOk result (λ text. text.items ≡
         two_numbers (codes ": the edit has ") old (codes " old lines and ") new (codes " new ones, and 65535 is the most of each.\n")) }
@@ -372,7 +372,8 @@ fn ends_before_text(
     both(text, lacks_text(alloc, at, lacks))
 }
 
-// The old line that finds none, and the line at which it would stand. Without old lines, that LINE is too great.
+// Renders the old line past the end of the file, and the line at which it would be; without old lines, that
+// LINE is too great.
 fn lacks_text(alloc: Global, at: usize, lacks: &Option<Line>) -> Result<Vec<u8>, AllocError>
     ensures { IfOk result (λ text. text.items ≡ lacks_text at lacks.now) }
 {
@@ -387,7 +388,7 @@ fn lacks_text(alloc: Global, at: usize, lacks: &Option<Line>) -> Result<Vec<u8>,
     Ok(text)
 }
 
-// That another line stands there than an edit takes away.
+// Renders that the file has another line than an edit removes.
 fn met_text(alloc: Global, at: usize, there: &[u8], expected: &[u8]) -> Result<Vec<u8>, AllocError>
     ensures { IfOk result (λ text. text.items ≡ met_text at there.now expected.now) }
 {
@@ -407,7 +408,7 @@ fn met_text(alloc: Global, at: usize, there: &[u8], expected: &[u8]) -> Result<V
     )
 }
 
-// That two lines differ at their ends alone, where they do.
+// Renders that two lines differ only at their ends, if they do.
 fn ends_text(stands: &[u8], expected: &[u8]) -> &'static str
     ensures { result.now ≡ ends_text stands.now expected.now }
 {

@@ -1,4 +1,4 @@
-//! What help is asked for.
+//! The topic of help.
 ghost use Rattle.std.specs.Option.{option_copied};
 ghost use Rattle.std.specs.Prelude.{◌≡◌, map};
 ghost use Rattle.camp_script.specs.Gives.{Gives};
@@ -13,7 +13,7 @@ use crate::told_help::{commands, example};
 use crate::told_refusals::{number_of, reasons};
 use camp_script::{FaultKind, ScriptFault, at_line, begins_with};
 
-/// What help is asked for, by the words behind `help`.
+/// Parses the topic of help, by the words after `help`.
 pub(crate) fn help_topic(words: &[&[u8]]) -> Result<Topic, ScriptFault>
     ensures { Gives result (help_line (map (λ word. word.now) words.now)) }
 {
@@ -25,7 +25,7 @@ pub(crate) fn help_topic(words: &[&[u8]]) -> Result<Topic, ScriptFault>
     }
 }
 
-// What help is asked for by one word.
+// Parses the topic of help with one word.
 fn word_topic(word: &[u8]) -> Result<Topic, ScriptFault>
     ensures { Gives result (word_topic word.now) }
 {
@@ -35,7 +35,7 @@ fn word_topic(word: &[u8]) -> Result<Topic, ScriptFault>
     topic_at(word)
 }
 
-// The refusal that help is asked for by `refused` and its number.
+// Parses the refusal for which `help refused NUMBER` asks.
 fn refusal_topic(word: &[u8], number: &[u8]) -> Result<Topic, ScriptFault>
     ensures { Gives result (refusal_topic word.now number.now) }
 {
@@ -48,7 +48,7 @@ fn refusal_topic(word: &[u8], number: &[u8]) -> Result<Topic, ScriptFault>
     }
 }
 
-/// The reason of a number of a refusal.
+/// Returns the reason of a number of a refusal.
 pub(crate) fn reason_at(number: &[u8]) -> Option<Reason>
     ensures { result ≡ reason_at number.now }
 {
@@ -59,7 +59,7 @@ pub(crate) fn reason_at(number: &[u8]) -> Option<Reason>
     }
 }
 
-// The first of some reasons that has a number.
+// Returns the first of some reasons that has a number.
 fn first_numbered<'a>(number: &[u8], reasons: &'a [Reason]) -> Option<&'a Reason>
     ensures { option_copied result ≡ first_numbered number.now reasons.now }
 {
@@ -68,7 +68,7 @@ fn first_numbered<'a>(number: &[u8], reasons: &'a [Reason]) -> Option<&'a Reason
         .find(|reason| is_word(number_of(**reason).as_bytes(), number))
 }
 
-// The command that a word begins.
+// Returns the command that a word begins.
 fn topic_at(word: &[u8]) -> Result<Topic, ScriptFault>
     ensures { Gives result (topic_at word.now) }
 {
@@ -79,14 +79,14 @@ fn topic_at(word: &[u8]) -> Result<Topic, ScriptFault>
     }
 }
 
-// The first of some commands whose example begins with a word.
+// Returns the first of some commands whose example begins with a word.
 fn first_begun<'a>(word: &[u8], commands: &'a [Topic]) -> Option<&'a Topic>
     ensures { option_copied result ≡ first_begun word.now commands.now }
 {
     commands.iter().find(|command| begins(word, **command))
 }
 
-// Whether the example of a command begins with a word.
+// True if the example of a command begins with a word.
 fn begins(word: &[u8], command: Topic) -> bool
     ensures { result ≡ begins_with word.now (words_of (first_of (lines_of (example command)))) }
 {

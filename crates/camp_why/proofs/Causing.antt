@@ -23,7 +23,7 @@ use Rattle.camp_why.specs.declared.causes.Cause.{Cause}
 use Rattle.camp_why.specs.declared.stops.Stop.{Stop}
 use Rattle.camp_why.specs.declared.causes.Cause.TheVariants.{FullBranch, LongSide, Stops}
 
--- ---- a cause is one of changes or of a limit
+-- ---- a cause is about changes or about a limit
 
 by_hindrance : (why : Hindrance) → is_of_changes (refusal_at why) ≡ true
 by_hindrance (hindrance.Misfit misfit) = refl
@@ -33,13 +33,13 @@ pub by_cause : (cause : Cause) → is_of_changes (refusal_by cause) ≡ true
 by_cause (Stops stop) = by_hindrance stop.why
 by_cause other = refl
 
--- ---- changes that a record makes
+-- ---- the changes of a record
 
--- that the sides of an edit are too long
+-- the cause that the sides of an edit are too long
 abbrev long_at : ℕ → Edit → Cause
 long_at at hunk = LongSide at hunk.path (length hunk.old) (length hunk.new)
 
--- an edit with a side that is too long stands behind so many other changes
+-- an edit with a side that is too long comes after this many other changes
 record LongBehind (at : ℕ) (changes : List Primitive) (cause : Cause) : Type 0 where
   before : ℕ
   hunk : Edit
@@ -59,12 +59,12 @@ long_behind at change changes cause rest =
       long = rest.long;
     }
 
--- the first long side is one; where there is no first, no side is too long
+-- the first side that is too long is one; if there is no first, no side is too long
 abbrev Finds : ℕ → List Primitive → Option Cause → Type 0
 Finds at changes None = list_any has_long_side changes ≡ false
 Finds at changes (Some cause) = LongBehind at changes cause × (list_any has_long_side changes ≡ true)
 
--- behind a change whose sides are not
+-- the search continues after a change whose sides are not too long
 found_behind : (at : ℕ) (change : Primitive) (changes : List Primitive) (found : Option Cause) → has_long_side change ≡ false → Finds (suc at) changes found
     → Finds at (change ∷ changes) found
 found_behind at change changes None short none = (λ j. short j || none j)
@@ -174,7 +174,7 @@ module _ (state : Contents) (branch name : List ℕ) (changes : List Primitive) 
 
 -- ---- in a branch
 
--- where the branch has room and no side is too long, a record stops at a change or does not
+-- if the branch has room and no side is too long, a record stops at a change or does not stop
 pub stops_in : (most : ℕ) (catches : List Catch) (changes : List Primitive) (tree : Files)
     → nat_lt most (length catches + length changes) ≡ false → first_long 1 changes ≡ None → LeadsTo catches tree
     → (found : Option Stop) → found ≡ first_stop 1 changes tree → stop_cause found ≡ record_cause most changes (Some catches)

@@ -33,7 +33,7 @@ use Rattle.camp_why.specs.Stops.{refusal_at}
 use Rattle.camp_why.specs.declared.stops.Hindrance.{Hindrance}
 use Rattle.camp_why.specs.declared.stops.Hindrance.TheVariants as hindrance
 
--- ---- which test refuses
+-- ---- the test that refuses
 
 -- whether a decision is a refusal
 abbrev is_refusal : Decision → Bool
@@ -76,7 +76,7 @@ module _ {X : Type 0} (refusal : Refusal) where
   by_outcome state branch (Ok catches) e is = not_refused (becomes state branch (Ok catches)) refl e
   by_outcome state branch (Err why) e is = is why refl (same_refusal (refusal_of why) refusal e)
 
--- ---- what the tests say
+-- ---- the meaning of the tests
 
 found_some : (found : Option (List Catch)) → is_some found ≡ true → (catches : List Catch) × (found ≡ Some catches)
 found_some None e = absurd (false≢true e)
@@ -86,7 +86,7 @@ none_in : (names : List (List ℕ)) → is_empty names ≡ true → names ≡ []
 none_in [] e = refl
 none_in (name ∷ names) e = absurd (false≢true e)
 
--- a stop has its cause for a ground
+-- the cause of a stop is the ground of its refusal
 stop_ground : (state : Contents) (asked : Call) (why : Hindrance) → IsExplained state asked (refusal_at why) → IsGround state asked (refusal_at why)
 stop_ground state asked (hindrance.Misfit misfit) explains = explains
 stop_ground state asked (hindrance.TooLong count) explains = explains
@@ -197,7 +197,7 @@ module _ (state : Contents) (lawful : IsLawfulState state) (refusal : Refusal) w
       (λ some e3. by_outcome refusal state branch (obliterated catches names) e3
       (λ why is same. ground asked (refusal_of why) same (blocked_ground state asked why (catches, has, is))))))
 
-  -- a question is refused only where there is no branch
+  -- a question is refused only if there is no branch
   of_question : (asked : Call) (branch : List ℕ) (tells : List Catch → Decision)
       → option_map_or tells (catches_of state.branches branch) (refused (NoBranch branch)) ≡ refused refusal
       → (catches_of state.branches branch ≡ None → IsGround state asked (NoBranch branch))
@@ -220,7 +220,7 @@ have_grounds state (call.Conflicts branch) refusal lawful is range e =
 have_grounds state (call.Names branch) refusal lawful is range e =
     of_question state lawful refusal (call.Names branch) branch _ e (λ none. (refl, none)) (λ catches has. not_refused refusal _ refl)
 
--- ---- where a refusal does not say all, its ground is a cause
+-- ---- if a refusal does not say it all, its ground is a cause
 
 unwanted : (asked : Call) (refusal : Refusal) → is_of_changes refusal ≡ false → is_of_limit refusal ≡ false → wants_cause asked refusal ≡ false
 unwanted (call.Record branch name made) refusal changes limit = changes

@@ -1,8 +1,8 @@
--- Where a change does not apply, and where it does.
+-- When a change applies, and when it does not.
 use Rattle.camp_why.proofs.Words.{Bool, true, false, cond, ◌++◌, ◌+◌, ◌-◌, ◌≡◌, ◌≢◌, ◌≤◌, ◌<◌, ◌∙◌, ◌∷◌, ℕ, zero, suc, List, [], Option, Some, None, get, insert, ap, append_assoc, arith, bytes_eq, bytes_eq-Decides, drop, drop-drop, drop_all, drop_at, false≢true, length, length-append, length-drop, length-take-le, ltb-false, ltb-true, nat_lt, none-some, not, not-false, not-true, refl, same_Some, slice_get, slice_get_past, subst, sym, take, take-append-drop, Files, Lines, SplicesLines, Applies, InRange, Edit, Primitive, Add, Hunk, Remove, IsMisfit, why_not, other_line, Misfit, EndsBefore, FileIsThere, HasLines, NoFile, OtherLine}
 use Rattle.camp_why.specs.Misfits.{Edits, StandThere, add_misfit, edit_misfit, ends_before, lacking, lacking_at, misfit_or, remove_misfit}
 
--- ---- lists from a place on
+-- ---- lists from an index on
 
 pub at_front : {X : Type 0} (xs : List X) (i : ℕ) (x : X) → slice_get xs i ≡ Some x → drop i xs ≡ x ∷ drop (suc i) xs
 at_front [] i x e = absurd (none-some x e)
@@ -24,14 +24,14 @@ get_drop (line ∷ lines) (suc n) k =
     let place : suc (n + k) ≡ suc n + k = omega arith in
     get_drop lines n k ∙ ap (slice_get (line ∷ lines)) place
 
--- ---- the first line that is another one
+-- ---- the first line that differs
 
--- so many old lines are those that stand there, as far as there are any
+-- the first old lines are those of the file, as far as it has any
 abbrev AlikeUpTo : ℕ → Lines → Lines → Type 0
 AlikeUpTo count old lines =
     (at : ℕ) (stands expected : List ℕ) → at < count → slice_get old at ≡ Some expected → slice_get lines at ≡ Some stands → stands ≡ expected
 
--- one more, in front of them
+-- one more line before them
 alike_more : (count : ℕ) (first : List ℕ) (other : List ℕ) (old lines : Lines) → other ≡ first → AlikeUpTo count old lines
     → AlikeUpTo (suc count) (first ∷ old) (other ∷ lines)
 alike_more count first other old lines same behind zero stands expected within is_expected is_there =
@@ -39,7 +39,7 @@ alike_more count first other old lines same behind zero stands expected within i
 alike_more count first other old lines same behind (suc at) stands expected within is_expected is_there =
     behind at stands expected (omega (arith, within)) is_expected is_there
 
--- a line that is another one, behind so many that are not
+-- the first line that differs comes after this many that do not
 record FindsOther (at : ℕ) (old lines : Lines) (why : Misfit) : Type 0 where
   before : ℕ
   stands : List ℕ
@@ -53,8 +53,8 @@ record FindsOther (at : ℕ) (old lines : Lines) (why : Misfit) : Type 0 where
 differ : (stands expected : List ℕ) → bytes_eq stands expected ≡ false → stands ≢ expected
 differ stands expected unlike same = false≢true (sym unlike ∙ (bytes_eq-Decides stands expected).1 same)
 
--- what is found where old lines are set beside those that stand there: the first that is another one; else all are alike, and
--- stand there where there are as many
+-- the result of comparing old lines with those of the file: the first that differs; if none does, they are the same,
+-- and are there if the file is long enough
 abbrev Compares : ℕ → Lines → Lines → Option Misfit → Type 0
 Compares at old lines (Some why) = FindsOther at old lines why
 Compares at old lines None = AlikeUpTo (length old) old lines × (length old ≤ length lines → take (length old) lines ≡ old)
@@ -102,9 +102,9 @@ compares at (expected ∷ old) [] = (
 compares at (expected ∷ old) (stands ∷ lines) =
     first_by at expected stands old lines (bytes_eq stands expected) refl (other_line (suc at) old lines) (compares (suc at) old lines)
 
--- ---- the reason that is told is one, and where none is told, the change applies
+-- ---- the reported reason is a true one, and if there is none, the change applies
 
--- where the old lines stand, others can be put in their place
+-- if the old lines are there, they can be replaced by others
 can_splice : (hunk : Edit) (lines : Lines) → 1 ≤ hunk.line → hunk.line - 1 + length hunk.old ≤ length lines
     → take (length hunk.old) (drop (hunk.line - 1) lines) ≡ hunk.old
     → (changed : Lines) × SplicesLines hunk.line hunk.old hunk.new lines changed
@@ -124,7 +124,7 @@ can_splice hunk lines positive within same =
       },
     )
 
--- a reason is one; where there is none, a change in range applies
+-- a reason is a true one; if there is none, a change in range applies
 abbrev Verdict : Primitive → Files → Option Misfit → Type 0
 Verdict change tree (Some why) = IsMisfit change tree why
 Verdict change tree None = InRange change → (next : Files) × Applies change tree next
@@ -138,7 +138,7 @@ module _ (hunk : Edit) (tree : Files) (lines : Lines) (found : get tree hunk.pat
   in_file count alike at stands expected within is_expected is_there =
       alike at stands expected within is_expected (get_drop lines (hunk.line - 1) at ∙ is_there)
 
-  -- another line stands there
+  -- a line differs
   other_told : (why : Misfit) → FindsOther hunk.line hunk.old (drop (hunk.line - 1) lines) why → IsMisfit (Hunk hunk) tree why
   other_told why finds =
       let is_so : IsMisfit (Hunk hunk) tree (OtherLine (hunk.line + finds.before) finds.stands finds.expected) =
@@ -155,7 +155,7 @@ module _ (hunk : Edit) (tree : Files) (lines : Lines) (found : get tree hunk.pat
       } in
       subst (IsMisfit (Hunk hunk) tree) (sym finds.is) is_so
 
-  -- the file ends before, or the old lines stand there
+  -- the file ends too early, or the old lines are there
   by_end : Compares hunk.line hunk.old (drop (hunk.line - 1) lines) None → (b : Bool) → nat_lt (length lines) (hunk.line - 1 + length hunk.old) ≡ b
       → Verdict (Hunk hunk) tree (cond b (Some (EndsBefore (length lines) (hunk.line - 1 + length hunk.old) (lacking_at hunk (length lines)) (lacking hunk (length lines)))) None)
   by_end none true is = record {
@@ -207,7 +207,7 @@ is_told change tree why e = subst (Verdict change tree) e (verdict change tree)
 pub none_applies : (change : Primitive) (tree : Files) → InRange change → why_not change tree ≡ None → (next : Files) × Applies change tree next
 none_applies change tree range e = subst (Verdict change tree) e (verdict change tree) range
 
--- ---- where it is one, the change does not apply
+-- ---- if there is a reason, the change does not apply
 
 get_in_front : (front back : Lines) (k : ℕ) (line : List ℕ) → slice_get front k ≡ Some line → slice_get (front ++ back) k ≡ Some line
 get_in_front [] back k line is = absurd (none-some line is)
@@ -255,7 +255,7 @@ not_applied change tree next (OtherLine at stands expected) m applies =
 
 -- ---- line by line
 
--- what is found from a place of the old lines on
+-- the result from an index of the old lines on
 abbrev pub found_from : ℕ → ℕ → Lines → Lines → Option Misfit
 found_from from at old lines = other_line (suc (from + at)) (drop at old) (drop (from + at) lines)
 
@@ -279,12 +279,12 @@ pub found_none : (from at : ℕ) (old lines : Lines) → length old ≡ at → f
 found_none from at old lines all =
     ap (λ (ls : Lines). other_line (suc (from + at)) ls (drop (from + at) lines)) (drop_all at old (omega (arith, all)))
 
--- the first line that is another one, of an edit in the lines of a file
+-- the first line of an edit that differs in the lines of a file
 abbrev pub of_edit : Edit → Lines → Option Misfit
 of_edit hunk lines = other_line hunk.line hunk.old (drop (hunk.line - 1) lines)
 
 module _ (hunk : Edit) (lines : Lines) (from at : ℕ) (old : Lines) (found : found_from from at old lines ≡ of_edit hunk lines) where
-  -- where the file has no more lines, none is another one
+  -- if the file has no more lines, none differs
   pub ends : (expected : List ℕ) → slice_get old at ≡ Some expected → slice_get lines (from + at) ≡ None → None ≡ of_edit hunk lines
   ends expected is_expected is_none =
       let past : drop (from + at) lines ≡ [] = drop_none lines (from + at) is_none in

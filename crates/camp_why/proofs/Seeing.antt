@@ -1,4 +1,4 @@
--- What is told of a line with a fault is to be seen there; and where nothing is told, nothing is to be seen.
+-- The hint on a line with a fault is true; if there is none, none applies.
 use Rattle.std.specs.List.{list_any}
 use Rattle.std.specs.Prelude.{codes}
 use Rattle.std.proofs.Common.{inl, inr}
@@ -15,7 +15,7 @@ use Rattle.camp_why.specs.declared.hints.Hint.TheVariants as seen
 no_sign : (line : List ℕ) → begins (codes "-") line ≡ false → begins (codes "+") line ≡ false → begins_signed line ≡ false
 no_sign line minus plus = (λ j. plus j || minus j)
 
--- what holds of two lines holds of a line that is one of them
+-- a fact about two lines holds of a line that is one of them
 module _ (P : List ℕ → Bool) (one other : List ℕ) (of_one : P one ≡ true) (of_other : P other ≡ true) (line : List ℕ) where
   by_test : (first second : Bool) → (first ≡ true → line ≡ one) → (second ≡ true → line ≡ other) → (first || second) ≡ true → P line ≡ true
   by_test true second is_one is_other either = ap P (is_one refl) ∙ of_one
@@ -31,12 +31,12 @@ capital_end = of_either (list_any is_capital_letter) (codes "END") (codes "End")
 returned_end : (line : List ℕ) → is_returned_end line ≡ true → ends_in_return line ≡ true
 returned_end = of_either ends_in_return (codes "end\r") (codes "\r") refl refl
 
--- whether nothing is told
+-- whether there is no hint
 abbrev is_nothing : Hint → Bool
 is_nothing seen.Nothing = true
 is_nothing other = false
 
--- what is told is to be seen; and where nothing is, this is so
+-- the hint is true; if there is none, this holds
 record Says (k : FaultKind) (line : List ℕ) (Else : Type 0) (told : Hint) : Type 0 where
   is_seen : IsSeen k line told
   else_so : told ≡ seen.Nothing → Else
@@ -51,7 +51,7 @@ module _ (k : FaultKind) (line : List ℕ) {Else : Type 0} where
   nothing so = record { is_seen = tt; else_so = λ none. so }
 
   module _ (returns : has_return k line ≡ ends_in_return (faulty k line)) (quotes : has_quote k line ≡ list_any is_quote (faulty k line)) where
-    -- in the word that has the fault, or else
+    -- for the word that has the fault, or else
     in_word : (other : Hint) → (IsPlain (faulty k line) → Says k line Else other) → Says k line Else (word_hint (faulty k line) other)
     in_word other plain =
         tell (ends_in_return (faulty k line)) seen.CarriageReturn _ refl (λ e. returns ∙ e) (λ no_return.

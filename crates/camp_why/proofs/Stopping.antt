@@ -1,4 +1,4 @@
--- Changes that are made one after the other, up to one that can't be.
+-- Changes that are made one after the other, up to the first that can't be made.
 use Rattle.std.specs.List.{AllByRecursion}
 use Rattle.camp_why.proofs.Words.{◌+◌, ◌≡◌, ◌∙◌, ◌∷◌, ℕ, suc, Bool, true, false, cond, List, [], length, take, slice_get, None, Some, Option, ap, arith, ltb-true, nat_lt, none-some, option_map_or, refl, subst, sym, get, Files, Lines, AppliesEach, Applies, Applies-from_applied, InRange, Primitive, applied, applied-from_Applies, path_of, why_not, Misfit, Err, Ok, Result}
 use Rattle.camp_why.proofs.Misfitting.{is_told, none_applies, not_applied}
@@ -10,7 +10,7 @@ use Rattle.camp_why.specs.declared.stops.Hindrance.{Hindrance}
 use Rattle.camp_why.specs.declared.stops.Hindrance.TheVariants as hindrance_of
 use Rattle.camp_why.specs.declared.stops.Stop.{Stop}
 
--- ---- the reason that is told is one
+-- ---- the reported reason is a true one
 
 module _ (change : Primitive) (tree : Files) where
   abbrev Hinders : Option Hindrance → Type 0
@@ -44,7 +44,7 @@ module _ (change : Primitive) (tree : Files) where
   pub hindrance_told : (why : Hindrance) → hindrance change tree ≡ Some why → IsHindrance change tree why
   hindrance_told why e = subst Hinders e (by_reason (why_not change tree) refl)
 
--- changes stop behind so many others
+-- changes stop after this many others
 record StopsBehind (at : ℕ) (changes : List Primitive) (tree : Files) (stop : Stop) : Type 0 where
   before : ℕ
   numbered : stop.change ≡ suc (at + before)
@@ -75,7 +75,7 @@ module _ (at : ℕ) (change : Primitive) (changes : List Primitive) (tree : File
         hinders = rest.hinders;
       }
 
-  -- by what stands against the first, and where it leads
+  -- by the reason against the first change, and the tree that it leads to
   stop_by : ((next : Files) → StopsIn (suc at) changes next (first_stop (suc (suc at)) changes next))
       → (h : Option Hindrance) → hindrance change tree ≡ h → (made : Option Files) → applied change tree ≡ made
       → StopsIn at (change ∷ changes) tree (stop_or (suc at) change h made (first_stop (suc (suc at)) changes))
@@ -105,9 +105,9 @@ is_stop changes tree stop e =
       hinders = behind.hinders;
     }
 
--- ---- where changes come to a refusal, there is a stop with that one
+-- ---- if changes are refused, they stop with this refusal
 
--- the first stop is told of these changes, and has this refusal
+-- the first stop is reported for these changes, and has this refusal
 pub record StopsWith (at : ℕ) (changes : List Primitive) (tree : Files) (refusal : Refusal) : Type 0 where
   pub stop : Stop
   pub first : first_stop at changes tree ≡ Some stop
@@ -187,7 +187,7 @@ stops_with at (change ∷ changes) tree refusal range e =
 -- ---- one change
 
 module _ (change : Primitive) (tree next : Files) (free : why_not change tree ≡ None) (applies : Applies change tree next) where
-  -- a change that applies is hindered by a file that is too long alone
+  -- a change that applies is prevented only by a file that is too long
   pub made_so : (path : List ℕ) → path ≡ path_of change → (result : Option Hindrance) → result ≡ long_file (get next path)
       → result ≡ hindrance change tree
   made_so path same result is =

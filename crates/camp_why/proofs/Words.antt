@@ -1,4 +1,4 @@
--- Words that the proofs of this crate have in common: of the standard library, of definitions, and of crates below.
+-- The words that most proofs of this crate use.
 pub use Rattle.std.proofs.Common.{◌&&◌, ◌++◌, ◌+◌, ◌-◌, ◌<◌, ◌||◌, ◌∙◌, ◌∷◌, ◌≡◌, ◌≢◌, ◌≤◌, Bool, Err, List, None, Ok, Option, Result, Some, [], ap, append_assoc, arith, bytes_eq, cond, drop, false, length, length-append, nat_le, nat_lt, not, refl, rules, slice_get, subst, suc, sym, take, true, zero, ℕ}
 pub use Rattle.std.proofs.lemmas.Bool.{and_parts, false≢true, ltb-false, ltb-true, not-false, not-true}
 pub use Rattle.std.proofs.lemmas.List.{drop-drop, drop_all, drop_at, length-drop, length-take-le, take-append-drop}

@@ -1,4 +1,4 @@
--- Why a call is refused, where its refusal does not say it all.
+-- Why a call is refused, if its refusal does not say it all.
 use Rattle.std.specs.Prelude.{◌≡◌, ◌<◌, ◌≤◌, ◌+◌, ℕ, suc, Bool, true, false, nat_lt, List, [], ◌∷◌, length, slice_get, Option, None, Some, if◌then◌else◌}
 use Rattle.camp_base.specs.Trees.{Files}
 use Rattle.camp_prim.specs.Hunks.{Edit}
@@ -18,14 +18,14 @@ use Rattle.camp_why.specs.declared.causes.Cause.{Cause}
 use Rattle.camp_why.specs.declared.causes.Cause.TheVariants.{FullBranch, FullRepository, FullWithPull, LongSide, Stops}
 use Rattle.camp_why.specs.declared.stops.Stop.{Stop}
 
--- ---- the cause that is told
+-- ---- the reported cause
 
--- whether a refusal says that a limit would be passed
+-- a refusal says that a limit would be exceeded
 abbrev pub is_of_limit : Refusal → Bool
 is_of_limit TooLarge = true
 is_of_limit other = false
 
--- whether a refusal of a record is about its changes
+-- a refusal of a record is about its changes
 abbrev pub is_of_changes : Refusal → Bool
 is_of_changes DoesNotApply = true
 is_of_changes TooLarge = true
@@ -36,7 +36,8 @@ abbrev pub cause_or : Option Cause → Option Cause → Option Cause
 cause_or None second = second
 cause_or (Some cause) second = Some cause
 
--- that the change of this number has a side that is too long: the path of its file, and how many lines each side has
+-- the cause that the change of this number has a side that is too long: the path of its file, and the number of lines
+-- of each side
 abbrev pub long_cause : ℕ → Primitive → Option Cause
 long_cause at (Add path) = None
 long_cause at (Remove path) = None
@@ -48,44 +49,44 @@ abbrev pub first_long : ℕ → List Primitive → Option Cause
 first_long at [] = None
 first_long at (change ∷ changes) = cause_or (long_cause at change) (first_long (suc at) changes)
 
--- that a record stops at a change, if it does
+-- the cause that a record stops at a change, if it does
 abbrev pub stop_cause : Option Stop → Option Cause
 stop_cause None = None
 stop_cause (Some stop) = Some (Stops stop)
 
--- where a record stops, by the tree that its branch has
+-- where a record stops, given the tree of its branch
 abbrev pub stop_from : List Primitive → Option Files → Option Cause
 stop_from changes None = None
 stop_from changes (Some tree) = stop_cause (first_stop 1 changes tree)
 
--- why changes are not recorded in a branch of at most so many catches, by those that it has
+-- why changes are not recorded in a branch with this limit and these catches
 abbrev pub record_cause : ℕ → List Primitive → Option (List Catch) → Option Cause
 record_cause most changes None = None
 record_cause most changes (Some catches) =
     if nat_lt most (length catches + length changes) then Some (FullBranch (length catches) (length changes) most)
     else cause_or (first_long 1 changes) (stop_from changes (tree_of catches))
 
--- that a repository has as many branches as it may have
+-- the cause that a repository has its most branches
 abbrev pub branch_cause : Contents → Refusal → Option Cause
 branch_cause state refusal = if is_of_limit refusal then Some (FullRepository (length state.branches) state.limits.branches) else None
 
--- the changes that a pull brings, of those that the one branch has: the listed ones that the other lacks
+-- the catches that a pull appends, of those of the one branch: the listed ones that the other lacks
 abbrev pub brought : List Catch → List Catch → Option (List (List ℕ)) → List Catch
 brought theirs ours names = catches_named (wanted ours (listed theirs names)) theirs
 
--- that a branch of at most so many catches has some, and a pull brings so many more
+-- the cause that a branch with this limit has too many catches with those that a pull appends
 abbrev pub full_with_pull : ℕ → Option (List Catch) → Option (List Catch) → Option (List (List ℕ)) → Option Cause
 full_with_pull most (Some theirs) (Some ours) names =
     Some (FullWithPull (length ours) (length (brought theirs ours names)) most)
 full_with_pull most theirs ours names = None
 
--- that a branch would be too long with what is pulled
+-- the cause that a branch would be too long after a pull
 abbrev pub pull_cause : Contents → List ℕ → List ℕ → Option (List (List ℕ)) → Refusal → Option Cause
 pull_cause state from to names refusal =
     if is_of_limit refusal
     then full_with_pull state.limits.catches (catches_of state.branches from) (catches_of state.branches to) names else None
 
--- why a call is refused so at a state; nothing, where the refusal says it all
+-- why a call is refused at a state; none if the refusal says it all
 abbrev pub explained : Contents → Call → Refusal → Option Cause
 explained state (call.Branch new from) refusal = branch_cause state refusal
 explained state (call.Record branch name changes) refusal =
@@ -93,14 +94,14 @@ explained state (call.Record branch name changes) refusal =
 explained state (call.Pull from to names) refusal = pull_cause state from to names refusal
 explained state other refusal = None
 
--- ---- what it says
+-- ---- the meaning of a cause
 
 -- the refusal of a cause
 abbrev pub refusal_by : Cause → Refusal
 refusal_by (Stops stop) = refusal_at stop.why
 refusal_by other = TooLarge
 
--- a repository has so many branches, and its limits let no more be made
+-- a repository has this number of branches, and its limits allow no more
 pub record FillsRepository (state : Contents) (asked : Call) (count most : ℕ) : Type 0 where
   pub new : List ℕ
   pub from : List ℕ
@@ -116,7 +117,7 @@ pub record RecordsIn (state : Contents) (asked : Call) (catches : List Catch) (c
   pub records : asked ≡ call.Record branch name changes
   pub has : Has state branch catches
 
--- a branch has so many changes, and with so many more it would have more than the limits say
+-- a branch has this number of changes, and with those of a record it would exceed its limit
 pub record FillsBranch (state : Contents) (asked : Call) (has more most : ℕ) : Type 0 where
   pub catches : List Catch
   pub changes : List Primitive
@@ -126,7 +127,7 @@ pub record FillsBranch (state : Contents) (asked : Call) (has more most : ℕ) :
   pub limit : most ≡ state.limits.catches
   pub full : most < has + more
 
--- a branch has so many changes, and with so many that are pulled it would have more than the limits say
+-- a branch has this number of changes, and with those of a pull it would exceed its limit
 pub record FillsWithPull (state : Contents) (asked : Call) (has more most : ℕ) : Type 0 where
   pub from : List ℕ
   pub to : List ℕ
@@ -141,8 +142,8 @@ pub record FillsWithPull (state : Contents) (asked : Call) (has more most : ℕ)
   pub limit : most ≡ state.limits.catches
   pub full : most < has + more
 
--- the change of a number, counted from 1, is an edit of the file of a path with sides of so many lines, and one of these is too
--- long
+-- the change of a number, counted from 1, is an edit of the file of a path, its sides have these numbers of lines,
+-- and one of these is too great
 pub record IsLongAt (changes : List Primitive) (number : ℕ) (path : List ℕ) (old new : ℕ) : Type 0 where
   pub before : ℕ
   pub numbered : number ≡ suc before
@@ -169,7 +170,7 @@ pub record StopsAt (state : Contents) (asked : Call) (stop : Stop) : Type 0 wher
   pub leads : LeadsTo catches tree
   pub is_stop : IsStop changes tree stop
 
--- what a cause says of a call and a state is so
+-- what a cause says of a call and a state is true
 abbrev pub IsSo : Contents → Call → Cause → Type 0
 IsSo state asked (FullRepository count most) = FillsRepository state asked count most
 IsSo state asked (FullBranch has more most) = FillsBranch state asked has more most

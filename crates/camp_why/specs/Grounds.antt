@@ -1,4 +1,4 @@
--- What a refusal of a call says is so.
+-- What a refusal says of its call is true.
 use Rattle.std.specs.Prelude.{◌≡◌, ◌⊎◌, ℕ, true, List, [], Option, None, Some, Err}
 use Rattle.camp_branch.specs.Branches.{first_lacked}
 use Rattle.camp_branch.specs.declared.faults.Blocked.{Blocked}
@@ -15,7 +15,7 @@ use Rattle.camp_repo.specs.States.{Contents, catches_of, stands}
 use Rattle.camp_repo.specs.Steps.{listed, refusal_of, refused, step, wanted}
 use Rattle.camp_why.specs.Laws.{IsExplained, IsInRange}
 
--- a call names a branch that has to be there for it
+-- a call names a branch that has to exist
 abbrev pub NeedsBranch : Call → List ℕ → Type 0
 NeedsBranch (call.Branch new from) name = from ≡ name
 NeedsBranch (call.Record branch patch changes) name = branch ≡ name
@@ -25,16 +25,16 @@ NeedsBranch (call.Tree branch) name = branch ≡ name
 NeedsBranch (call.Conflicts branch) name = branch ≡ name
 NeedsBranch (call.Names branch) name = branch ≡ name
 
--- it names one that is not there
+-- it names one that does not exist
 abbrev pub LacksBranch : Contents → Call → List ℕ → Type 0
 LacksBranch state asked name = NeedsBranch asked name × (catches_of state.branches name ≡ None)
 
--- it makes a branch that is there
+-- it creates a branch that exists
 abbrev pub MakesAgain : Contents → Call → List ℕ → Type 0
 MakesAgain state (call.Branch new from) name = (new ≡ name) × ((catches : List Catch) × Has state name catches)
 MakesAgain state other name = ⊥
 
--- it records a patch that stands in some branch
+-- it records a patch that some branch has
 abbrev pub RecordsAgain : Contents → Call → List ℕ → Type 0
 RecordsAgain state (call.Record branch patch changes) name = (patch ≡ name) × (stands state.branches name ≡ true)
 RecordsAgain state other name = ⊥
@@ -44,7 +44,7 @@ abbrev pub LacksOf : Contents → List ℕ → Option (List (List ℕ)) → List
 LacksOf state branch names name =
     (catches : List Catch) × Has state branch catches × (first_lacked catches (listed catches names) ≡ Some name)
 
--- a call lists a patch that the branch lacks from which it takes it
+-- a call lists a patch that the branch it takes patches from lacks
 abbrev pub LacksPatch : Contents → Call → List ℕ → Type 0
 LacksPatch state (call.Pull from to names) name = LacksOf state from names name
 LacksPatch state (call.Obliterate branch names) name = LacksOf state branch (Some names) name
@@ -62,7 +62,7 @@ DoesNothing state (call.Pull from to names) = HasAll state from to names
 DoesNothing state (call.Obliterate branch names) = names ≡ []
 DoesNothing state other = ⊥
 
--- this is why patches can't be pulled, or taken out
+-- this is why patches can't be pulled or taken out
 abbrev pub IsBlockedBy : Contents → Call → Blocked → Type 0
 IsBlockedBy state (call.Pull from to names) why =
     (theirs : List Catch) × (ours : List Catch) × Has state from theirs × Has state to ours
@@ -71,7 +71,7 @@ IsBlockedBy state (call.Obliterate branch names) why =
     (catches : List Catch) × Has state branch catches × (obliterated catches names ≡ Err why)
 IsBlockedBy state other why = ⊥
 
--- the refusal tells why
+-- the refusal says why
 abbrev pub IsBlocked : Contents → Call → Refusal → Type 0
 IsBlocked state asked refusal = (why : Blocked) × (refusal_of why ≡ refusal) × IsBlockedBy state asked why
 
@@ -80,7 +80,7 @@ abbrev pub PullsItself : Call → List ℕ → Type 0
 PullsItself (call.Pull from to names) name = (from ≡ name) × (to ≡ name)
 PullsItself other name = ⊥
 
--- what a refusal of a call says is so at a state
+-- what a refusal says of a call at a state is true
 abbrev pub IsGround : Contents → Call → Refusal → Type 0
 IsGround state asked (refusal.NoBranch name) = LacksBranch state asked name
 IsGround state asked (refusal.BranchExists name) = MakesAgain state asked name
@@ -94,7 +94,7 @@ IsGround state asked (refusal.Diverged name) = IsBlocked state asked (refusal.Di
 IsGround state asked (refusal.NoMerge left right) = IsBlocked state asked (refusal.NoMerge left right)
 IsGround state asked (refusal.SameBranch name) = PullsItself asked name
 
--- where a lawful state refuses a call, what its refusal says is so
+-- if a lawful state refuses a call, what its refusal says is true
 abbrev pub RefusalsHaveGrounds : Type 0
 RefusalsHaveGrounds =
     (state : Contents) (asked : Call) (refusal : Refusal) → IsLawfulState state → IsCall asked → IsInRange asked →

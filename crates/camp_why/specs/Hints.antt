@@ -1,4 +1,4 @@
--- What is to be seen in a line that has a fault.
+-- Hints on a line that has a fault.
 use Rattle.std.specs.Prelude.{◌≡◌, ◌⊎◌, ℕ, Bool, true, false, not, ◌&&◌, ◌||◌, ◌==◌, List, [], ◌∷◌, length, slice_index, bytes_eq, codes, if◌then◌else◌}
 use Rattle.std.specs.List.{ends_with, list_any, starts_with}
 use Rattle.camp_base.specs.Bytes.{is_name}
@@ -13,113 +13,113 @@ use Rattle.camp_why.specs.declared.hints.Hint.TheVariants as seen
 
 -- ---- bytes, words and lines
 
--- whether a line begins so
+-- a line begins with these bytes
 abbrev pub begins : List ℕ → List ℕ → Bool
 begins front line = starts_with ◌==◌ line front
 
--- whether a line or a word ends with a carriage return
+-- a line or a word ends with a carriage return
 abbrev pub ends_in_return : List ℕ → Bool
 ends_in_return line = ends_with ◌==◌ line (codes "\r")
 
--- whether a word is a carriage return alone
+-- a word is only a carriage return
 abbrev pub is_return : List ℕ → Bool
 is_return word = bytes_eq word (codes "\r")
 
--- whether a word begins with the digit 0
+-- a word begins with the digit 0
 abbrev pub begins_zero : List ℕ → Bool
 begins_zero word = begins (codes "0") word
 
--- whether a byte is another than the digit 0
+-- a byte is not the digit 0
 abbrev pub is_other_than_zero : ℕ → Bool
 is_other_than_zero byte = not (byte == 48)
 
--- whether a word is the number 0
+-- a word is the number 0
 abbrev pub is_zero : List ℕ → Bool
 is_zero word = begins_zero word && not (list_any is_other_than_zero word)
 
--- whether a line begins with a space or a tab
+-- a line begins with a space or a tab
 abbrev pub begins_blank : List ℕ → Bool
 begins_blank line = begins (codes " ") line || begins (codes "\t") line
 
--- whether a line has the first word `end`, and a blank behind it
+-- a line has the first word `end` and a blank after it
 abbrev pub begins_end : List ℕ → Bool
 begins_end line = begins (codes "end ") line || begins (codes "end\t") line
 
--- whether a line has a first word that stands only in a body or a group
+-- a line has a first word that is allowed only in a body or a group
 abbrev pub begins_inner : List ℕ → Bool
 begins_inner line =
     begins_with (codes "end") (words_of line) || (begins_with (codes "done") (words_of line)
     || (begins_with (codes "add") (words_of line) || (begins_with (codes "remove") (words_of line)
     || begins_with (codes "edit") (words_of line))))
 
--- whether a line is `end`, or nothing, but for a carriage return
+-- a line is `end` or empty, apart from a carriage return
 abbrev pub is_returned_end : List ℕ → Bool
 is_returned_end line = bytes_eq line (codes "end\r") || is_return line
 
--- whether a line is `end` in capitals
+-- a line is `end` in capitals
 abbrev pub is_capital_end : List ℕ → Bool
 is_capital_end line = bytes_eq line (codes "END") || bytes_eq line (codes "End")
 
--- whether a line ends a body
+-- a line ends a body
 abbrev pub is_end : List ℕ → Bool
 is_end line = bytes_eq line (codes "end")
 
--- whether a line has no byte
+-- a line is empty
 abbrev pub is_empty : List ℕ → Bool
 is_empty line = length line == 0
 
--- whether a line is as one of too many bytes is read: it has 4,098 bytes, and `?` for the second
+-- a line is what is read for one with too many bytes: it has 4,098 bytes, the second of them `?`
 abbrev pub is_cut : List ℕ → Bool
 is_cut line = length line == 4098 && slice_index line 1 == 63
 
--- whether a word begins with the sign of a line of a body
+-- a word begins with the sign of a line of a body
 abbrev pub begins_signed : List ℕ → Bool
 begins_signed word = begins (codes "+") word || begins (codes "-") word
 
--- whether a byte is a quotation mark
+-- a byte is a quotation mark
 abbrev pub is_quote : ℕ → Bool
 is_quote byte = byte == quote || byte == 39
 
--- whether a word begins with a quotation mark
+-- a word begins with a quotation mark
 abbrev pub begins_quoted : List ℕ → Bool
 begins_quoted word = begins (codes "\"") word || begins (codes "'") word
 
--- whether a byte is no printing character of ASCII, and no blank
+-- a byte is neither a printable character of ASCII nor a blank
 abbrev pub is_strange : ℕ → Bool
 is_strange byte = not (byte == tab || is_printing byte)
 
--- the first word; an empty one, where there is none
+-- the first word, or an empty one
 abbrev pub first_word : List (List ℕ) → List ℕ
 first_word [] = []
 first_word (word ∷ words) = word
 
--- the first word that is no name; an empty one, where there is none
+-- the first word that is not a name, or an empty one
 abbrev pub misnamed : List (List ℕ) → List ℕ
 misnamed [] = []
 misnamed (word ∷ words) = if is_name word then misnamed words else word
 
--- the last two words, behind these two
+-- the last two words, given these two
 abbrev pub last_words : List ℕ → List ℕ → List (List ℕ) → List ℕ × List ℕ
 last_words before last [] = (before, last)
 last_words before last (word ∷ words) = last_words last word words
 
--- the line of a call: what stands behind `whatif`, or else the whole line
+-- the line of a call: the rest after `whatif`, or else the whole line
 abbrev pub call_part : List ℕ → List ℕ
 call_part line = if begins_with (codes "whatif") (words_of line) then behind_word line else line
 
--- the word that says what a call does: of a record its fourth, and of any other its first
+-- the word that says what a call does: the fourth of a record, and the first of any other
 abbrev pub call_word : List ℕ → List ℕ
 call_word line =
     if begins_with (codes "record") (words_of line)
     then first_word (words_of (behind_word (behind_word (behind_word line))))
     else first_word (words_of line)
 
--- the word that should be one of a command: behind `help`, or that of the call
+-- the word that should be a command: the one after `help`, or that of the call
 abbrev pub command_word : List ℕ → List ℕ
 command_word line =
     if begins_with (codes "help") (words_of line) then first_word (words_of (behind_word line)) else call_word (call_part line)
 
--- the word that should be a path: in the line of an edit the last but one, and else the last
+-- the word that should be a path: the last but one in the line of an edit, else the last
 abbrev pub path_word : List ℕ → List ℕ
 path_word line =
     if begins_edit (words_of (call_part line)) then (last_words [] [] (words_of line)).0 else (last_words [] [] (words_of line)).1
@@ -128,9 +128,9 @@ path_word line =
 abbrev pub number_word : List ℕ → List ℕ
 number_word line = (last_words [] [] (words_of line)).1
 
--- ---- what is to be seen
+-- ---- the hint
 
--- in a word that is no command, or no name; where nothing is, this other hint
+-- the hint on a word that is not a command, or not a name; if there is none, this other hint
 abbrev pub word_hint : List ℕ → Hint → Hint
 word_hint word other =
     if ends_in_return word then seen.CarriageReturn
@@ -139,11 +139,11 @@ word_hint word other =
     else (if list_any is_capital_letter word then seen.Capitals
     else other)))
 
--- whether a line is a record, also behind `whatif`
+-- a line is a record, perhaps after `whatif`
 abbrev pub begins_record : List ℕ → Bool
 begins_record line = begins_with (codes "record") (words_of (call_part line))
 
--- of the first word of a line that is no command
+-- the hint on the first word of a line that is not a command
 abbrev pub form_hint : List ℕ → Hint
 form_hint line =
     if begins_with (codes "client") (words_of line) then seen.OfScript
@@ -153,32 +153,32 @@ form_hint line =
     else (if begins_inner line then seen.OfInner
     else seen.Nothing))))
 
--- in a line with a word that should be one of a command, by that word and by what there is else
+-- the hint on a line with a word that should be a command, by that word and the other words
 abbrev pub line_hint : List ℕ → List ℕ → Hint → Hint
 line_hint line word other =
     if is_cut line then seen.TooLong
     else (if begins_signed (first_word (words_of line)) then seen.OfBody
     else word_hint word other)
 
--- in a line with too few words, or too many
+-- the hint on a line with too few or too many words
 abbrev pub count_hint : List (List ℕ) → Hint
 count_hint words =
     if list_any is_return words then seen.CarriageReturn
     else (if list_any begins_quoted words then seen.Quotes
     else seen.Nothing)
 
--- in a word that should be a path
+-- the hint on a word that should be a path
 abbrev pub path_hint : List ℕ → Hint
 path_hint word =
     if ends_in_return word then seen.CarriageReturn
     else (if list_any is_strange word then seen.Strange
     else seen.Nothing)
 
--- whether the number of a refusal has a zero in front, which LINE may have
+-- the number of a refusal has a leading zero, where only LINE may have one
 abbrev pub has_zero_in_front : List ℕ → Bool
 has_zero_in_front line = begins_with (codes "help") (words_of line) && begins_zero (number_word line)
 
--- in a line with a number, or in the `end` of an edit whose numbers are too great
+-- the hint on a line with a number, or on the `end` of an edit whose numbers are too great
 abbrev pub number_hint : List ℕ → Hint
 number_hint line =
     if is_end line then seen.TooFar
@@ -187,18 +187,18 @@ number_hint line =
     else (if has_zero_in_front line then seen.ZeroInFront
     else seen.Nothing)))
 
--- in a line of a body that may be too long
+-- the hint on a line of a body that may be too long
 abbrev pub long_hint : List ℕ → Hint
 long_hint line = if is_cut line then seen.TooLong else seen.Nothing
 
--- in a line of a body without a sign
+-- the hint on a line of a body without a sign
 abbrev pub unsigned_hint : List ℕ → Hint
 unsigned_hint line =
     if is_returned_end line then seen.CarriageReturn
     else (if is_capital_end line then seen.Capitals
     else seen.NoSign)
 
--- in a line of a body
+-- the hint on a line of a body
 abbrev pub edit_hint : List ℕ → Hint
 edit_hint line =
     if is_cut line then seen.TooLong
@@ -210,7 +210,7 @@ edit_hint line =
     else (if begins (codes "+") line then seen.Nothing
     else unsigned_hint line))))))
 
--- what is to be seen in a line that has a fault of a kind
+-- the hint on a line that has a fault of a kind
 abbrev pub hint : FaultKind → List ℕ → Hint
 hint UnknownCommand line = line_hint line (command_word line) (form_hint line)
 hint BadGroup line = line_hint line (first_word (words_of line)) seen.Nothing
@@ -222,9 +222,9 @@ hint BadLine line = long_hint line
 hint BadEdit line = edit_hint line
 hint other line = seen.Nothing
 
--- ---- what it says
+-- ---- the meaning of a hint
 
--- the word that has the fault; the line, where the kind names no word
+-- the word that has the fault; the line, if the kind names no word
 abbrev pub faulty : FaultKind → List ℕ → List ℕ
 faulty UnknownCommand line = command_word line
 faulty BadGroup line = first_word (words_of line)
@@ -233,22 +233,22 @@ faulty BadPath line = path_word line
 faulty BadNumber line = number_word line
 faulty other line = line
 
--- whether it ends with a carriage return; of too few words, or too many, whether one is nothing else
+-- it ends with a carriage return; if there are too few or too many words, one of them is only a carriage return
 abbrev pub has_return : FaultKind → List ℕ → Bool
 has_return WrongNumberOfWords line = list_any is_return (words_of line)
 has_return kind line = ends_in_return (faulty kind line)
 
--- whether it has a quotation mark; of too few words, or too many, whether one begins with it
+-- it has a quotation mark; if there are too few or too many words, one of them begins with it
 abbrev pub has_quote : FaultKind → List ℕ → Bool
 has_quote WrongNumberOfWords line = list_any begins_quoted (words_of line)
 has_quote kind line = list_any is_quote (faulty kind line)
 
--- a fault of the word that should be one of a command, or of a change of a group
+-- a fault of the word that should be a command, or the change of a group
 abbrev pub IsOfCommand : FaultKind → Type 0
 IsOfCommand kind = (kind ≡ UnknownCommand) ⊎ (kind ≡ BadGroup)
 
--- what is told of a line with a fault of a kind is to be seen there; and what only lines of some kinds can show is told of
--- those kinds alone
+-- what a hint says of a line with a fault of a kind is true; a hint that only lines of some kinds can have is given
+-- for those kinds only
 abbrev pub IsSeen : FaultKind → List ℕ → Hint → Type 0
 IsSeen kind line seen.Nothing = Unit {0}
 IsSeen kind line seen.OfBody = IsOfCommand kind × (begins_signed (first_word (words_of line)) ≡ true)
@@ -273,7 +273,7 @@ IsSeen kind line seen.OldBehindNew = (kind ≡ BadEdit) × (begins (codes "-") l
 IsSeen kind line seen.NoSign =
     (kind ≡ BadEdit) × (begins_signed line ≡ false) × (is_end line ≡ false) × (is_empty line ≡ false)
 
--- nothing of this is to be seen in a word that should be a name, or one of a command
+-- no hint applies to a word that should be a name or a command
 pub record IsPlain (word : List ℕ) : Type 0 where
   pub returns : ends_in_return word ≡ false
   pub strange : list_any is_strange word ≡ false
@@ -289,7 +289,7 @@ pub record HasNoForm (line : List ℕ) : Type 0 where
   pub helps : begins_with (codes "help") (words_of line) ≡ false
   pub inner : begins_inner line ≡ false
 
--- nothing is to be seen in a line with a fault of a kind
+-- no hint applies to a line with a fault of a kind
 abbrev pub ShowsNothing : FaultKind → List ℕ → Type 0
 ShowsNothing UnknownCommand line = (is_cut line ≡ false) × IsPlain (command_word line) × HasNoForm line
 ShowsNothing BadGroup line =
@@ -305,7 +305,7 @@ ShowsNothing BadLine line = is_cut line ≡ false
 ShowsNothing BadEdit line = (is_cut line ≡ false) × (begins (codes "+") line ≡ true)
 ShowsNothing other line = Unit {0}
 
--- so it is of each kind and each line; and where nothing is told, nothing is to be seen
+-- for each kind and each line: the hint is true, and if there is none, none applies
 pub record HintsAreSeen : Type 0 where
   pub told : (kind : FaultKind) (line : List ℕ) → IsSeen kind line (hint kind line)
   pub none : (kind : FaultKind) (line : List ℕ) → hint kind line ≡ seen.Nothing → ShowsNothing kind line

@@ -16,30 +16,30 @@ use Rattle.camp_why.specs.Misfits.{IsMisfit, why_not}
 use Rattle.camp_why.specs.declared.causes.Cause.{Cause}
 use Rattle.camp_why.specs.declared.misfits.Misfit.{Misfit}
 
--- the reason that is told is one, and where one is, the change does not apply; where none is told, it does
+-- the reported reason is a true one, and if there is one, the change does not apply; if there is none, it applies
 pub record MisfitsAreReasons : Type 0 where
   pub told : (change : Primitive) (tree : Files) (why : Misfit) → why_not change tree ≡ Some why → IsMisfit change tree why
   pub stand : (change : Primitive) (tree next : Files) (why : Misfit) → IsMisfit change tree why → ¬ (Applies change tree next)
   pub none : (change : Primitive) (tree : Files) → InRange change → why_not change tree ≡ None → (next : Files) × Applies change tree next
 
--- whether a refusal of a call has a cause that it does not say: a limit, or a change of a record
+-- a refusal of a call has a cause that it does not say: a limit, or a change of a record
 abbrev pub wants_cause : Call → Refusal → Bool
 wants_cause (call.Record branch name changes) refusal = is_of_changes refusal
 wants_cause other refusal = is_of_limit refusal
 
--- a cause is told of a refusal: it is one of that refusal, and what it says is so
+-- the reported cause is one of this refusal, and what it says is true
 pub record IsExplained (state : Contents) (asked : Call) (refusal : Refusal) : Type 0 where
   pub cause : Cause
   pub told : explained state asked refusal ≡ Some cause
   pub of : refusal_by cause ≡ refusal
   pub is_so : IsSo state asked cause
 
--- the changes of a call are in range, as each change is that a program holds
+-- the changes of a call are in range, as each change that a program holds is
 abbrev pub IsInRange : Call → Type 0
 IsInRange (call.Record branch name changes) = AllByRecursion InRange changes
 IsInRange other = Unit {0}
 
--- where a call is refused at a state, and its refusal does not say all, a cause is told
+-- if a call is refused at a state, and its refusal does not say it all, a cause is reported
 abbrev pub RefusalsAreExplained : Type 0
 RefusalsAreExplained =
     (state : Contents) (asked : Call) (refusal : Refusal) → IsLawfulState state → IsCall asked → IsInRange asked →

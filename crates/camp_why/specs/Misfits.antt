@@ -9,9 +9,9 @@ use Rattle.camp_prim.specs.declared.primitives.Primitive.TheVariants.{Add, Hunk,
 use Rattle.camp_why.specs.declared.misfits.Misfit.{Misfit}
 use Rattle.camp_why.specs.declared.misfits.Misfit.TheVariants.{EndsBefore, FileIsThere, HasLines, NoFile, OtherLine}
 
--- ---- the reason that is told
+-- ---- the reported reason
 
--- why a file can't be added, by what there is of its path
+-- why a file can't be added, by what is at its path
 abbrev pub add_misfit : Option Lines → Option Misfit
 add_misfit None = None
 add_misfit (Some lines) = Some FileIsThere
@@ -22,22 +22,22 @@ remove_misfit None = Some NoFile
 remove_misfit (Some []) = None
 remove_misfit (Some (line ∷ lines)) = Some (HasLines (length (line ∷ lines)))
 
--- the first line, counted on from a number, at which another one stands than is to be taken away
+-- the first line, counted from a number, that differs from the one to be removed
 abbrev pub other_line : ℕ → Lines → Lines → Option Misfit
 other_line at [] lines = None
 other_line at (expected ∷ old) [] = None
 other_line at (expected ∷ old) (stands ∷ lines) =
     if bytes_eq stands expected then other_line (suc at) old lines else Some (OtherLine at stands expected)
 
--- the first old line that finds none in a file of so many lines; nothing, where each finds one
+-- the first old line past the end of a file of this length; none if the file is long enough
 abbrev pub lacking : Edit → ℕ → Option (List ℕ)
 lacking hunk has = slice_get hunk.old (has - (hunk.line - 1))
 
--- the line, counted from 1, at which that one would stand
+-- the line, counted from 1, at which that one would be
 abbrev pub lacking_at : Edit → ℕ → ℕ
 lacking_at hunk has = suc (hunk.line - 1 + (has - (hunk.line - 1)))
 
--- that a file of so many lines ends before the edit does
+-- the reason that a file of this length ends before the edit does
 abbrev pub ends_before : Edit → ℕ → Option Misfit
 ends_before hunk has =
     if nat_lt has (hunk.line - 1 + length hunk.old)
@@ -48,25 +48,25 @@ abbrev pub misfit_or : Option Misfit → Option Misfit → Option Misfit
 misfit_or None second = second
 misfit_or (Some why) second = Some why
 
--- why an edit does not apply to the lines of a file: another line stands there, or else the file ends before
+-- why an edit does not apply to the lines of a file: a line differs, or else the file ends too early
 abbrev pub lines_misfit : Edit → Lines → Option Misfit
 lines_misfit hunk lines =
     misfit_or (other_line hunk.line hunk.old (drop (hunk.line - 1) lines)) (ends_before hunk (length lines))
 
--- why an edit does not apply, by what there is of its path
+-- why an edit does not apply, by what is at its path
 abbrev pub edit_misfit : Edit → Option Lines → Option Misfit
 edit_misfit hunk None = Some NoFile
 edit_misfit hunk (Some lines) = lines_misfit hunk lines
 
--- why a change does not apply to a tree; nothing, where it does
+-- why a change does not apply to a tree; none if it does
 abbrev pub why_not : Primitive → Files → Option Misfit
 why_not (Add path) tree = add_misfit (get tree path)
 why_not (Remove path) tree = remove_misfit (get tree path)
 why_not (Hunk hunk) tree = edit_misfit hunk (get tree hunk.path)
 
--- ---- what it says
+-- ---- the meaning of a reason
 
--- whether a change is one of a file that is there
+-- a change is one of a file that exists
 abbrev pub wants_file : Primitive → Bool
 wants_file (Add path) = false
 wants_file (Remove path) = true
@@ -84,7 +84,7 @@ pub record ChangesNone (change : Primitive) (tree : Files) : Type 0 where
   pub wants : wants_file change ≡ true
   pub absent : get tree (path_of change) ≡ None
 
--- a file is to be removed, and it has so many lines
+-- a file is to be removed, and it has this number of lines
 pub record RemovesLines (change : Primitive) (tree : Files) (count : ℕ) : Type 0 where
   pub path : List ℕ
   pub removes : change ≡ Remove path
@@ -98,14 +98,14 @@ pub record Edits (change : Primitive) (tree : Files) (hunk : Edit) (lines : Line
   pub edits : change ≡ Hunk hunk
   pub found : get tree hunk.path ≡ Some lines
 
--- the old lines of an edit, so many of them, are those that stand there, as far as there are any
+-- the old lines of an edit, of this number, are those of the file, as far as it has any
 abbrev pub StandThere : Edit → Lines → ℕ → Type 0
 StandThere hunk lines count =
     (at : ℕ) (stands expected : List ℕ) → at < count → slice_get hunk.old at ≡ Some expected →
     slice_get lines (hunk.line - 1 + at) ≡ Some stands → stands ≡ expected
 
--- an edit wants so many lines, and the file has fewer: each old line that finds one finds itself, and this is the first that
--- finds none, at this line
+-- an edit wants at least this number of lines, and the file has fewer: the old lines up to its end are the same, and
+-- this is the first one past it, at this line
 pub record ReachesBehind (change : Primitive) (tree : Files) (has wants at : ℕ) (lacks : Option (List ℕ)) : Type 0 where
   pub hunk : Edit
   pub lines : Lines
@@ -117,7 +117,7 @@ pub record ReachesBehind (change : Primitive) (tree : Files) (has wants at : ℕ
   pub is_lacked : lacks ≡ slice_get hunk.old (length lines - (hunk.line - 1))
   pub is_at : at ≡ suc (hunk.line - 1 + (length lines - (hunk.line - 1)))
 
--- at a line, counted from 1, another one stands than an edit takes away, and at none before it
+-- at a line, counted from 1, the file differs from what an edit removes, and at none before it
 pub record MeetsOther (change : Primitive) (tree : Files) (at : ℕ) (stands expected : List ℕ) : Type 0 where
   pub hunk : Edit
   pub lines : Lines

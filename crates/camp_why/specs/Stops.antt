@@ -1,4 +1,4 @@
--- At which of its changes a record stops, and why.
+-- The change at which a record stops, and the reason.
 use Rattle.std.specs.Prelude.{◌≡◌, ◌<◌, ℕ, suc, nat_lt, List, [], ◌∷◌, length, slice_get, take, Option, None, Some, if◌then◌else◌}
 use Rattle.std.specs.FinMap.{get}
 use Rattle.camp_base.specs.Trees.{Files, Lines}
@@ -16,19 +16,19 @@ use Rattle.camp_why.specs.declared.stops.Hindrance.{Hindrance}
 use Rattle.camp_why.specs.declared.stops.Hindrance.TheVariants.{Misfit, TooLong}
 use Rattle.camp_why.specs.declared.stops.Stop.{Stop}
 
--- ---- the change and the reason that are told
+-- ---- the reported change and reason
 
--- that a file is too long, by what there is of its path
+-- the reason that a file is too long, by what is at its path
 abbrev pub long_file : Option Lines → Option Hindrance
 long_file None = None
 long_file (Some lines) = if nat_lt longest_file (length lines) then Some (TooLong (length lines)) else None
 
--- that a file is too long in the tree that there is
+-- the reason that a file is too long in this tree
 abbrev pub made_long : List ℕ → Option Files → Option Hindrance
 made_long path None = None
 made_long path (Some next) = long_file (get next path)
 
--- the reason that there is, or else another one
+-- this reason, or else another one
 abbrev pub hindrance_or : Option Reason → Option Hindrance → Option Hindrance
 hindrance_or None other = other
 hindrance_or (Some why) other = Some (Misfit why)
@@ -37,7 +37,7 @@ hindrance_or (Some why) other = Some (Misfit why)
 abbrev pub hindrance : Primitive → Files → Option Hindrance
 hindrance change tree = hindrance_or (why_not change tree) (made_long (path_of change) (applied change tree))
 
--- it stops here, or goes on from the tree that there is
+-- it stops here, or continues from this tree
 abbrev pub stop_or : ℕ → Primitive → Option Hindrance → Option Files → (Files → Option Stop) → Option Stop
 stop_or at change (Some why) next goes_on = Some (record { change = at; path = path_of change; why = why })
 stop_or at change None None goes_on = None
@@ -49,9 +49,9 @@ first_stop at [] tree = None
 first_stop at (change ∷ changes) tree =
     stop_or at change (hindrance change tree) (applied change tree) (first_stop (suc at) changes)
 
--- ---- what it says
+-- ---- the meaning of a stop
 
--- a change leads to a tree whose file has so many lines, and these are more than a record leaves
+-- a change leads to a tree whose file has this number of lines, more than a record allows
 pub record MakesLong (change : Primitive) (tree : Files) (count : ℕ) : Type 0 where
   pub next : Files
   pub applies : Applies change tree next
@@ -65,7 +65,7 @@ abbrev pub IsHindrance : Primitive → Files → Hindrance → Type 0
 IsHindrance change tree (Misfit why) = IsMisfit change tree why
 IsHindrance change tree (TooLong count) = MakesLong change tree count
 
--- the refusal that tells it
+-- the refusal that reports it
 abbrev pub refusal_at : Hindrance → Refusal
 refusal_at (Misfit why) = DoesNotApply
 refusal_at (TooLong count) = TooLarge

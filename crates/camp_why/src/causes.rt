@@ -1,4 +1,4 @@
-//! Why a call is refused, where its refusal does not say it all.
+//! Why a call is refused, if its refusal does not say it all.
 ghost use Rattle.std.specs.Prelude.{◌≡◌, IfOk};
 ghost use Rattle.camp_repo.specs.States.{catches_of};
 ghost use Rattle.camp_why.specs.Causes.{explained, first_long, full_with_pull, is_of_changes, is_of_limit, long_cause, record_cause};
@@ -9,30 +9,28 @@ use camp_prim::Primitive;
 use camp_repo::{Call, MAX_SIDE_LINES, Names, Refusal, State, count_brought};
 use std::alloc::AllocError;
 
-/// Why a call is refused, where its refusal does not say it all.
+/// Why a call is refused, if its refusal does not say it all.
 #[derive(Debug, Drop)]
 pub enum Cause {
-    /// The repository has so many branches, and its limits let no more be made.
+    /// The repository has as many branches as its limits allow.
     FullRepository {
         count: usize,
         most: usize,
     },
-    /// A branch has so many changes, and a record would bring so many more; together these are more than the most of
-    /// this repository.
+    /// A branch that has `has` changes would exceed `most` with `more` of a record.
     FullBranch {
         has: usize,
         more: usize,
         most: usize,
     },
-    /// A branch has so many changes, and a pull would bring so many more; together these are more than the most of
-    /// this repository.
+    /// A branch that has `has` changes would exceed `most` with `more` of a pull.
     FullWithPull {
         has: usize,
         more: usize,
         most: usize,
     },
-    /// A side of an edit is too long: that of the change of this number, counted from 1; the path of its file, and how
-    /// many lines each side has.
+    /// A side of an edit is too long: that of the change of this number, counted from 1; the path of its
+    /// file, and the number of lines of each side.
     LongSide {
         change: usize,
         path: Path,
@@ -43,8 +41,8 @@ pub enum Cause {
     Stops(Stop),
 }
 
-/// Why a call is refused so at a state: the state that it met, and the refusal that it had there; of others what is told
-/// may not be so. None where the refusal says all that there is.
+/// Returns why a call is refused, given the state at which it was refused and the refusal; for others the
+/// result may be wrong. `None` if the refusal says it all.
 pub fn explain(state: &State, call: &Call, refusal: &Refusal) -> Result<Option<Cause>, AllocError>
     ensures exact { IfOk result (λ found. found ≡ explained state.now call.now refusal.now) }
 {
@@ -66,14 +64,14 @@ pub fn explain(state: &State, call: &Call, refusal: &Refusal) -> Result<Option<C
     }
 }
 
-// Whether a refusal says that a limit would be passed.
+// True if a refusal says that a limit would be exceeded.
 fn is_of_limit(refusal: &Refusal) -> bool
     ensures { result ≡ is_of_limit refusal.now }
 {
     matches!(refusal, Refusal::TooLarge)
 }
 
-// Whether a refusal of a record is about its changes.
+// True if a refusal of a record is about its changes.
 fn is_of_changes(refusal: &Refusal) -> bool
     ensures { result ≡ is_of_changes refusal.now }
 {
@@ -101,7 +99,7 @@ fn pull_cause(
     Ok(Some(Cause::FullWithPull { has, more, most }))
 }
 
-// Why changes are not recorded in a branch.
+// Returns why changes are not recorded in a branch.
 fn record_cause(
     state: &State,
     branch: &Name,
@@ -125,7 +123,7 @@ fn record_cause(
     Ok(stop.map(Cause::Stops))
 }
 
-// The first change that has a side that is too long.
+// Returns the first change that has a side that is too long.
 fn first_long(changes: &[Primitive]) -> Result<Option<Cause>, AllocError>
     ensures { IfOk result (λ found. found ≡ first_long 1 changes.now) }
 {
@@ -137,7 +135,7 @@ fn first_long(changes: &[Primitive]) -> Result<Option<Cause>, AllocError>
     Ok(None)
 }
 
-// That the change of this number has a side that is too long.
+// Returns the cause that the change of this number has a side that is too long.
 fn long_cause(at: usize, change: &Primitive) -> Result<Option<Cause>, AllocError>
     ensures { IfOk result (λ found. found ≡ long_cause at change.now) }
 {

@@ -1,4 +1,4 @@
-//! What is to be seen in a line that has a fault.
+//! Hints on a line that has a fault.
 ghost use Rattle.std.specs.Prelude.{◌≡◌, []};
 ghost use Rattle.std.specs.List.{list_any};
 ghost use Rattle.camp_base.specs.Signs.{is_capital_letter};
@@ -8,31 +8,31 @@ ghost use Rattle.camp_why.specs.Hints.{begins_blank, begins_end, begins_inner, b
 use camp_base::Name;
 use camp_script::{FaultKind, Words, begins_edit, begins_with, behind_word};
 
-/// The bytes of a line that has too many, as it is read.
+/// Bytes of what is read for a line that is too long.
 const CUT_BYTES: usize = 4098;
 
-/// What is to be seen in a line that has a fault.
+/// A hint on a line that has a fault.
 #[derive(Clone, Copy, PartialEq, Eq, Debug)]
 pub enum Hint {
-    /// Nothing but the fault.
+    /// No hint.
     Nothing,
-    /// It begins with the sign of a line of a body, and stands in none.
+    /// It begins with the sign of a line of a body, but is in none.
     OfBody,
-    /// It is `client`, which is a line of scripts alone.
+    /// It is `client`, which is allowed only in scripts.
     OfScript,
     /// It is a record, and its fourth word is none of add, remove, edit and group.
     NoChange,
-    /// It has the first word `whatif`, and no call behind it.
+    /// It has the first word `whatif`, and no call after it.
     NoCall,
-    /// It has the first word `help`, and no command behind it.
+    /// It has the first word `help`, and no command after it.
     NoTopic,
-    /// It has the first word of a line of a body or a group, and stands in none.
+    /// It has the first word of a line of a body or a group, but is in none.
     OfInner,
-    /// It is as one of too many bytes is read.
+    /// It is what is read for a line that is too long.
     TooLong,
-    /// It ends with a carriage return, or a word does, or is nothing else.
+    /// It ends with a carriage return, or a word does, or is only that.
     CarriageReturn,
-    /// A word has a byte that is no printing character of ASCII.
+    /// A word has a byte that is not a printable character of ASCII.
     Strange,
     /// A word has a quotation mark.
     Quotes,
@@ -50,15 +50,15 @@ pub enum Hint {
     NoLine,
     /// It is `end`: LINE and the lines of the body add up to too much.
     TooFar,
-    /// It has the first word `end`, and more.
+    /// It has the first word `end`, and others.
     MoreThanEnd,
-    /// It begins with `-`: a new line stands before it.
+    /// It begins with `-`, but comes after a new line.
     OldBehindNew,
     /// It has no sign before it.
     NoSign,
 }
 
-/// What is to be seen in a line that has a fault of a kind.
+/// Returns the hint on a line that has a fault of a kind.
 pub fn look_at(kind: FaultKind, line: &[u8]) -> Hint
     ensures exact { result ≡ hint kind line.now }
 {
@@ -75,8 +75,7 @@ pub fn look_at(kind: FaultKind, line: &[u8]) -> Hint
     }
 }
 
-// What is to be seen in a line with a word that should be one of a command, by that word and by what there is
-// else.
+// Returns the hint on a line with a word that should be a command, by that word and the other words.
 fn line_hint(line: &[u8], word: &[u8], other: Hint) -> Hint
     ensures { result ≡ line_hint line.now word.now other }
 {
@@ -89,7 +88,7 @@ fn line_hint(line: &[u8], word: &[u8], other: Hint) -> Hint
     word_hint(word, other)
 }
 
-// What is to be seen of the first word of a line that is no command.
+// Returns the hint on the first word of a line that is not a command.
 fn form_hint(line: &[u8]) -> Hint
     ensures { result ≡ form_hint line.now }
 {
@@ -154,14 +153,14 @@ fn number_hint(line: &[u8]) -> Hint
     Hint::Nothing
 }
 
-// Whether the last word of a line is the number of a refusal with a zero in front.
+// True if the last word of a line is the number of a refusal with a leading zero.
 fn has_zero_in_front(line: &[u8]) -> bool
     ensures { result ≡ has_zero_in_front line.now }
 {
     begins_with(line, b"help") && begins_zero(number_word(line))
 }
 
-// What is to be seen in a line of a body.
+// Returns the hint on a line of a body.
 fn edit_hint(line: &[u8]) -> Hint
     ensures { result ≡ edit_hint line.now }
 {
@@ -189,7 +188,7 @@ fn edit_hint(line: &[u8]) -> Hint
     unsigned_hint(line)
 }
 
-// What is to be seen in a line of a body without a sign.
+// Returns the hint on a line of a body without a sign.
 fn unsigned_hint(line: &[u8]) -> Hint
     ensures { result ≡ unsigned_hint line.now }
 {
@@ -202,7 +201,7 @@ fn unsigned_hint(line: &[u8]) -> Hint
     Hint::NoSign
 }
 
-// What is to be seen in a word that is no command, or no name; where nothing is, another hint.
+// Returns the hint on a word that is not a command, or not a name; if there is none, another hint.
 fn word_hint(word: &[u8], other: Hint) -> Hint
     ensures { result ≡ word_hint word.now other }
 {
@@ -221,7 +220,7 @@ fn word_hint(word: &[u8], other: Hint) -> Hint
     other
 }
 
-// The word that should be one of a command: behind `help`, or that of the call.
+// Returns the word that should be a command: the one after `help`, or that of the call.
 fn command_word(line: &[u8]) -> &[u8]
     ensures { result.now ≡ command_word line.now }
 {
@@ -231,7 +230,7 @@ fn command_word(line: &[u8]) -> &[u8]
     call_word(call_part(line))
 }
 
-// The word that says what a call does: of a record its fourth, and of any other its first.
+// Returns the word that says what a call does: the fourth of a record, and the first of any other.
 fn call_word(line: &[u8]) -> &[u8]
     ensures { result.now ≡ call_word line.now }
 {
@@ -241,7 +240,7 @@ fn call_word(line: &[u8]) -> &[u8]
     first_word(line)
 }
 
-/// The line of a call: what stands behind `whatif`, or else the whole line.
+/// Returns the line of a call: the rest after `whatif`, or else the whole line.
 pub fn call_part(line: &[u8]) -> &[u8]
     ensures exact { result.now ≡ call_part line.now }
 {
@@ -251,7 +250,7 @@ pub fn call_part(line: &[u8]) -> &[u8]
     line
 }
 
-// The word of a line that should be a path: in the line of an edit the last but one, and else the last.
+// Returns the word of a line that should be a path: the last but one in the line of an edit, else the last.
 fn path_word(line: &[u8]) -> &[u8]
     ensures { result.now ≡ path_word line.now }
 {
@@ -262,14 +261,14 @@ fn path_word(line: &[u8]) -> &[u8]
     last
 }
 
-// The word of a line that should be a number: the last.
+// Returns the word of a line that should be a number: the last.
 fn number_word(line: &[u8]) -> &[u8]
     ensures { result.now ≡ number_word line.now }
 {
     last_words(line).1
 }
 
-// The last two words of a line; empty ones, where there are not so many.
+// Returns the last two words of a line; missing ones are empty.
 fn last_words(line: &[u8]) -> (&[u8], &[u8])
     ensures { (result.0.now, result.1.now) ≡ last_words [] [] (words_of line.now) }
 {
@@ -282,14 +281,14 @@ fn last_words(line: &[u8]) -> (&[u8], &[u8])
     (before, last)
 }
 
-// The first word of a line; an empty one, where there is none.
+// Returns the first word of a line, or an empty one.
 fn first_word(line: &[u8]) -> &[u8]
     ensures { result.now ≡ first_word (words_of line.now) }
 {
     Words::new(line).next().unwrap_or(&[])
 }
 
-/// The first word of a line that is no name; an empty one, where there is none.
+/// Returns the first word of a line that is not a name, or an empty one.
 pub fn misnamed(line: &[u8]) -> &[u8]
     ensures exact { result.now ≡ misnamed (words_of line.now) }
 {
@@ -301,14 +300,14 @@ pub fn misnamed(line: &[u8]) -> &[u8]
     &[]
 }
 
-// Whether a word of a line begins with a quotation mark.
+// True if a word of a line begins with a quotation mark.
 fn has_quoted(line: &[u8]) -> bool
     ensures { result ≡ list_any begins_quoted (words_of line.now) }
 {
     Words::new(line).any(begins_quoted)
 }
 
-// Whether a word of a line is a carriage return alone.
+// True if a word of a line is only a carriage return.
 fn has_return(line: &[u8]) -> bool
     ensures { result ≡ list_any is_return (words_of line.now) }
 {
@@ -321,7 +320,7 @@ fn begins_quoted(word: &[u8]) -> bool
     word.starts_with(b"\"") || word.starts_with(b"'")
 }
 
-/// Whether a word or a line begins with the sign of a line of a body.
+/// True if a word or a line begins with the sign of a line of a body.
 pub fn begins_signed(word: &[u8]) -> bool
     ensures exact { result ≡ begins_signed word.now }
 {
@@ -346,7 +345,7 @@ fn begins_end(line: &[u8]) -> bool
     line.starts_with(b"end ") || line.starts_with(b"end\t")
 }
 
-// Whether the first word of a line is one that stands only in a body or a group.
+// True if the first word of a line is one that is allowed only in a body or a group.
 fn begins_inner(line: &[u8]) -> bool
     ensures { result ≡ begins_inner line.now }
 {
@@ -357,7 +356,7 @@ fn begins_inner(line: &[u8]) -> bool
         || begins_with(line, b"edit")
 }
 
-// Whether a line is `end`, or nothing, but for a carriage return.
+// True if a line is `end` or empty, apart from a carriage return.
 fn is_returned_end(line: &[u8]) -> bool
     ensures { result ≡ is_returned_end line.now }
 {
@@ -394,7 +393,7 @@ fn is_end(line: &[u8]) -> bool
     line == b"end".as_slice()
 }
 
-// Whether a line is as one of too many bytes is read.
+// True if a line is what is read for one that is too long.
 fn is_cut(line: &[u8]) -> bool
     ensures { result ≡ is_cut line.now }
 {
@@ -413,7 +412,7 @@ fn has_capitals(word: &[u8]) -> bool
     word.iter().any(|byte| matches!(byte, b'A'..=b'Z'))
 }
 
-// Whether there is a byte that is no printing character of ASCII, and no blank.
+// True if some byte is neither a printable character of ASCII nor a blank.
 fn has_strange(bytes: &[u8]) -> bool
     ensures { result ≡ list_any is_strange bytes.now }
 {

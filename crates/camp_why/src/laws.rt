@@ -2,24 +2,24 @@ ghost use Rattle.camp_why.specs.Grounds.{RefusalsHaveGrounds};
 ghost use Rattle.camp_why.specs.Hints.{HintsAreSeen};
 ghost use Rattle.camp_why.specs.Laws.{MisfitsAreReasons, RefusalsAreExplained};
 
-/// The reason that is told of a change is one; and where one is, the change does not apply.
+/// The reported reason of a change is a true one; if there is one, the change does not apply.
 pub fn misfits_are_reasons()
     ensures law { MisfitsAreReasons }
 {}
 
-/// Where a refusal does not say it all, the cause that is told is one.
+/// If a refusal does not say it all, the reported cause is a true one.
 #[tactic(auto, using(crate::proofs::Grounding::refusals_explained))]
 pub fn refusals_are_explained()
     ensures law { RefusalsAreExplained }
 {}
 
-/// What a refusal of a call says is so at the state that refuses it.
+/// What a refusal says of a call is true at the state that refuses it.
 #[tactic(auto, using(crate::proofs::Grounding::have_grounds))]
 pub fn refusals_have_grounds()
     ensures law { RefusalsHaveGrounds }
 {}
 
-/// What is told of a line with a fault is to be seen there; and where nothing is told, nothing is to be seen.
+/// The hint on a line with a fault is true; if there is none, none applies.
 #[tactic(auto, using(crate::proofs::Seeing::are_seen))]
 pub fn hints_are_seen()
     ensures law { HintsAreSeen }

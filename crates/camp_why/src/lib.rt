@@ -1,4 +1,4 @@
-//! Why a call is refused: which change, which line, which limit. And what is to be seen in a line that has a fault.
+//! Why a call is refused: which change, which line, which limit; and hints on lines that have a fault.
 #![tactic(auto)]
 
 mod causes;

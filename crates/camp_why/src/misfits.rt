@@ -15,17 +15,17 @@ pub enum Misfit {
     FileIsThere,
     /// A file is to be removed or edited, and there is none.
     NoFile,
-    /// A file is to be removed, and it has so many lines.
+    /// A file is to be removed, and it has this number of lines.
     HasLines(usize),
-    /// An edit reaches behind the last line of the file: that has so many, and the edit wants so many at least. The
-    /// first old line that finds none, where there is one, and at which line, counted from 1, it would stand.
+    /// An edit reaches past the last line of the file: the file has `has` lines, and the edit wants at least
+    /// `wants`. `lacks` is the first old line past its end, and would be line `at`, counted from 1.
     EndsBefore {
         has: usize,
         wants: usize,
         at: usize,
         lacks: Option<Line>,
     },
-    /// At a line, counted from 1, another one stands than an edit takes away.
+    /// At a line, counted from 1, the file differs from what an edit removes.
     OtherLine {
         at: usize,
         stands: Line,
@@ -33,7 +33,7 @@ pub enum Misfit {
     },
 }
 
-/// Why a change does not apply to a tree. None where it does.
+/// Returns why a change does not apply to a tree; `None` if it does.
 pub fn why_not(change: &Primitive, tree: &Tree) -> Result<Option<Misfit>, AllocError>
     ensures exact { IfOk result (λ found. found ≡ why_not change.now tree.now) }
 {
@@ -68,7 +68,7 @@ fn edit_misfit(hunk: &Hunk, tree: &Tree) -> Result<Option<Misfit>, AllocError>
     }
 }
 
-// The first line that is another one than the edit takes away.
+// Returns the first line that differs from the one the edit removes.
 fn other_line(hunk: &Hunk, lines: &SharedList<Line>) -> Result<Option<Misfit>, AllocError>
     ensures { IfOk result (λ found.
         found ≡ other_line hunk.now.line hunk.now.old (drop (hunk.now.line - 1) lines.now)) }
@@ -92,7 +92,7 @@ fn other_line(hunk: &Hunk, lines: &SharedList<Line>) -> Result<Option<Misfit>, A
     Ok(None)
 }
 
-// That a file of so many lines ends before the edit does.
+// Returns the reason that a file of this length ends before the edit does.
 fn ends_before(hunk: &Hunk, has: usize) -> Result<Option<Misfit>, AllocError>
     ensures { IfOk result (λ found. found ≡ ends_before hunk.now has) }
 {

@@ -1,4 +1,4 @@
-//! At which of its changes a record stops.
+//! The change at which a record stops.
 ghost use Rattle.std.specs.Prelude.{◌≡◌, IfOk, None, Some};
 ghost use Rattle.camp_prim.specs.Applied.{applied};
 ghost use Rattle.std.specs.FinMap.{get};
@@ -23,13 +23,13 @@ pub struct Stop {
 /// Why a record stops at a change.
 #[derive(Debug, Drop)]
 pub enum Hindrance {
-    /// The change does not apply to what those before it leave.
+    /// The change does not apply to the tree that those before it give.
     Misfit(Misfit),
-    /// The file would have so many lines.
+    /// The file would have this number of lines.
     TooLong(usize),
 }
 
-/// Where changes stop that are made one after the other from a tree. None where all can be made.
+/// Returns where changes that are made one after the other from a tree stop; `None` if all can be made.
 pub(crate) fn first_stop(tree: &Tree, changes: &[Primitive]) -> Result<Option<Stop>, AllocError>
     ensures { IfOk result (λ found. found ≡ first_stop 1 changes.now tree.now) }
 {
@@ -47,7 +47,7 @@ pub(crate) fn first_stop(tree: &Tree, changes: &[Primitive]) -> Result<Option<St
     Ok(None)
 }
 
-// Makes a change to a tree, or tells why it can't be made.
+// Makes a change to a tree, or returns why it can't be made.
 fn make(change: &Primitive, tree: &mut Tree) -> Result<Option<Hindrance>, AllocError>
     ensures tells { IfOk result (λ found. found ≡ hindrance change.now tree.old) }
     ensures makes { IfOk result (λ found. found ≡ None → applied change.now tree.old ≡ Some tree.new) }
@@ -64,7 +64,7 @@ fn make(change: &Primitive, tree: &mut Tree) -> Result<Option<Hindrance>, AllocE
     Ok(long_file(path, tree))
 }
 
-// How many lines the file of a path has, where these are more than a record leaves.
+// Returns the number of lines of the file of a path, if it is more than a record allows.
 fn long_file(path: &Path, tree: &Tree) -> Option<Hindrance>
     ensures { result ≡ long_file (get tree.now path.now) }
 {

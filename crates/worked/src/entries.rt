@@ -1,4 +1,4 @@
-//! Tables: what an entry asks for, and how many lines it has.
+//! Tables: the kind of an entry, and the number of its lines.
 ghost use Rattle.std.specs.Prelude.{◌≤◌, ◌<◌, length};
 
 use crate::words::{meaning_of, split_word};
@@ -20,7 +20,7 @@ pub(crate) enum Play {
     Seen,
 }
 
-/// The words that such an entry begins with. A command begins with the number of a seat, too.
+/// The first words of such entries. A command begins with the number of a seat instead.
 const PLAYS: &[(&str, Play)] = &[
     ("adopted", Play::Adopted),
     ("book", Play::Book),
@@ -35,7 +35,7 @@ const PLAYS: &[(&str, Play)] = &[
     ("seen", Play::Seen),
 ];
 
-/// What a line asks for that is none of a table of values.
+/// Parses what a line asks for if it does not belong to a table of values.
 pub(crate) fn play_of(line: &[u8]) -> Option<Play> {
     if matches!(line.first(), Some(b'0'..=b'9')) {
         return Some(Play::Command);
@@ -44,8 +44,8 @@ pub(crate) fn play_of(line: &[u8]) -> Option<Play> {
     meaning_of(PLAYS, word)
 }
 
-/// How many lines the first entry of a table has. A run and a conversation go on up to an empty line, a command
-/// with a body up to its end; any other entry is one line.
+/// Counts the lines of the first entry of a table. A run and a conversation end before an empty line, a
+/// command with a body at its end; any other entry is one line.
 pub(crate) fn entry_len(lines: &[&[u8]]) -> usize
     requires { 0 < length lines.now }
     ensures some { 0 < result }

@@ -16,7 +16,8 @@ use std::io::Write;
 use std::sync::Wait;
 use std::thread::Threads;
 
-/// Prints tables entry by entry, each call with its result below it. Tells how many entries wanted memory.
+/// Prints tables entry by entry, each call with its result below it. Returns how many entries ran out of
+/// memory.
 pub(crate) fn print_tables<R: Threads + Wait + Sync, W: Write>(
     rt: &R,
     alloc: Global,
@@ -83,8 +84,8 @@ fn lines_of(alloc: Global, input: &[u8]) -> Result<Vec<&[u8]>, AllocError> {
     Ok(lines)
 }
 
-/// The lines of an entry, and behind them what comes of it. It is done again where it wanted memory, but for
-/// what was asked of a book or of a head by then.
+/// Prints the lines of an entry, followed by its result. An entry that ran out of memory is tried again,
+/// except for what was asked of a book or of a head by then.
 fn entry_text<R: Threads + Wait + Sync>(
     rt: &R,
     table: &mut Table,
@@ -123,7 +124,7 @@ fn try_entry<R: Threads + Wait + Sync>(
     }
 }
 
-/// Keeps what a line tells, or appends the result of the call that it is.
+/// Stores what a line defines, or appends the result of the call that it is.
 fn append_line(table: &mut Table, line: &[u8], text: &mut Vec<u8>) -> Result<(), AllocError> {
     match split_call(line) {
         Some((name, arguments)) => append_outcome(calls::answer(table, name, arguments), text),

@@ -4,30 +4,30 @@
 //! | Line | Meaning |
 //! |---|---|
 //! | `# ..`, or nothing | a comment |
-//! | `table NAME` | a new table: nothing is known from here on |
-//! | `quiet` | what most calls come to is told as `made`, also `none`, `yes` and `no` |
+//! | `table NAME` | a new table: all definitions are dropped |
+//! | `quiet` | most results are shown as `made`, except `none`, `yes` and `no` |
 //! | `p f 1 [one] -> [uno]` | a primitive, which is known as `p` from here on, and its inverse as `p^` |
 //! | `s = [a add f, p]` | a list or a tree, which is called `s` from here on |
 //! | `commute(p, q)` | a call |
-//! | `book` | a new book, which is asked the commands below |
-//! | `head SEATS PER_SEAT TRIES EVERY` | a new head, at whose seats the commands below are asked |
+//! | `book` | a new book, on which the commands below are executed |
+//! | `head SEATS PER_SEAT TRIES EVERY` | a new head, at whose seats the commands below are executed |
 //! | `SEAT COMMAND`, `repeat COUNT SEAT COMMAND` | a command of scripts, with its body below it |
 //! | `history`, `history SEAT` | the accepted calls of the book, or what a seat has seen |
-//! | `seen SEAT`, `meet SEAT SEAT` | how much a seat has seen; the first seat meets the second |
-//! | `adopted SEAT` | how many versions the seat has adopted, but at meetings |
-//! | `hand-on SEAT` | the seat hands on what it has seen |
+//! | `seen SEAT`, `meet SEAT SEAT` | how much a seat has seen; the first seat is synchronised with the second |
+//! | `adopted SEAT` | how many snapshots the seat has installed from slots |
+//! | `hand-on SEAT` | the seat publishes what it has seen |
 //! | `no-merge LEFT RIGHT` | the text of a refusal |
-//! | `run book`, `run locked`, `run head`, `run head TRIES`, `run turns TRIES` | the script below, up to an empty line, behind its gates |
+//! | `run book`, `run locked`, `run head`, `run head TRIES`, `run turns TRIES` | the script below, up to an empty line, after its gates |
 //! | `run locked counts` and the like | how its calls were answered, whatever the order of its clients |
 //! | `ends WAY: READS BYTES WRITES BYTES TIMES` | the script or conversation below, with a reader and a writer that fail |
 //!
-//! The notation is that of `camp_notation`. What wants memory is done again. The exit status tells what was
-//! wanted: 0 where nothing was, 3 where one line wanted memory, or the allocation behind the last line was
-//! refused, 4 where the input was not read or a line not printed, and 5 where more lines than one wanted memory.
+//! The notation is that of `camp_notation`. What runs out of memory is tried again. The exit status is 0 if
+//! no line ran out of memory, 3 if one did or the allocation after the last line was refused, 4 if the input
+//! was not read or a line not printed, and 5 if more than one line ran out of memory.
 //!
-//! `worked N M` makes M - N extra allocations before the table, so the run's M-th allocation is the
-//! table's N-th: built so that its M-th allocation is refused, N chooses which one of the table is.
-//! `worked M` tells behind the lines how many more allocations are made before one is refused, M at most.
+//! `worked N M` makes M - N extra allocations before the table, so the run's M-th allocation is the table's
+//! N-th: built so that its M-th allocation is refused, N chooses which one of the table is. `worked M` prints
+//! after the lines how many more allocations are made before one is refused, M at most.
 #![tactic(auto)]
 
 mod entries;

@@ -1,4 +1,4 @@
-//! Books and heads: what an entry that is no call asks, of a book, a head or a run.
+//! Books and heads: entries that are no calls of a table of values, but ask a book, a head or a run.
 
 pub(crate) mod asking;
 pub(crate) mod commands;
@@ -23,14 +23,14 @@ use std::alloc::{AllocError, Global};
 use std::sync::Wait;
 use std::thread::Threads;
 
-/// What commands are asked of.
+/// The book or head on which commands are executed.
 #[derive(Drop)]
 pub(crate) enum Stage {
     Book(Book<State>),
     Head(Seating),
 }
 
-/// An entry that is none of a table of values: its first line, and those below it.
+/// An entry that does not belong to a table of values: its first line, and those below it.
 #[derive(Clone, Copy)]
 pub(crate) struct Entry<'a> {
     pub(crate) play: Play,
@@ -38,16 +38,16 @@ pub(crate) struct Entry<'a> {
     pub(crate) body: &'a [&'a [u8]],
 }
 
-/// What is answered to a call.
+/// Returns the answer to a call.
 pub(crate) type Answer = Result<Reply, Fault>;
 
 impl Stage {
-    /// A new book.
+    /// Makes a new book.
     pub(crate) fn new(alloc: Global) -> Result<Stage, AllocError> {
         Ok(Stage::Book(Book::new(alloc)?))
     }
 
-    /// Appends what is answered to an entry, or why it has no answer.
+    /// Appends the answer to an entry, or why it has none.
     pub(crate) fn append<R: Threads + Wait + Sync>(
         &mut self,
         rt: &R,
@@ -63,7 +63,7 @@ impl Stage {
         append_fault(done, text)
     }
 
-    /// Asks a command, each of its times, and appends what the last of them is answered.
+    /// Executes a command as often as it says, and appends the last answer.
     fn append_asked<R: Wait>(
         &mut self,
         rt: &R,
@@ -79,7 +79,7 @@ impl Stage {
         asked.append_last(text)
     }
 
-    /// Asks a call. Want of memory is no answer: the call is then asked again.
+    /// Executes a call; again if it runs out of memory.
     fn ask<R: Wait>(&mut self, rt: &R, seat: u32, call: &Call) -> Result<Answer, PlayFault> {
         let answer = match self {
             Stage::Book(book) => Ok(book.ask(seat, call)),
@@ -91,7 +91,7 @@ impl Stage {
         }
     }
 
-    /// Does what a line says that begins neither a command nor a run.
+    /// Executes a line that begins neither a command nor a run.
     fn append_line(
         &mut self,
         play: Play,
@@ -112,7 +112,7 @@ impl Stage {
         Ok(())
     }
 
-    /// A head of some sizes, and 0 in place of one that is missing.
+    /// Makes a head with these sizes, with 0 for missing ones.
     fn open(&mut self, words: &[u8], text: &mut Vec<u8>) -> Result<(), PlayFault> {
         let mut sizes = [0; 4];
         read_numbers(words, &mut sizes)?;
@@ -126,7 +126,7 @@ impl Stage {
         }
     }
 
-    /// What a book has accepted, or what seats tell.
+    /// Appends what a book has accepted, or what seats report.
     fn append_told(
         &mut self,
         play: Play,
@@ -145,7 +145,7 @@ impl Stage {
     }
 }
 
-/// Appends the text of the refusal of a pull whose branches don't merge: no script is known that is told it.
+/// Appends the text of the refusal of a pull of branches that do not merge: no script is known that gets it.
 fn append_no_merge(words: &[u8], text: &mut Vec<u8>) -> Result<(), PlayFault> {
     let Some((left, right)) = names_of(words) else {
         return Err(NO_COMMAND);
@@ -156,7 +156,7 @@ fn append_no_merge(words: &[u8], text: &mut Vec<u8>) -> Result<(), PlayFault> {
     append_written(ended, &written, text)
 }
 
-/// Appends what stands in a vector behind a writing call. A vector refuses bytes only where memory runs out.
+/// Appends the content of a vector after a call that writes. A vector rejects bytes only if memory runs out.
 fn append_written(
     ended: Result<(), WriteFault>,
     written: &[u8],
@@ -168,7 +168,7 @@ fn append_written(
     }
 }
 
-/// Appends bytes that are made, unless memory is wanted.
+/// Appends bytes that were made, unless memory ran out.
 pub(crate) fn append_bytes(
     made: Result<Vec<u8>, AllocError>,
     text: &mut Vec<u8>,
@@ -179,7 +179,7 @@ pub(crate) fn append_bytes(
     }
 }
 
-/// Appends words that are made, unless memory is wanted.
+/// Appends words that were made, unless memory ran out.
 pub(crate) fn append_words(
     made: Result<String, AllocError>,
     text: &mut Vec<u8>,

@@ -1,11 +1,11 @@
-//! Tables: what the lines of a table have told so far.
+//! Tables: the definitions of a table so far.
 use bstr::ByteSlice;
 use camp_notation::{NotationError, read_list, read_named, read_tree};
 use camp_prim::Named;
 use std::alloc::{AllocError, AllocFailed, Global};
 
-/// What the lines of a table have told so far: the primitives that have a line of their own, their
-/// inverses, and the names of other values; and whether values that are made are shown.
+/// The definitions of a table so far: the primitives that have a line of their own, their inverses, and the
+/// names of other values; and whether results are shown.
 #[derive(Drop)]
 pub(crate) struct Table {
     alloc: Global,
@@ -14,14 +14,14 @@ pub(crate) struct Table {
     is_quiet: bool,
 }
 
-/// A name, and the text that it stands for.
+/// A name, and the text that it represents.
 #[derive(Drop)]
 struct Binding {
     name: Vec<u8>,
     text: Vec<u8>,
 }
 
-/// The name of the call that a line is, and the text of its arguments.
+/// Splits a line into the name of its call and the text of the arguments.
 pub(crate) fn split_call(line: &[u8]) -> Option<(&[u8], &[u8])> {
     if line.starts_with(b"#") {
         return None;
@@ -35,7 +35,7 @@ pub(crate) fn split_call(line: &[u8]) -> Option<(&[u8], &[u8])> {
 }
 
 impl Table {
-    /// A table without a line.
+    /// Makes a table without definitions.
     pub(crate) fn new(alloc: Global) -> Table {
         Table {
             alloc,
@@ -53,12 +53,12 @@ impl Table {
         &self.known
     }
 
-    /// Whether `made` stands in place of what most calls come to.
+    /// True if `made` is shown instead of most results.
     pub(crate) fn is_quiet(&self) -> bool {
         self.is_quiet
     }
 
-    /// What a word stands for: itself, where it is bound to nothing.
+    /// Returns what a word represents: itself, if it has no definition.
     pub(crate) fn meaning<'a>(&'a self, word: &'a [u8]) -> &'a [u8] {
         for binding in &self.bound {
             if binding.name.as_slice() == word {
@@ -68,7 +68,7 @@ impl Table {
         word
     }
 
-    /// Keeps what a line tells that is no call.
+    /// Stores the definition of a line that is no call.
     pub(crate) fn learn(&mut self, line: &[u8]) -> Result<(), NotationError> {
         if line.is_empty() || line.starts_with(b"#") {
             return Ok(());
@@ -87,21 +87,21 @@ impl Table {
         }
     }
 
-    // A new table.
+    // Starts a new table.
     fn forget(&mut self) {
         self.known.clear();
         self.bound.clear();
         self.is_quiet = false;
     }
 
-    // A later line of the same name counts in place of an earlier one.
+    // A later line of the same name replaces an earlier one.
     fn bind(&mut self, name: &[u8], text: &[u8]) -> Result<(), NotationError> {
         self.expect_value(text)?;
         let binding = binding_of(self.alloc, name, text)?;
         Ok(self.bound.insert(0, binding)?)
     }
 
-    /// A text that stands for a value has to be read as one.
+    /// A text that represents a value has to be readable as one.
     fn expect_value(&self, text: &[u8]) -> Result<(), NotationError> {
         if text.starts_with(b"{") {
             let _tree = read_tree(self.alloc, text)?;
@@ -118,7 +118,7 @@ impl Table {
         Ok(self.put(inverse)?)
     }
 
-    // A later primitive of the same label counts in place of an earlier one.
+    // A later primitive of the same label replaces an earlier one.
     fn put(&mut self, p: Named) -> Result<(), AllocFailed<Named>> {
         for known in self.known.iter_mut() {
             if known.label() == p.label() {

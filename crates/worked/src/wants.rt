@@ -1,11 +1,11 @@
-//! Refused memory: how many entries wanted it, and which allocation is refused.
+//! Refused allocations: how many entries ran out of memory, and which allocation is refused.
 use crate::words::number_of;
 use std::alloc::{AllocError, Global};
 use std::env::{Env, FillError};
 use std::io;
 use std::io::{ErrorKind, Write};
 
-/// How many lines have wanted memory. Only one allocation is refused, so only one may.
+/// How many lines have run out of memory. Only one allocation is refused, so only one line may.
 #[derive(Clone, Copy)]
 pub(crate) struct Wants {
     count: u32,
@@ -16,12 +16,12 @@ impl Wants {
         Wants { count: 0 }
     }
 
-    /// A line has wanted memory.
+    /// Counts a line that has run out of memory.
     pub(crate) fn note(&mut self) {
         self.count = self.count.saturating_add(1);
     }
 
-    /// The exit status that tells of them.
+    /// Returns the exit status for them.
     pub(crate) fn status(self) -> u8 {
         match self.count {
             0 => 0,
@@ -31,8 +31,8 @@ impl Wants {
     }
 }
 
-/// Makes, and lets go, so many allocations that the refused one, of the number that the second argument
-/// tells, is of the number that the first one tells. Without a second argument it makes none.
+/// Makes and frees so many allocations that the refused one, whose number is the second argument, is the one
+/// of the table with the number of the first argument. Without a second argument it makes none.
 pub(crate) fn allocate_before(rt: &impl Env, alloc: Global) -> io::Result<()> {
     match (number_at(rt, 1)?, number_at(rt, 2)?) {
         (Some(number), Some(refused)) => {
@@ -42,8 +42,8 @@ pub(crate) fn allocate_before(rt: &impl Env, alloc: Global) -> io::Result<()> {
     }
 }
 
-/// Tells behind the lines how many allocations are made before one is refused, of as many as the first
-/// argument tells, where there is no second one.
+/// Prints after the lines how many allocations are made before one is refused, at most as many as the first
+/// argument says, if there is no second one.
 pub(crate) fn tell_room<W: Write>(rt: &impl Env, alloc: Global, out: &mut W) -> io::Result<()> {
     match (number_at(rt, 1)?, number_at(rt, 2)?) {
         (Some(most), None) => writeln!(out, "room {}", room(alloc, most)),
@@ -60,7 +60,7 @@ fn room(alloc: Global, most: u32) -> u32 {
     most
 }
 
-/// The number that an argument tells, where there is one.
+/// Parses an argument as a number, if there is one.
 fn number_at(rt: &impl Env, at: usize) -> io::Result<Option<u32>> {
     let mut digits = [0; 10];
     match rt.arg(at, &mut digits) {
@@ -80,8 +80,8 @@ fn allocate_each(alloc: Global, count: u32) -> Result<(), AllocError> {
     Ok(())
 }
 
-/// One allocation after the last line. If this one is refused, the refused number lies beyond the
-/// table: all allocations of the table were tried.
+/// Makes one allocation after the last line. If this one is refused, the refused number is past the table:
+/// all allocations of the table were tried.
 pub(crate) fn allocate(alloc: Global) -> Result<(), AllocError> {
     Box::new(alloc, 0)?;
     Ok(())

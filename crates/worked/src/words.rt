@@ -4,7 +4,7 @@ use std::alloc::{AllocError, Global};
 use std::fmt::Display;
 use std::str;
 
-/// The first word of a line, and what stands behind it.
+/// Splits a line into its first word and the rest.
 pub(crate) fn split_word(line: &[u8]) -> (&[u8], &[u8]) {
     match line.split_once_str(b" ") {
         Some((word, rest)) => (word, rest),
@@ -12,7 +12,7 @@ pub(crate) fn split_word(line: &[u8]) -> (&[u8], &[u8]) {
     }
 }
 
-/// The number that a word tells.
+/// Parses a word as a number.
 pub(crate) fn number_of(word: &[u8]) -> Option<u32> {
     match str::from_utf8(word) {
         Ok(digits) => digits.parse::<u32>().ok(),
@@ -20,7 +20,7 @@ pub(crate) fn number_of(word: &[u8]) -> Option<u32> {
     }
 }
 
-/// What a word stands for, where it is one of these.
+/// Returns what a word represents, if it is one of these.
 pub(crate) fn meaning_of<T: Copy>(words: &[(&str, T)], word: &[u8]) -> Option<T> {
     for (known, meaning) in words {
         if known.as_bytes() == word {
@@ -30,12 +30,12 @@ pub(crate) fn meaning_of<T: Copy>(words: &[(&str, T)], word: &[u8]) -> Option<T>
     None
 }
 
-/// The words that a value is shown in.
+/// Returns the words in which a value is shown.
 pub(crate) fn words_of<T: Display>(alloc: Global, value: &T) -> Result<String, AllocError> {
     format!(in alloc; "{value}")
 }
 
-/// Lines as one text.
+/// Joins lines to one text.
 pub(crate) fn joined(alloc: Global, lines: &[&[u8]]) -> Result<Vec<u8>, AllocError> {
     let mut text = Vec::new(alloc);
     for line in lines {

@@ -1,4 +1,4 @@
--- The commit of a patch: where it stands, and its changes, which lie at some paths.
+-- The commit of a patch: its place in the history, and its changes at some paths.
 use Rattle.std.specs.Prelude.{◌≡◌, ℕ, zero, suc, not, ◌&&◌, if◌then◌else◌, List, [], ◌∷◌, ◌++◌, map, Option, None, Some}
 use Rattle.std.specs.Ordering.{nat_cmp}
 use Rattle.std.specs.Cmp.Lexicographic.{slice_cmp}
@@ -10,7 +10,7 @@ use Rattle.camp_git.specs.FastImport.{Commit, FileChange, FileDelete, FileModify
 use Rattle.camp_git.specs.Exports.{content_of, reference_of}
 use Rattle.camp_git.specs.declared.commits.Place.{Place}
 
--- the mark that a commit tells as the one that it is from: 0 stands for none
+-- the mark of the parent; 0 if there is none
 abbrev pub from_of : ℕ → Option ℕ
 from_of zero = None
 from_of (suc mark) = Some (suc mark)
@@ -25,21 +25,22 @@ commit_at place changes = record {
   changes = changes;
 }
 
--- the file of a path goes, where one tree has it and the next has not
+-- the file of a path is deleted if one tree has it and the next does not
 abbrev pub deletion_of : Files → Files → List ℕ → List FileChange
 deletion_of old new path =
     if contains_key old path && not (contains_key new path) then FileDelete path ∷ [] else []
 
--- a file gets these lines, where there are any
+-- a file gets these lines, if there are any
 abbrev pub modified_to : List ℕ → Option Lines → List FileChange
 modified_to path None = []
 modified_to path (Some lines) = FileModify path (content_of lines) ∷ []
 
--- the file of a path gets the lines that it has in a tree, where it is there
+-- the file of a path gets the lines that it has in a tree, if it exists there
 abbrev pub modification_of : Files → List ℕ → List FileChange
 modification_of new path = modified_to path (get new path)
 
--- what makes one tree of another that is the same but at some paths: first files go, then others get their lines
+-- the changes from one tree to another that differs only at some paths: files are deleted first, then others get
+-- their lines
 abbrev pub changes_of : Files → Files → List (List ℕ) → List FileChange
 changes_of old new paths = flat_map (deletion_of old new) paths ++ flat_map (modification_of new) paths
 

@@ -1,4 +1,4 @@
--- Where a path stands among the files of a tree, and which files lie around it.
+-- The index of a path among the files of a tree, and the files in its folder.
 use Rattle.std.specs.Prelude.{◌≡◌, ℕ, ◌<◌, ◌≤◌, true, false, List, Some, length, slice_get, take}
 use Rattle.std.specs.Ordering.{nat_cmp}
 use Rattle.std.specs.Cmp.Lexicographic.{slice_cmp}
@@ -8,7 +8,7 @@ use Rattle.camp_base.specs.Trees.{Files, Lines}
 use Rattle.camp_git.specs.FastImport.{is_inside}
 use Rattle.camp_git.specs.Holding.{has_git_part}
 
--- the files before a place have paths before these bytes, and the file at the place has not
+-- the files before an index have paths less than these bytes, and the file at the index does not
 pub record IsPlaceOf (tree : Files) (bytes : List ℕ) (place : ℕ) : Type 0 where
   pub within : place ≤ len tree
   pub before : (k : ℕ) (file : List ℕ × Lines) → k < place → slice_get (entries tree) k ≡ Some file → slice_cmp nat_cmp file.0 bytes ≡ Less
@@ -19,7 +19,7 @@ abbrev pub IsBeginning : Files → List ℕ → Type 0
 IsBeginning tree bytes =
     (other : List ℕ) × (contains_key tree other ≡ true) × (take (length bytes) other ≡ bytes)
 
--- a file lies in the folder of a path
+-- a file is in the folder of a path
 abbrev pub HasInside : Files → List ℕ → Type 0
 HasInside tree path = (other : List ℕ) × (contains_key tree other ≡ true) × (is_inside path other ≡ true)
 
@@ -31,13 +31,13 @@ IsAround tree path file = (contains_key tree file ≡ true) × (is_inside file p
 abbrev pub IsNoneAround : Files → List ℕ → Type 0
 IsNoneAround tree path = (file : List ℕ) → contains_key tree file ≡ true → is_inside file path ≡ false
 
--- a path has no part `.git`, no file lies in its folder, and it lies in the folder of none
+-- a path has no part `.git`, no file is in its folder, and it is in the folder of none
 pub record IsFree (tree : Files) (path : List ℕ) : Type 0 where
   pub plain : has_git_part path ≡ false
   pub empty : ¬ (HasInside tree path)
   pub alone : IsNoneAround tree path
 
--- the same of a path whose file is new
+-- the same for a path whose file is new
 abbrev pub IsFreeIfNew : Files → Files → List ℕ → Type 0
 IsFreeIfNew old new path =
     contains_key old path ≡ false → contains_key new path ≡ true → IsFree new path

@@ -1,4 +1,4 @@
--- Which catches are of one patch, and which paths a patch leaves as they are.
+-- The catches of one patch, and the paths that a patch leaves unchanged.
 use Rattle.std.specs.Prelude.{◌≡◌, ◌==◌, ℕ, zero, suc, false, List, [], ◌∷◌, if◌then◌else◌}
 use Rattle.std.specs.Ordering.{nat_cmp}
 use Rattle.std.specs.Cmp.Lexicographic.{slice_cmp}
@@ -7,7 +7,7 @@ use Rattle.camp_share.specs.Maps.{map_of}
 use Rattle.camp_base.specs.Trees.{Files}
 use Rattle.camp_prim.specs.declared.labels.Key.{Key}
 
--- how many labels stand before the first whose place is 1
+-- the number of labels before the first whose place is 1
 abbrev pub led_by : List Key → ℕ
 led_by [] = zero
 led_by (key ∷ keys) = if key.place == 1 then zero else suc (led_by keys)

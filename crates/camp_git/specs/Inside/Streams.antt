@@ -1,4 +1,4 @@
--- How the stream of a branch grows, commit by commit, and how it ends where git can't hold a tree.
+-- How the stream of a branch grows, commit by commit, and how it ends if git can't hold a tree.
 use Rattle.std.specs.Prelude.{◌≡◌, ℕ, true, List, Result, Ok, Err, Vec}
 use Rattle.std.specs.declared.alloc.Global.{Global}
 use Rattle.std.specs.FinMap.{contains_key}
@@ -18,7 +18,7 @@ AddsCommit place old new before after =
     (changes : List FileChange) × IsWritten before (commit_at place changes) after
     × CanHold new × ((git : GitTree) → Shows git old → Shows (changed_by git changes) new)
 
--- an end that is good, or that says that git can't hold a tree for this file, or that memory ran out
+-- the stream ended well, or with the file because of which git can't hold a tree, or because memory ran out
 abbrev pub EndsIn : {A : Type 0} → (A → Type 0) → List ℕ → Files → Result A Unexported → Type 0
 EndsIn Good name tree (Ok done) = Good done
 EndsIn Good name tree (Err (Unheld patch path)) =

@@ -1,4 +1,4 @@
--- The catches of a branch that stand behind those of the patches that another one has too.
+-- The catches of a branch that come after those of the patches that another one has too.
 use Rattle.std.specs.Prelude.{◌≡◌, ◌⊎◌, ℕ, List}
 use Rattle.camp_catch.specs.Arranging.{Arrange}
 use Rattle.camp_catch.specs.declared.catches.Catch.{Catch}
@@ -8,11 +8,11 @@ use Rattle.camp_questions.specs.Along.{HaveDiverged}
 use Rattle.camp_questions.specs.declared.faults.Unanswered.{Unanswered}
 use Rattle.camp_questions.specs.declared.faults.Unanswered.TheVariants.{Refused, Memory}
 
--- these catches of a branch stand behind the patches that both have
+-- these catches of a branch come after those of the common patches
 abbrev pub StandBehind : List Catch → List Catch → List Catch → Type 0
 StandBehind from to behind = (common : List Catch) × Arrange (common_names from to) from common behind
 
--- why they don't: the branches have diverged, or memory ran out
+-- why there are none: the branches have diverged, or memory ran out
 abbrev pub DoNotStand : List Catch → List Catch → Unanswered → Type 0
 DoNotStand from to why =
     ((name : List ℕ) × HaveDiverged from to name × (why ≡ Refused (Diverged name))) ⊎ (why ≡ Memory)

@@ -1,4 +1,4 @@
--- Lists of catches by the patches that they are of.
+-- Lists of catches grouped by patch.
 use Rattle.std.specs.Prelude.{◌≡◌, ℕ, zero, suc, ◌==◌, false, cond, List, [], ◌∷◌, map, bytes_eq}
 use Rattle.std.specs.List.{AllByRecursion, flat_map}
 use Rattle.camp_catch.specs.Catches.{catch_key}
@@ -22,18 +22,18 @@ names_in_order patches = map (λ (patch : PatchCatches). patch.name) patches
 abbrev pub catches_in_order : List PatchCatches → List Catch
 catches_in_order patches = flat_map (λ (patch : PatchCatches). patch.catches.items) patches
 
--- each patch has catches of its own name, and no two patches have one name
+-- each patch has catches of its own name, and no two patches have the same name
 pub record ArePatches (patches : List PatchCatches) : Type 0 where
   pub own : AllByRecursion (λ (patch : PatchCatches). AreOfPatch patch.name patch.catches.items) patches
   pub distinct : AreDistinct (names_in_order patches)
 
--- the patches that a list of catches is of
+-- the patches to which the catches of a list belong
 pub record ArePatchesOf (list : List Catch) (patches : List PatchCatches) : Type 0 where
   pub are : ArePatches patches
   pub catches : catches_in_order patches ≡ list
   pub names : names_in_order patches ≡ names_of list
 
--- how many catches stand before the one with which the next patch begins
+-- the number of catches before the first one of the next patch
 abbrev pub until_next : List Catch → ℕ
 until_next [] = zero
 until_next (k ∷ list) = cond ((catch_key k).place == 1) zero (suc (until_next list))

@@ -1,33 +1,33 @@
--- Patches by their places in a branch.
+-- Patches by their index in a branch.
 use Rattle.std.specs.Prelude.{◌≡◌, ℕ, zero, suc, ◌+◌, ◌==◌, ◌<◌, ◌≤◌, Bool, true, false, not, ◌&&◌, ◌⊎◌, List, [], ◌∷◌, ◌++◌, filter, length, get_or}
 use Rattle.std.specs.List.{AllByRecursion}
 use Rattle.camp_questions.specs.Graphs.{Needing, needs_directly}
 use Rattle.camp_questions.specs.declared.graphs.Node.{Node}
 use Rattle.camp_questions.specs.declared.needed.Needed.{Needed}
 
--- the places of so many patches
+-- the indexes of `n` patches
 abbrev pub up_to : ℕ → List ℕ
 up_to zero = []
 up_to (suc n) = up_to n ++ n ∷ []
 
--- the name at a place
+-- the name at an index
 abbrev pub name_at : List (List ℕ) → ℕ → List ℕ
 name_at names place = get_or names place []
 
--- whether the patch at a place, with these marks, needs the one at another place
+-- the patch at an index, with these marks, depends on the one at another index
 abbrev pub needs_place : List Bool → ℕ → ℕ → Bool
 needs_place marks at place = not (place == at) && get_or marks place false
 
--- the marks of each patch end at its own place
+-- the marks of each patch end at its own index
 abbrev pub EndInPlace : List Needed → Type 0
 EndInPlace all = (k : ℕ) (d : Needed) → k < length all → length (get_or all k d).needs.items ≤ k + 1
 
--- before a place no patch has a mark at one of some places: it is the first place of all, or marks end in their places
--- and none of these is before it
+-- no patch before the index `settled` has a mark at one of these indexes: `settled` is 0, or the marks of each patch
+-- end at its own index and none of these is less than `settled`
 abbrev pub AreSettled : Bool → List ℕ → ℕ → Type 0
 AreSettled in_place places settled =
     (settled ≡ 0) ⊎ ((in_place ≡ true) × AllByRecursion (λ place. settled ≤ place) places)
 
--- a patch with what it needs directly, in a branch whose patches have these names
+-- a patch with its direct dependencies, in a branch whose patches have these names
 abbrev pub node_in : List (List ℕ) → List Needing → Needing → Node
 node_in names all patch = record { name = patch.name; needs = filter (needs_directly all patch) names }

@@ -1,4 +1,4 @@
--- The files that catches change, told apart by small numbers.
+-- The files that catches change, as small hash numbers of their paths.
 use Rattle.std.specs.Prelude.{◌≡◌, ℕ, ◌+◌, ◌*◌, ◌%◌, ◌==◌, Bool, true, false, ◌||◌, List, [], ◌∷◌, map, length, get_or}
 use Rattle.std.specs.List.{AllByRecursion, list_any}
 use Rattle.camp_prim.specs.Effect.{InRange}
@@ -9,25 +9,25 @@ use Rattle.camp_questions.specs.declared.fast.changed_files.PatchFiles.{PatchFil
 use Rattle.camp_questions.specs.declared.fast.going.Going.{Going}
 use Rattle.camp_questions.specs.declared.fast.patch_catches.PatchCatches.{PatchCatches}
 
--- how many numbers there are
+-- the number of different hash numbers
 abbrev pub how_many : ℕ
 how_many = 4_093
 
--- the number of bytes behind others that have a number
+-- the hash number of bytes that are appended to others with this one
 abbrev pub number_behind : ℕ → List ℕ → ℕ
 number_behind number [] = number
 number_behind number (byte ∷ bytes) = number_behind ((number * 31 + byte) % how_many) bytes
 
--- the number of the file of a path: files of several paths may have one, and those of one path have
+-- the hash number of a path: several paths may have the same one
 abbrev pub file_number : List ℕ → ℕ
 file_number path = number_behind 0 path
 
--- the number of the file that a plain catch changes
+-- the hash number of the file that a plain catch changes
 abbrev pub number_of : Catch → ℕ
 number_of (Plain p) = file_number (path_of p.prim)
 number_of (Catch.Conflictor k) = 0
 
--- of each patch the numbers of the files that its catches change
+-- for each patch the hash numbers of the files that its catches change
 abbrev pub AreFilesOf : List PatchCatches → List PatchFiles → Type 0
 AreFilesOf patches files =
     map (λ (files : PatchFiles). files.numbers.items) files
@@ -38,16 +38,16 @@ abbrev pub IsPlainInRange : Catch → Type 0
 IsPlainInRange (Plain p) = InRange p.prim
 IsPlainInRange (Catch.Conflictor k) = ⊥
 
--- a patch has plain catches in range, and these are the numbers of the files that they change
+-- a patch has plain catches in range, and these are the hash numbers of the files that they change
 pub record HasFiles (patch : PatchCatches) (files : PatchFiles) : Type 0 where
   pub plain : AllByRecursion IsPlainInRange patch.catches.items
   pub numbers : files.numbers.items ≡ map number_of patch.catches.items
 
--- whether a number is marked
+-- a number is marked
 abbrev pub is_marked : List Bool → ℕ → Bool
 is_marked marks number = get_or marks number false
 
--- marked are these numbers, and what was marked before
+-- these numbers are marked, and those that were marked before
 abbrev pub AreMarkedToo : List Bool → List ℕ → List Bool → Type 0
 AreMarkedToo old numbers new =
     (number : ℕ) → is_marked new number ≡ (is_marked old number || list_any (λ other. number == other) numbers)

@@ -1,4 +1,4 @@
--- The state that a call led to.
+-- The state after a call.
 use Rattle.std.specs.Prelude.{◌≡◌}
 use Rattle.camp_call.specs.declared.calls.Call.{Call}
 use Rattle.camp_object.specs.declared.objects.Decided.TheVariants.{Next}
@@ -6,7 +6,7 @@ use Rattle.camp_repo.specs.Lawful.{IsLawfulState}
 use Rattle.camp_repo.specs.States.{Contents}
 use Rattle.camp_repo.specs.Steps.{step}
 
--- a call led to a state, from a lawful one
+-- a call led to this state, from a lawful one
 pub record LedTo (call : Call) (next : Contents) : Type 0 where
   pub state : Contents
   pub lawful : IsLawfulState state

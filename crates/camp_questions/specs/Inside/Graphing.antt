@@ -1,4 +1,4 @@
--- What patches need, marked by places in a branch.
+-- The dependencies of patches, as marks by their index in a branch.
 use Rattle.std.specs.Prelude.{◌≡◌, ◌<◌, ℕ, ◌+◌, Bool, true, false, ◌||◌, cond, List, [], ◌∷◌, map, length, get_or, reverse}
 use Rattle.std.specs.List.{AllByRecursion}
 use Rattle.camp_prim.specs.declared.named.Named.{Named}
@@ -12,28 +12,28 @@ use Rattle.camp_questions.specs.declared.needed.Needed.{Needed}
 use Rattle.camp_questions.specs.declared.fast.patch_catches.PatchCatches.{PatchCatches}
 use Rattle.camp_questions.specs.Inside.ByPatch.{ArePatches, catches_in_order, names_in_order}
 
--- the names at the places that are marked; behind the last mark none is
+-- the names at the marked indexes; an index past the last mark is not marked
 abbrev pub marked : List (List ℕ) → List Bool → List (List ℕ)
 marked [] marks = []
 marked (name ∷ names) [] = []
 marked (name ∷ names) (mark ∷ marks) = cond mark (name ∷ marked names marks) (marked names marks)
 
--- the places that are marked in one list or in the other, which is no longer
+-- the indexes that are marked in one list or in the other, which is no longer
 abbrev pub marked_in_both : List Bool → List Bool → List Bool
 marked_in_both [] more = []
 marked_in_both (mark ∷ marks) [] = mark ∷ marks
 marked_in_both (mark ∷ marks) (other ∷ more) = (mark || other) ∷ marked_in_both marks more
 
--- a patch with what it needs as a list, in a branch whose patches have these names
+-- a patch with its dependencies as a list, in a branch whose patches have these names
 abbrev pub needing : List (List ℕ) → Needed → Needing
 needing names patch = record { name = patch.name; needs = marked names patch.needs.items }
 
--- the patches of these names, with what they need in a branch
+-- the patches of these names, with their dependencies in a branch
 pub record NeedEach (branch : List Catch) (names : List (List ℕ)) (all : List Needed) : Type 0 where
   pub names_are : map (λ (patch : Needed). patch.name) all ≡ names
   pub needs : AllByRecursion (λ patch. NeedsThese branch (needing names patch)) all
 
--- a branch of plain catches with room, by its patches with their catches inverted
+-- a branch of plain catches with headroom, as its patches with their catches inverted
 pub record IsInverted (branch : List Catch) (patches : List PatchCatches) : Type 0 where
   pub forth : List Named
   pub plain : branch ≡ map Plain forth
@@ -43,17 +43,17 @@ pub record IsInverted (branch : List Catch) (patches : List PatchCatches) : Type
   pub names : names_in_order patches ≡ names_of branch
   pub inverses : catches_in_order (reverse patches) ≡ map Plain (inverse_all forth)
 
--- it is known what each of the first patches needs: each is marked up to its own place
+-- the dependencies of each of the first patches are known, as marks up to its own index
 pub record AreKnown (branch : List Catch) (names : List (List ℕ)) (known : List Needed) : Type 0 where
   pub named : (k : ℕ) (d : Needed) (n : List ℕ) → k < length known → (get_or known k d).name ≡ get_or names k n
   pub needs : (k : ℕ) (d : Needed) → k < length known → NeedsThese branch (needing names (get_or known k d))
   pub long : (k : ℕ) (d : Needed) → k < length known → length (get_or known k d).needs.items ≡ k + 1
 
--- these are the marks of what the patch at a place needs, up to its own place
+-- these are the marks of the dependencies of the patch at an index, up to its own index
 pub record AreReached (branch : List Catch) (names : List (List ℕ)) (place : ℕ) (marks : List Bool) : Type 0 where
   pub long : length marks ≡ place + 1
   pub needs : (n : List ℕ) → NeedsThese branch (record { name = get_or names place n; needs = marked names marks })
 
--- all places below one are marked
+-- all indexes below one are marked
 abbrev pub AreMarkedBelow : List Bool → ℕ → Type 0
 AreMarkedBelow marks place = (r : ℕ) → r < place → get_or marks r false ≡ true

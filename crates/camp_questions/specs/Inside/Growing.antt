@@ -1,4 +1,4 @@
--- Names that grow by what is met, as sets.
+-- Names that grow by what blocks them, as sets.
 use Rattle.std.specs.Prelude.{◌≡◌, ℕ, List, ◌++◌}
 use Rattle.camp_catch.specs.declared.catches.Catch.{Catch}
 use Rattle.camp_branch.specs.Branches.{is_among}
@@ -11,7 +11,7 @@ Grows Done Stops names grown =
     (added : List (List ℕ)) × AreAdded Done Stops names added
     × ((name : List ℕ) → is_among grown name ≡ is_among (names ++ added) name)
 
--- until they come to the front of a branch
+-- until they can be moved to the front of a branch
 abbrev pub GrowsToFront : List Catch → List (List ℕ) → List (List ℕ) → Type 0
 GrowsToFront branch = Grows (ComeToFront branch) (StickOn branch)
 

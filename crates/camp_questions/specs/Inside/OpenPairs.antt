@@ -1,4 +1,4 @@
--- The open conflicts of catches, as they come: in no order, and a pair more than once.
+-- The unresolved conflicts of catches, in no order and with duplicates.
 use Rattle.std.specs.Prelude.{ℕ, List, [], map, filter, if◌then◌else◌}
 use Rattle.std.specs.List.{flat_map}
 use Rattle.std.specs.FinMap.{keys}
@@ -9,23 +9,23 @@ use Rattle.camp_branch.specs.Branches.{name_of}
 use Rattle.camp_branch.specs.Inside.Collecting.{pair_of}
 use Rattle.camp_questions.specs.OpenConflicts.{is_open}
 
--- the pair of a name and that of a contexted patch whose label is open
+-- the pair of a name and that of a contexted patch whose label is unresolved
 abbrev pub open_with : ContextedPatches → List ℕ → ContextedPatch → List (List ℕ × List ℕ)
 open_with seen name x = if is_open seen (context_key x) then pair_of name x.patch.name else []
 
--- the names of the patches in a set whose labels are open
+-- the names of the patches in a set whose labels are unresolved
 abbrev pub open_within : ContextedPatches → ContextedPatches → List (List ℕ)
 open_within seen xs = map (λ key. key.name) (filter (is_open seen) (keys xs))
 
--- the names of the patches with which a catch is in an open conflict
+-- the names of the patches with which a catch is in an unresolved conflict
 abbrev pub open_against : ContextedPatches → Catch → List (List ℕ)
 open_against seen (Plain a) = []
 open_against seen (Catch.Conflictor k) = if is_open seen (context_key k.identity) then open_within seen k.conflicts else []
 
--- the open conflicts of a catch
+-- the unresolved conflicts of a catch
 abbrev pub open_at : ContextedPatches → Catch → List (List ℕ × List ℕ)
 open_at seen k = flat_map (pair_of (name_of k)) (open_against seen k)
 
--- the open conflicts of catches
+-- the unresolved conflicts of catches
 abbrev pub open_in : ContextedPatches → List Catch → List (List ℕ × List ℕ)
 open_in seen branch = flat_map (open_at seen) branch

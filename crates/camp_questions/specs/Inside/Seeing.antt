@@ -1,4 +1,4 @@
--- How labels in conflict are gathered, from the last catch of a branch to the first.
+-- Gathers the labels in conflict, from the last catch of a branch to the first.
 use Rattle.std.specs.Prelude.{◌≡◌, ℕ, Bool, true, false, List, [], ◌∷◌, Option, None, Some, bytes_eq, if◌then◌else◌}
 use Rattle.std.specs.FinMap.{get}
 use Rattle.std.specs.Ordering.{eq_by_cmp}
@@ -14,25 +14,25 @@ abbrev pub first_with : Key → List ContextedPatch → Option ContextedPatch
 first_with key [] = None
 first_with key (x ∷ xs) = if eq_by_cmp key_cmp key (context_key x) then Some x else first_with key xs
 
--- what is seen of a label where a list is put before what is told of it
+-- the contexted patch of a label after a list was added before it
 abbrev pub SeenBehind : List Named → Option ContextedPatch → Option ContextedPatch → Type 0
 SeenBehind undone None seen = seen ≡ None
 SeenBehind undone (Some x) seen = (y : ContextedPatch) × AddsAll undone x y × (seen ≡ Some y)
 
--- what is seen of a label where more is told of it: what was seen stays
+-- the contexted patch of a label after one more catch: one that was there stays
 abbrev pub SeenToo : List Named → Option ContextedPatch → Option ContextedPatch → Option ContextedPatch → Type 0
 SeenToo undone None told seen = SeenBehind undone told seen
 SeenToo undone (Some x) told seen = seen ≡ Some x
 
--- of each label what some contexted patches tell is seen too
+-- the contexted patches of a list are also gathered, each under its label
 abbrev pub AllSeenToo : List Named → List ContextedPatch → ContextedPatches → ContextedPatches → Type 0
 AllSeenToo undone told was seen = (key : Key) → SeenToo undone (get was key) (first_with key told) (get seen key)
 
--- a contexted patch comes behind changes, or they stay
+-- a contexted patch is appended to changes, or they stay
 abbrev pub ComesIf : Bool → List Named → ContextedPatch → List Named → Type 0
 ComesIf true changes x next = ComesBehind changes x next
 ComesIf false changes x next = next ≡ changes
 
--- it comes where it is of a name
+-- it is appended if it is of the given name
 abbrev pub ComesIfNamed : List Named → List ℕ → ContextedPatch → List Named → Type 0
 ComesIfNamed changes name x next = ComesIf (bytes_eq name x.patch.name) changes x next

@@ -1,4 +1,4 @@
--- Plain patches, taken back.
+-- Plain patches, inverted.
 use Rattle.std.specs.Prelude.{◌≡◌, List, map}
 use Rattle.camp_prim.specs.declared.named.Named.{Named}
 use Rattle.camp_seq.specs.Room.{HasRoom}
@@ -12,7 +12,7 @@ pub record AreInverses (list back : List Catch) : Type 0 where
   pub plain : list ≡ map Plain forth
   pub inverses : back ≡ map Plain (inverse_all forth)
 
--- both ways, primitives have room
+-- primitives and their inverses have headroom
 pub record HaveRoom (list : List Catch) : Type 0 where
   pub forth : List Named
   pub plain : list ≡ map Plain forth

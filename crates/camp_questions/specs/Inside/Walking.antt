@@ -1,4 +1,4 @@
--- What is known on a walk along effects, and where they may go on.
+-- The state of an annotation along effects, and the effects to which it applies.
 use Rattle.std.specs.Prelude.{◌≡◌, ◌≤◌, ℕ, ◌+◌, ◌-◌, List, [], length, Option, None, Some}
 use Rattle.std.specs.BTreeMap.{BTreeMap}
 use Rattle.std.specs.FinMap.{FinMap, from_entries, get}
@@ -13,19 +13,19 @@ use Rattle.camp_seq.specs.Running.{AppliesAll}
 use Rattle.camp_questions.specs.Annotations.{Known}
 use Rattle.camp_questions.specs.declared.walks.Walk.{Walk}
 
--- the names that are kept under the absolute labels of hunks
+-- the names stored under the absolute labels of hunks
 abbrev pub kept_in : BTreeMap Key (List (List ℕ)) → FinMap key_cmp (List (List ℕ))
 kept_in taken = from_entries taken.entries
 
--- what is known on a walk
+-- the state of an annotation
 abbrev pub known_in : Walk → Known
 known_in walk = record { names = walk.names; taken = kept_in walk.taken }
 
--- the lines that a hunk takes away are among those that are known
+-- the lines that a hunk removes are among those with names
 abbrev pub StandsWithin : Edit → Known → Type 0
 StandsWithin hunk known = hunk.line - 1 + length hunk.old ≤ length known.names
 
--- the lines of a path: none where it has no file
+-- the lines of a path: none if it has no file
 abbrev pub lines_or_none : Option Lines → Lines
 lines_or_none None = []
 lines_or_none (Some lines) = lines
@@ -34,11 +34,11 @@ lines_or_none (Some lines) = lines
 abbrev pub AreKnownIn : List ℕ → Files → Known → Type 0
 AreKnownIn path tree known = length known.names ≡ length (lines_or_none (get tree path))
 
--- a primitive applies to a tree of which the names are known
+-- a primitive applies to a tree whose lines have names
 abbrev pub AppliesOn : List ℕ → Primitive → Known → Type 0
 AppliesOn path p known = (old : Files) × (new : Files) × Applies p old new × AreKnownIn path old known
 
--- an effect applies to a tree of which the names are known
+-- an effect applies to a tree whose lines have names
 abbrev pub FollowsOn : List ℕ → List Named → Known → Type 0
 FollowsOn path effect known =
     (old : Files) × (new : Files) × AppliesAll effect old new × AreKnownIn path old known

@@ -1,4 +1,4 @@
-//! The files that catches change, told apart by small numbers: those of one path have one number.
+//! The files that catches change, as small hash numbers of their paths.
 ghost use Rattle.std.specs.Prelude.{◌≡◌, ◌<◌, map, length, IfOk};
 ghost use Rattle.std.specs.List.{AllByRecursion, list_any};
 ghost use Rattle.camp_questions.specs.Inside.ChangedFiles.{AreFilesOf, AreMarkedToo, file_number, is_marked, number_of};
@@ -9,16 +9,17 @@ use camp_catch::Catch;
 use camp_share::Shared;
 use std::alloc::{AllocError, Global};
 
-/// How many numbers there are. Files that share one are taken for one file, which costs a closer look.
+/// The number of different hash numbers. Two files with the same number count as one, which only costs a
+/// slower check.
 pub(crate) const NUMBERS: usize = 4093;
 
-/// The files that a patch changes, by their numbers: one for each of its catches.
+/// The files that a patch changes: the hash number of one for each of its catches.
 #[derive(Drop)]
 pub(crate) struct PatchFiles {
     pub numbers: Vec<usize>,
 }
 
-/// The files that each of some patches changes.
+/// Returns the files that each of some patches changes.
 pub(crate) fn files_of(
     alloc: Global,
     patches: &[PatchCatches],
@@ -43,7 +44,7 @@ fn numbers_of(alloc: Global, catches: &[Shared<Catch>]) -> Result<Vec<usize>, Al
     Ok(numbers)
 }
 
-/// The number of the file that a plain catch changes.
+/// Returns the hash number of the file that a plain catch changes.
 fn number_of(catch: &Catch) -> usize
     ensures { result ≡ number_of catch.now }
 {
@@ -53,7 +54,7 @@ fn number_of(catch: &Catch) -> usize
     }
 }
 
-/// The number of the file of a path.
+/// Returns the hash number of a path.
 fn file_number(path: &Path) -> usize
     ensures { result ≡ file_number path.now }
 {
@@ -65,7 +66,7 @@ fn file_number(path: &Path) -> usize
     number
 }
 
-/// Whether one of these numbers is marked.
+/// True if one of these numbers is marked.
 pub(crate) fn is_any_marked(marks: &[bool], numbers: &[usize]) -> bool
     ensures { result ≡ list_any (is_marked marks.now) numbers.now }
 {
@@ -78,7 +79,7 @@ fn is_marked(marks: &[bool], number: usize) -> bool
     number < marks.len() && marks[number]
 }
 
-/// Marks these numbers, too.
+/// Marks these numbers too.
 pub(crate) fn mark_numbers(marks: &mut [bool], numbers: &[usize])
     requires { AllByRecursion (λ number. number < length marks.old) numbers.now }
     ensures { AreMarkedToo marks.old numbers.now marks.new }

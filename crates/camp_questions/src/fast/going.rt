@@ -11,14 +11,14 @@ use camp_catch::Catch;
 use camp_share::Shared;
 use std::alloc::{AllocError, Global};
 
-/// Plain catches that go, and the files that they change: whether each number is that of one.
+/// Plain catches that go, and the files that they change: for each hash number, whether one of them has it.
 #[derive(Drop)]
 pub(crate) struct Going {
     pub catches: Vec<Shared<Catch>>,
     pub files: Vec<bool>,
 }
 
-/// The catches of a patch, which go.
+/// Starts with the catches of a patch.
 pub(crate) fn going_first(
     alloc: Global,
     patch: &PatchCatches,
@@ -36,7 +36,7 @@ pub(crate) fn going_first(
     Ok(going)
 }
 
-/// The catches of a patch go too.
+/// Adds the catches of a patch.
 pub(crate) fn go_too(
     going: &mut Going,
     patch: &PatchCatches,
@@ -52,8 +52,9 @@ pub(crate) fn go_too(
     Ok(())
 }
 
-/// Whether a patch, which stands behind catches that go, comes before all of them. They are then as that
-/// leaves them, and else as they were. A patch that changes no file of theirs is passed at a look.
+/// Moves a patch, which comes after catches that go, in front of all of them; true if it can be moved. The
+/// catches that go are then what they become, else unchanged. A patch that changes none of their files is
+/// moved without a commute.
 pub(crate) fn comes_before(
     alloc: Global,
     going: &mut Going,

@@ -1,4 +1,4 @@
-//! The catches of a list, patch by patch.
+//! The catches of a list, grouped by patch.
 ghost use Rattle.std.specs.Prelude.{◌≡◌, ◌<◌, ◌≤◌, ◌+◌, ◌++◌, List, length, drop, IfOk, OnOk};
 ghost use Rattle.camp_branch.specs.Branches.{HasPatches, Patch};
 ghost use Rattle.camp_questions.specs.Inside.ByPatch.{ArePatchesOf, until_next};
@@ -8,14 +8,14 @@ use camp_catch::Catch;
 use camp_share::{Share, Shared};
 use std::alloc::{AllocError, Global};
 
-/// A patch with its catches, as they stand in a list.
+/// A patch with its catches, as they are in a list.
 #[derive(Drop)]
 pub(crate) struct PatchCatches {
     pub name: Name,
     pub catches: Vec<Shared<Catch>>,
 }
 
-/// The patches that a list of catches is of, in its order.
+/// Groups the catches of a list by patch, in order.
 pub(crate) fn by_patch(
     alloc: Global,
     list: &[Shared<Catch>],
@@ -35,7 +35,7 @@ pub(crate) fn by_patch(
     Ok(patches)
 }
 
-/// Where the catches of the patch end whose first stands at a place.
+/// Returns the index after the last catch of the patch whose first is at `start`.
 fn end_of_patch(list: &[Shared<Catch>], start: usize) -> usize
     requires { start < length list.now }
     ensures exact { result ≡ start + 1 + until_next (drop (start + 1) list.now) }
@@ -49,7 +49,7 @@ fn end_of_patch(list: &[Shared<Catch>], start: usize) -> usize
     list.len()
 }
 
-/// A copy of a list, which shares its catches.
+/// Copies a list, which shares its catches with the copy.
 pub(crate) fn shared(
     alloc: Global,
     list: &[Shared<Catch>],
@@ -61,7 +61,7 @@ pub(crate) fn shared(
     Ok(copy)
 }
 
-/// Puts catches behind others.
+/// Appends catches to others.
 pub(crate) fn append(
     list: &mut Vec<Shared<Catch>>,
     catches: &[Shared<Catch>],

@@ -1,4 +1,4 @@
-//! What each patch needs, by a walk back from it that stops where all below are needed.
+//! The dependencies of each patch, by a walk back from it that stops once all patches below are dependencies.
 ghost use Rattle.std.specs.Prelude.{◌≡◌, ◌<◌, ◌≤◌, List, length, IfOk};
 ghost use Rattle.camp_catch.specs.declared.catches.Catch.{Catch as AnyCatch};
 ghost use Rattle.camp_questions.specs.Inside.ByPatch.{names_in_order};
@@ -11,7 +11,7 @@ use crate::fast::patch_catches::PatchCatches;
 use crate::needed::Needed;
 use std::alloc::{AllocError, Global};
 
-/// What each patch of a branch needs, where the patches are given with their catches inverted.
+/// Returns the dependencies of each patch of a branch, given the patches with their catches inverted.
 pub(crate) fn all_reached(
     alloc: Global,
     patches: &[PatchCatches],
@@ -31,8 +31,8 @@ pub(crate) fn all_reached(
     Ok(all)
 }
 
-/// What the next patch needs, where it is known what those before it need. A walk goes back from it over
-/// the patches before it, and is done where all of them are needed.
+/// Returns the dependencies of the next patch, given those of the patches before it. Walks back over the
+/// patches before it until all of them are dependencies.
 fn reached(
     alloc: Global,
     patches: &[PatchCatches],
@@ -67,7 +67,7 @@ fn reached(
     Ok(marks)
 }
 
-/// The first place from one on that is not marked, where all before it are.
+/// Returns the greatest index up to which, from `place` downwards, all are marked.
 fn first_unmarked(marks: &[bool], from: usize) -> usize
     requires { AreMarkedBelow marks.now from }
     ensures { AreMarkedBelow marks.now result }
@@ -80,7 +80,7 @@ fn first_unmarked(marks: &[bool], from: usize) -> usize
     marks.len()
 }
 
-/// Marks the places that are marked in another list, too.
+/// Also marks the indexes that are marked in another list.
 fn mark_all(marks: &mut [bool], more: &[bool])
     requires { length more.now ≤ length marks.old }
     ensures { marks.new ≡ marked_in_both marks.old more.now }

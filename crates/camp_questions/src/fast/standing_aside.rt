@@ -1,4 +1,5 @@
-//! One walk over the patches of a list: those that come before all that go stay, and the others go too.
+//! One pass over the patches of a list: those that can be moved in front of all that go stay, and the others
+//! go too.
 ghost use Rattle.std.specs.Prelude.{◌≡◌, ℕ, List, [], ◌∷◌, IfOk, IsTrue};
 ghost use Rattle.std.specs.Result.{MatchResult};
 ghost use Rattle.camp_branch.specs.Fields.{names_in};
@@ -17,8 +18,8 @@ use camp_share::Shared;
 use std::alloc::{AllocError, Global};
 use std::slice;
 
-/// The names, and those of the patches that are held by them: one after the other, each that can not
-/// come before those that go.
+/// Returns the names with their dependents: each patch that can't be moved in front of those that go is
+/// added.
 pub(crate) fn held_in(
     alloc: Global,
     patches: &[PatchCatches],
@@ -31,7 +32,7 @@ pub(crate) fn held_in(
     walk_over(alloc, patches, names, &mut going)
 }
 
-/// These names, and those of all patches that go with them. Nothing is behind which a patch has to come at first.
+/// Returns these names with those of all patches that go with them. At first nothing goes.
 fn walk_over(
     alloc: Global,
     patches: &[PatchCatches],
@@ -55,9 +56,9 @@ fn walk_over(
     Ok(held)
 }
 
-/// Whether a patch, which stands behind catches that go, comes before all of them. They are then as that
-/// leaves them, and else as they were. Where its catches stay as they are, or its neighbour stops it, it
-/// takes a look at each; else they are arranged.
+/// Moves a patch, which comes after catches that go, in front of all of them; true if it can be moved. The
+/// catches that go are then what they become, else unchanged. Two quick checks come first: its catches
+/// commute unchanged, or its neighbour blocks it; otherwise its catches are arranged.
 pub(crate) fn stand_aside(
     alloc: Global,
     going: &mut Vec<Shared<Catch>>,
@@ -83,7 +84,8 @@ pub(crate) fn stand_aside(
     }
 }
 
-/// The catches of a patch, commuted to before those that go, and those that go behind them. Blocked where they stick.
+/// Commutes the catches of a patch in front of those that go, and returns both. Blocked if one of them cannot
+/// be moved.
 fn arranged_behind(
     alloc: Global,
     going: &[Shared<Catch>],
@@ -100,7 +102,7 @@ fn arranged_behind(
     arrange(alloc, &list, &named)
 }
 
-/// Whether catches come before others, and all stay as they are. Where it says no, they may still come.
+/// True only if catches can be moved in front of others, and all stay unchanged. False decides nothing.
 fn all_stay(going: &[Shared<Catch>], catches: &[Shared<Catch>]) -> bool
     ensures { IsTrue result → AllStay going.now catches.now }
 {
@@ -123,8 +125,7 @@ fn stays(going: &[Shared<Catch>], catch: &Catch) -> bool
     true
 }
 
-/// Whether the first catch of a patch can not pass the last of those that go. Where it says no, it may
-/// still not come before all of them.
+/// True only if the first catch of a patch is blocked by the last of those that go. False decides nothing.
 fn is_stopped(going: &[Shared<Catch>], catches: &[Shared<Catch>]) -> bool
     ensures { IsTrue result → (name : List ℕ) → AreOfPatch name catches.now → StickBehind name going.now catches.now }
 {
@@ -134,7 +135,7 @@ fn is_stopped(going: &[Shared<Catch>], catches: &[Shared<Catch>]) -> bool
     never_commute(&going[going.len() - 1], &catches[0])
 }
 
-/// Whether two catches do not commute for sure.
+/// True only if two catches do not commute. False decides nothing.
 fn never_commute(first: &Catch, second: &Catch) -> bool
     ensures { IsTrue result → DoNotCommute first.now second.now }
 {
@@ -144,7 +145,7 @@ fn never_commute(first: &Catch, second: &Catch) -> bool
     }
 }
 
-/// Whether two plain catches commute as they are.
+/// True only if two plain catches commute unchanged. False decides nothing.
 fn both_stay(first: &Catch, second: &Catch) -> bool
     ensures { IsTrue result → CommuteCatch first.now second.now second.now first.now }
 {

@@ -1,4 +1,4 @@
--- What one seat knows, as the rule of the table sees it: a view is a list of such parts.
+-- What one seat knows, as the invariant of the table sees it: a view is a list of such parts.
 use Rattle.std.specs.Prelude.{◌≡◌, ℕ, List, [], slice_index_or, map, count_by, ◌==◌}
 use Rattle.std.specs.List.{range_with_len}
 use Rattle.atomic_table.specs.Seated.{TableId}
@@ -30,7 +30,7 @@ all_fresh seats per_seat = map (fresh seats per_seat) (range_with_len 0 seats)
 abbrev pub part_of : List Part → Part
 part_of parts = slice_index_or parts 0 (fresh 0 0 0)
 
--- how many parts of a list are of a seat
+-- the number of parts of a list that are of a seat
 abbrev pub parts_of : ℕ → List Part → ℕ
 parts_of number parts = count_by (λ (part : Part). part.number == number) parts
 
@@ -45,7 +45,7 @@ known_of table part = record {
   place = part.place;
 }
 
--- the part when the chain was found
+-- the part after the chain was found
 abbrev pub finds : List Entry → Part → Part
 finds chain part = record part { ahead = chain }
 

@@ -1,4 +1,4 @@
--- A pass over its fields: it is the only part of its seat of the table.
+-- A pass and its fields: it is the only part of its seat of the table.
 use Rattle.std.specs.Prelude.{◌≡◌, ◌<◌, ◌≤◌, [], ◌∷◌}
 use Rattle.camp_row.specs.Chains.{turns, head_word}
 use Rattle.camp_row.specs.Known.{Known}

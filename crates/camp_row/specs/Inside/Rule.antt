@@ -1,4 +1,4 @@
--- The rule of the row: whatever step comes next, this holds of its words and of what all seats know.
+-- The invariant of the row: it holds of its words and of what all seats know, after every step.
 use Rattle.std.specs.Prelude.{◌≡◌, ℕ, ◌+◌, ◌*◌, ◌<◌, ◌≤◌, List, ◌∷◌, ◌++◌, length, slice_index, sum_by, All}
 use mathlib.Core.Option.{some}
 use lib.ListN.{get_elem?}
@@ -7,7 +7,7 @@ use Rattle.camp_row.specs.declared.knowledge.Knowledge.{Knowledge}
 use Rattle.camp_row.specs.Chains.{IsBeginning, own, turns, cell_of, head_word, Fits}
 use Rattle.camp_row.specs.Inside.Parts.{Part, parts_of}
 
--- word 0 is the head; of a cell the first word names the cell before, and the second is the place
+-- word 0 is the head; of each cell the first word names the parent, and the second is the place
 abbrev pub parent_word : ℕ → ℕ
 parent_word cell = 1 + 2 * cell
 
@@ -19,14 +19,13 @@ pub record Holds (words : List ℕ) (cell parent place : ℕ) : Type 0 where
   pub names : slice_index words (parent_word cell) ≡ parent
   pub places : slice_index words (place_word cell) ≡ place
 
--- each cell of the chain names the one before, and has its entry's place
+-- each cell of the chain names the one before it, and has the place of its entry
 abbrev pub IsLinked : ℕ → List ℕ → List Entry → Type 0
 IsLinked seats words chain =
     (before : List Entry) (entry : Entry) (after : List Entry) → before ++ entry ∷ after ≡ chain
     → Holds words (cell_of seats before entry) (head_word seats before) entry.place
 
--- what the rule says of one seat: it has seen its own entries, its next cell holds its draft, and its later ones are
--- empty
+-- the invariant for one seat: it has seen its own entries, its next cell has its draft, and its later cells are empty
 pub record Knows (seats per_seat : ℕ) (words : List ℕ) (chain : List Entry) (part : Part) : Type 0 where
   pub sizes : (part.seats ≡ seats) × (part.per_seat ≡ per_seat) × (part.number < seats)
   pub seen : IsBeginning part.seen chain
@@ -39,7 +38,7 @@ pub record Knows (seats per_seat : ℕ) (words : List ℕ) (chain : List Entry) 
       (turn : ℕ) → turns part.number part.seen < turn → turn < per_seat
       → Holds words (turn * seats + part.number) 0 0
 
--- there is a chain that the head and the cells' words name, and each seat's only part knows of it
+-- the head and the cells' words name a chain, and the only part of each seat knows a prefix of it
 pub record IsRuled (seats per_seat : ℕ) (words : List ℕ) (views : List Knowledge) : Type 0 where
   pub chain : List Entry
   pub sized : length words ≡ 1 + 2 * (per_seat * seats)

@@ -1,4 +1,4 @@
--- The six kinds of atomic step: what each tells the seats that take it.
+-- The six kinds of atomic step, and what the seats learn by each.
 use Rattle.std.specs.Prelude.{◌≡◌, ℕ, ◌==◌, List, [], ◌∷◌, ◌++◌, map, take, drop, All, MatchBool, ◌≤◌}
 use Rattle.camp_row.specs.declared.entries.Entry.{Entry}
 use Rattle.camp_row.specs.declared.knowledge.Knowledge.{Knowledge}
@@ -12,14 +12,14 @@ pub record Sees (found : ℕ) (chain : List Entry) (part : Part) : Type 0 where
   pub grows : IsBeginning part.ahead chain
   pub sound : IsSoundPart (finds chain part)
 
--- a load of the head: what is ahead of each part becomes the chain. No two parts are of one seat
+-- a load of the head: the chain ahead of each part becomes known. No two parts are of one seat
 pub record Looked (found : ℕ) (old new : List Part) : Type 0 where
   pub chain : List Entry
   pub one_each : (number : ℕ) → parts_of number old ≤ 1
   pub each : All (Sees found chain) old
   pub is : new ≡ map (finds chain) old
 
--- the word of a cell that is ahead is what the chain says
+-- the word of a cell that is ahead is the one that the chain says
 abbrev pub Reads : ℕ → ℕ → Part → Type 0
 Reads word found part =
     (before : List Entry) (entry : Entry) (after : List Entry) → before ++ entry ∷ after ≡ part.ahead
@@ -48,13 +48,13 @@ StoredPlace stored old new = new ≡ (record (part_of old) { place = stored }) �
 abbrev pub drafted_part : Part → Entry
 drafted_part part = record { seat = part.number; place = part.place }
 
--- the part when the drafted cell has become the last of the chain
+-- the part after the drafted cell became the last of the chain
 abbrev pub won_part : Part → Part
 won_part part =
     let entries = part.seen ++ drafted_part part ∷ [] in
     record part { seen = entries; ahead = entries; parent = 0; place = 0 }
 
--- the chain was just what the part had seen
+-- the chain was exactly what the part had seen
 pub record WonPart (part : Part) (new : List Part) : Type 0 where
   pub whole : part.ahead ≡ part.seen
   pub is : new ≡ won_part part ∷ []
@@ -78,7 +78,7 @@ first_apart view = record { parts = take 1 view.parts }
 abbrev pub without_first : Knowledge → Knowledge
 without_first view = record { parts = drop 1 view.parts }
 
--- a join: the parts of both, those of the joined seat first; that one is spent
+-- a join: the parts of both, those of the joined seat first; the joined seat is used up
 abbrev pub joined : Knowledge → Knowledge → Knowledge
 joined view other = record { parts = other.parts ++ view.parts }
 

@@ -1,4 +1,4 @@
--- What a line asks a reader for, and what a line of a group tells it.
+-- The meaning of a line for a reader, outside groups and within.
 use Rattle.std.specs.Prelude.{◌≡◌, ◌≤◌, ◌<◌, ℕ, length, Result, Ok, Err}
 use Rattle.camp_base.specs.Limits.{most_changes}
 use Rattle.camp_prim.specs.Hunks.{Edit}
@@ -17,7 +17,7 @@ use Rattle.camp_script.specs.declared.faults.ScriptFault.{ScriptFault}
 use Rattle.camp_script.specs.declared.groups.Told.{Told}
 use Rattle.camp_script.specs.declared.groups.Told.TheVariants as told
 
--- the command that is asked for
+-- the command that the reader represents
 abbrev pub command_asked : Asked → Command
 command_asked (asked.Call new) = Ask new
 command_asked (asked.Edit branch name path line) = BeginEdit branch name path line
@@ -29,28 +29,28 @@ abbrev pub IsCounted : Asked → Type 0
 IsCounted (asked.Edit branch name path line) = 1 ≤ line
 IsCounted other = Unit {0}
 
--- an answer is what the line of a number asks for, or its fault; memory runs out only where the reader would have none
+-- the result is the meaning of a numbered line, or its fault; memory runs out only if there is no fault
 abbrev pub Asks : ℕ → Progress → Result Asked ScriptFault → Result Command LineFault → Type 0
 Asks number progress (Ok asked) reading = (reading ≡ Ok (command_asked asked)) × IsCounted asked
 Asks number progress (Err fault) reading = IsFaultFirst fault (obeyed number progress reading)
 
--- what is told of a group
+-- the meaning of a line of a group that the reader represents
 abbrev pub line_told : Told → GroupLine
 line_told (told.Change change) = WholeChange change
 line_told (told.Edit path line) = EditChange path line
 line_told told.Done = EndGroup
 
--- a group of so many changes has room for what is told, and the line of an edit is counted from 1
+-- a group with this number of changes has room for this one, and the line of an edit is counted from 1
 abbrev pub HasRoomToAdd : ℕ → Told → Type 0
 HasRoomToAdd count (told.Change change) = count < most_changes
 HasRoomToAdd count (told.Edit path line) = (1 ≤ line) × (count < most_changes)
 HasRoomToAdd count told.Done = Unit {0}
 
--- an answer is what a line of a group tells, or its fault; memory runs out only where the reader would have none
+-- the result is the meaning of a line of a group, or its fault; memory runs out only if there is no fault
 abbrev pub Tells : ℕ → Progress → OpenRecord → Result Told ScriptFault → Result GroupLine LineFault → Type 0
 Tells number progress begun (Ok told) reading = (reading ≡ Ok (line_told told)) × HasRoomToAdd (length begun.changes) told
 Tells number progress begun (Err fault) reading = IsFaultFirst fault (heeded number progress begun reading)
 
--- the change of an edit whose `end` stands at a line
+-- the change of an edit whose `end` is on a line
 abbrev pub ended_change : ℕ → Edit → Result Primitive LineFault
 ended_change line edit = ended line edit >>= λ edit. Ok (Hunk edit)

@@ -1,4 +1,4 @@
--- How far a reader is: its own words, which no definition of a script cites.
+-- The progress of a reader; only private definitions use it.
 use Rattle.std.specs.Prelude.{ℕ, Bool, ◌&&◌, ◌==◌, nat_le, if◌then◌else◌}
 use Rattle.std.specs.Prelude.{List, [], ◌∷◌, ◌++◌, length, Option, None, Some, Result, Ok}
 use Rattle.camp_prim.specs.Hunks.{Edit}
@@ -13,13 +13,13 @@ use Rattle.camp_script.specs.declared.faults.FaultKind.TheVariants.{TooManyClien
 use Rattle.camp_script.specs.declared.faults.FaultKind.TheVariants.{BadGroup, EditNotEnded, GroupNotEnded}
 use Rattle.camp_script.specs.declared.faults.LineFault.{LineFault}
 
--- an edit whose body is not ended: the line of the script that begins it, and its sides so far
+-- an edit whose body has not ended: the line of the script that begins it, and its sides so far
 pub record OpenEdit : Type 0 where
   pub opened : ℕ
   pub edit : Edit
 
--- a record that is not ended: its branch and name, the line of the script that begins it, whether its changes stand in
--- a group, those so far, and the edit that is not ended
+-- a record that has not ended: its branch and name, the line of the script that begins it, whether its changes are in
+-- a group, those so far, and the edit that has not ended
 pub record OpenRecord : Type 0 where
   pub branch : List ℕ
   pub name : List ℕ
@@ -28,13 +28,13 @@ pub record OpenRecord : Type 0 where
   pub changes : List Primitive
   pub open_edit : Option OpenEdit
 
--- how far a script is read: the sections before this one, the calls of this one, and the record that is not ended
+-- the progress of a script: the sections before this one, the calls of this one, and the record that has not ended
 pub record Progress : Type 0 where
   pub closed : List (List Call)
   pub calls : List Call
   pub open_record : Option OpenRecord
 
--- nothing is read yet: the opening has begun
+-- at first: the opening has begun
 abbrev pub start : Progress
 start = record { closed = []; calls = []; open_record = None }
 
@@ -64,7 +64,7 @@ with_edit begun path place line =
 abbrev pub with_one_more : OpenRecord → Primitive → OpenRecord
 with_one_more begun change = record begun { changes = begun.changes ++ change ∷ []; open_edit = None }
 
--- after a call that a line holds whole
+-- after a call that is on a single line
 abbrev pub after_call : ℕ → Progress → Call → Result Progress LineFault
 after_call line progress new =
     if is_writing new && is_full progress.calls then fault_at line TooManyCommands else Ok (with_call progress new)
@@ -86,7 +86,7 @@ after_record line progress begun =
     if length begun.changes == 0 then fault_at line BadGroup
     else Ok (with_call progress (call.Record begun.branch begun.name begun.changes))
 
--- after a change whose last line this is: a group goes on, and a change that stands alone ends its record
+-- after a change whose last line this is: a group continues, and a single change ends its record
 abbrev pub after_change : ℕ → Progress → OpenRecord → Primitive → Result Progress LineFault
 after_change line progress begun change =
     if begun.grouped then Ok (with_record progress (with_one_more begun change))

@@ -1,4 +1,4 @@
--- How the progress of a reader lies in its fields.
+-- The representation of the progress of a reader in its fields.
 use Rattle.std.specs.Prelude.{◌≡◌, ◌≤◌, ◌<◌, length, map, count_by, Option, None, Some, List}
 use Rattle.std.specs.List.{AllByRecursion}
 use Rattle.std.specs.Option.{option_map}
@@ -20,11 +20,11 @@ use Rattle.camp_script.specs.declared.readings.Reading.TheInside.{Inside}
 abbrev pub edit_so_far : OpenEdit → Edit
 edit_so_far edit = record { path = edit.path; line = edit.line; old = edit.old.items; new = edit.new.items }
 
--- the edit whose body is not ended
+-- the edit whose body has not ended
 abbrev pub open_edit_of : OpenEdit → progress.OpenEdit
 open_edit_of edit = record { opened = edit.opened; edit = edit_so_far edit }
 
--- the record that is not ended
+-- the record that has not ended
 abbrev pub open_record_of : OpenRecord → progress.OpenRecord
 open_record_of begun = record {
   branch = begun.branch;
@@ -35,11 +35,11 @@ open_record_of begun = record {
   open_edit = option_map open_edit_of begun.open_edit;
 }
 
--- a fault is what is told where a script ends in a record
+-- the fault of a script that ends within a record
 abbrev pub IsNotEnded : ScriptFault → progress.OpenRecord → Type 0
 IsNotEnded fault begun = IsFaultFirst {A = List (List Call)} fault (progress.not_ended begun begun.open_edit)
 
--- the progress that the fields stand for
+-- the progress that the fields represent
 abbrev pub progress_of : Inside → Progress
 progress_of reading = record {
   closed = map (λ section. section.items) reading.closed.items;
@@ -47,30 +47,30 @@ progress_of reading = record {
   open_record = option_map open_record_of reading.open_record;
 }
 
--- the section may have one more writing call
+-- the section can have one more writing call
 abbrev pub MayGrow : List Call → Type 0
 MayGrow calls = count_by is_writing calls < most_writing_calls
 
--- an edit has a line, counted from 1, and the record has room for it
+-- an edit has a line, counted from 1, and the record can have one more change
 abbrev pub HasRoomFor : List Primitive → Option OpenEdit → Type 0
 HasRoomFor changes None = Unit {0}
 HasRoomFor changes (Some edit) = (1 ≤ edit.line) × (length changes < most_changes)
 
--- an open record has room for its changes, and its section for its call
+-- an open record can have its changes, and its section can have its call
 abbrev pub IsOpen : List Call → OpenRecord → Type 0
 IsOpen calls begun = MayGrow calls × (length begun.changes.items ≤ most_changes) × HasRoomFor begun.changes.items begun.open_edit
 
--- the same where a record is open
+-- the same if a record is open
 abbrev pub IsAwaited : List Call → Option OpenRecord → Type 0
 IsAwaited calls None = Unit {0}
 IsAwaited calls (Some begun) = IsOpen calls begun
 
--- sections that are closed: each has as many writing calls as it may have at most, and there is room for one more
+-- finished sections: each has at most its most writing calls, and one more section can follow
 pub record AreClosed (sections : List (List Call)) : Type 0 where
   pub few : length sections ≤ most_clients
   pub writes : AllByRecursion (λ section. count_by is_writing section ≤ most_writing_calls) sections
 
--- the number of writing calls is kept and within the limit
+-- the number of writing calls is counted and within the limit
 pub record IsKept (reading : Inside) : Type 0 where
   pub closed : AreClosed (map (λ section. section.items) reading.closed.items)
   pub writes : reading.writes ≡ count_by is_writing reading.calls.items

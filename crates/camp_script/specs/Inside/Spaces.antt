@@ -1,4 +1,4 @@
--- Words on a line behind its first.
+-- Words of a line after its first.
 use Rattle.std.specs.Prelude.{ℕ, List, ◌∷◌}
 use Rattle.std.specs.List.{flat_map}
 use Rattle.camp_base.specs.Signs.{space}

@@ -1,4 +1,4 @@
--- How a reader goes from line to line. That this comes to the script that is defined is proved.
+-- The steps of a reader from line to line. It is proved that they give the script of the definitions.
 use Rattle.std.specs.Prelude.{◌≡◌, ℕ, ◌+◌, false, true, if◌then◌else◌}
 use Rattle.std.specs.Prelude.{List, [], ◌∷◌, length, Option, None, Some, Result, Ok, bytes_eq, codes}
 use Rattle.camp_prim.specs.declared.primitives.Primitive.TheVariants.{Hunk}
@@ -14,7 +14,7 @@ use Rattle.camp_script.specs.declared.cuts.Wanted.{Wanted}
 use Rattle.camp_script.specs.declared.cuts.Wanted.TheVariants as want
 use Rattle.camp_script.specs.declared.faults.LineFault.{LineFault}
 
--- after the line of a number, outside groups and bodies, by what it asks for
+-- after a numbered line, outside groups and bodies, by its meaning
 abbrev pub obey : ℕ → Progress → Command → Result Progress LineFault
 obey line progress Nothing = Ok progress
 obey line progress (Ask new) = after_call line progress new
@@ -23,18 +23,18 @@ obey line progress (BeginEdit branch name path place) =
 obey line progress (BeginGroup branch name) = after_head line progress (record_at line branch name true)
 obey line progress BeginSection = after_client line progress
 
--- the same, where the line may have a fault
+-- the same if the line may have a fault
 abbrev pub obeyed : ℕ → Progress → Result Command LineFault → Result Progress LineFault
 obeyed line progress asked = asked >>= obey line progress
 
--- after the line of a number in a group, outside bodies, by what it says
+-- after a numbered line in a group, outside bodies, by its meaning
 abbrev pub heed : ℕ → Progress → OpenRecord → GroupLine → Result Progress LineFault
 heed line progress begun NoChange = Ok (with_record progress begun)
 heed line progress begun (WholeChange change) = Ok (with_record progress (with_one_more begun change))
 heed line progress begun (EditChange path place) = Ok (with_record progress (with_edit begun path place line))
 heed line progress begun EndGroup = after_record line progress begun
 
--- the same, where the line may have a fault
+-- the same if the line may have a fault
 abbrev pub heeded : ℕ → Progress → OpenRecord → Result GroupLine LineFault → Result Progress LineFault
 heeded line progress begun said = said >>= heed line progress begun
 
@@ -56,18 +56,18 @@ after_record_line line progress begun None bytes =
     heeded line progress begun (group_line_of line (length begun.changes) (words_of bytes))
 after_record_line line progress begun (Some body) bytes = after_body line progress begun body bytes
 
--- after the line of a number
+-- after a numbered line
 abbrev pub after_line : ℕ → Option OpenRecord → Progress → List ℕ → Result Progress LineFault
 after_line line None progress bytes = obeyed line progress (command_of line (words_of bytes))
 after_line line (Some begun) progress bytes = after_record_line line progress begun begun.open_edit bytes
 
--- what reading comes to, from the line of a number on
+-- the result of reading, from a numbered line on
 abbrev pub read_from : ℕ → Progress → List (List ℕ) → Result (List (List Call)) LineFault
 read_from line progress [] = finished progress progress.open_record
 read_from line progress (bytes ∷ lines) =
     after_line line progress.open_record progress bytes >>= λ next. read_from (line + 1) next lines
 
--- a line says something: it is a line of a body, or it is not skipped
+-- a line is not skipped: it is a line of a body, or has a meaning
 abbrev pub SaysSomethingIn : Option OpenEdit → List ℕ → Type 0
 SaysSomethingIn None bytes = is_skipped (words_of bytes) ≡ false
 SaysSomethingIn (Some body) bytes = Unit {0}
@@ -77,7 +77,7 @@ abbrev pub SaysSomething : Option OpenRecord → List ℕ → Type 0
 SaysSomething None bytes = is_skipped (words_of bytes) ≡ false
 SaysSomething (Some begun) bytes = SaysSomethingIn begun.open_edit bytes
 
--- what a command takes behind its first line, by the record that this has opened
+-- what belongs to a command after its first line, by the record that this has opened
 abbrev pub wanted_in : Option OpenRecord → Wanted
 wanted_in None = want.Nothing
 wanted_in (Some begun) = if begun.grouped then want.Group else want.Body

@@ -1,4 +1,4 @@
--- The text of changes behind the names of a record, and what is known of a call that is no record.
+-- The text of changes after the names of a record, and which calls other than records can be written.
 use Rattle.std.specs.Prelude.{ℕ, List, [], ◌∷◌, ◌++◌, codes}
 use Rattle.std.specs.List.{flat_map}
 use Rattle.camp_call.specs.declared.calls.Call.{Call}
@@ -8,12 +8,12 @@ use Rattle.camp_script.specs.Canonical.{change_text}
 use Rattle.camp_script.specs.Keeping.{CanStand}
 use Rattle.camp_script.specs.Texts.{line_text}
 
--- a change that is alone, or those of a group
+-- a single change, or those of a group
 abbrev pub patch_text : List Primitive → List ℕ
 patch_text (change ∷ []) = change_text change
 patch_text changes = line_text (codes "group" ∷ []) ++ flat_map change_text changes ++ line_text (codes "done" ∷ [])
 
--- a script can ask a call that is no record, unless it has an empty list of names
+-- a script can contain a call that is no record, unless it has an empty list of names
 abbrev pub CanStandOnLine : Call → Type 0
 CanStandOnLine (call.Record branch name changes) = Unit {0}
 CanStandOnLine other = CanStand other

@@ -1,4 +1,4 @@
--- How far the frame of a request is read.
+-- How much of the frame of a request was read.
 use Rattle.std.specs.Prelude.{◌≡◌, ◌≢◌, ◌<◌, ◌≤◌, ℕ, Bool, true, false, List, [], ◌++◌, length, Option, None, Some}
 use Rattle.std.specs.Io.KnownBytes.{Consumes}
 use Rattle.camp_script.specs.Words.{count_of}
@@ -7,11 +7,11 @@ use Rattle.camp_talk.specs.Inside.Parts.{Ends, IsReading}
 use Rattle.camp_talk.specs.declared.frames.FrameFault.{FrameFault}
 use Rattle.camp_talk.specs.declared.frames.FrameFault.TheVariants.{Cut, NoNumber, Talk, TooLarge}
 
--- a line says that a request has so many bytes
+-- a line gives this number of bytes of a request
 abbrev pub IsCounted : List ℕ → ℕ → Type 0
 IsCounted line count = (count_of line ≡ Some count) × (count ≤ most_bytes)
 
--- a line says no number of bytes, or of too many
+-- a line gives no number of bytes, or too large a one
 abbrev pub IsNotCounted : List ℕ → FrameFault → Type 0
 IsNotCounted line NoNumber = count_of line ≡ None
 IsNotCounted line TooLarge = (count : ℕ) × (count_of line ≡ Some count) × (most_bytes < count)
@@ -19,13 +19,13 @@ IsNotCounted line Cut = ⊥
 IsNotCounted line (Talk fault) = ⊥
 
 module _ (remaining rest : Option (List ℕ)) where
-  -- some bytes were read behind others, as far as there is room; or the input has ended
+  -- some bytes were read after others, up to the capacity; or the input has ended
   abbrev pub ReadsMore : ℕ → Bool → List ℕ → List ℕ → Type 0
   ReadsMore room true old new =
       (more : List ℕ) × Consumes remaining rest more × (new ≡ old ++ more) × (length more ≤ room)
   ReadsMore room false old new = Consumes remaining rest [] × (new ≡ old) × Ends remaining rest
 
-  -- bytes were read, as many as were wanted; or fewer, and the input has ended
+  -- as many bytes were read as were wanted; or fewer, and the input has ended
   abbrev pub ReadsBytes : ℕ → Bool → List ℕ → Type 0
   ReadsBytes count true bytes = Consumes remaining rest bytes × (length bytes ≡ count)
   ReadsBytes count false bytes = Consumes remaining rest bytes × (length bytes < count) × Ends remaining rest
@@ -41,13 +41,13 @@ module _ (remaining rest : Option (List ℕ)) where
     pub reads : Consumes remaining rest []
     pub ends : Ends remaining rest
 
-  -- what was read begins no frame
+  -- the bytes that were read do not begin a frame
   pub record ReadsOther : Type 0 where
     pub some : List ℕ
     pub reads : Consumes remaining rest some
     pub none : BeginsNoFrame some
 
-  -- the input has ended behind some bytes that are no whole frame
+  -- the input has ended within a frame
   pub record ReadsPartly : Type 0 where
     pub some : List ℕ
     pub some_are : some ≢ []

@@ -1,4 +1,4 @@
--- What it is to read a command and ask it.
+-- Reading a command and executing it.
 use Rattle.std.specs.Prelude.{◌≡◌, ℕ, ◌+◌, Bool, true, false, List, length, Option, Some, Result, Ok, Err, Vec}
 use Rattle.std.specs.Io.KnownBytes.{Consumes}
 use Rattle.camp_object.specs.Histories.{replay}
@@ -17,7 +17,7 @@ use Rattle.camp_talk.specs.Whys.{cause_with, is_failure}
 use Rattle.camp_talk.specs.declared.faults.LoadFault.{LoadFault}
 use Rattle.camp_talk.specs.declared.questions.Asked.{Asked}
 
--- what is kept for `why`, by the lines of a command and what it asks
+-- the diagnostic, by the lines of a command and its parsed form
 abbrev pub LearnsWith : Bool → Standing → List (List ℕ) → Result Asked LineFault → List ℕ → Account → Type 0
 LearnsWith true before lines asked text cause =
     (state : Contents) × (replay repository before.history ≡ Some state) × (cause ≡ cause_with before.cause state lines asked text)
@@ -27,8 +27,8 @@ LearnsWith false before lines asked text cause = cause ≡ kept_behind text befo
 abbrev pub LearnsOf : Standing → List (List ℕ) → Result Asked LineFault → List ℕ → Account → Type 0
 LearnsOf before lines asked text cause = LearnsWith (is_failure text) before lines asked text cause
 
--- what a command asks is answered by this text, and the cause is kept where it is not done; or it asks something, there
--- was no memory, and nothing has changed
+-- this text answers the command, and its diagnostic is kept if it is not done; or it asks something, memory ran out,
+-- and nothing has changed
 abbrev pub IsSaid : {Z E : Type 0} → Standing → List ℕ → Result (Vec ℕ Z) E → Entries → Account → Type 0
 IsSaid before command (Ok text) now cause =
     Tells before (asked_by command) text.items now × Learns before command text.items cause
@@ -36,7 +36,7 @@ IsSaid before command (Err error) now cause =
     (is_silent command ≡ false) × (now ≡ before.history) × (cause ≡ before.cause)
 
 module _ (remaining rest : Option (List ℕ)) (before : Standing) where
-  -- a command was read, whole or as far as the input has it, and this is said to it
+  -- a command was read, whole or as far as the input has it, and this text is written for it
   pub record Hears {Z E : Type 0} (whole : Bool) (said : Result (Vec ℕ Z) E) (after : Standing) : Type 0 where
     pub command : List ℕ
     pub reads : ReadsCommand remaining rest whole command
@@ -51,7 +51,7 @@ module _ (remaining rest : Option (List ℕ)) (before : Standing) where
     pub well : TellsSuccess said.answer
     pub reads : Consumes remaining rest said.command
 
-  -- one command is loaded: it was done, and there may be more, or else this is the end
+  -- one command was loaded: it was done, and there may be more, or else this is the end
   abbrev pub LoadsOne : Result Bool LoadFault → Standing → Type 0
   LoadsOne (Ok true) after = DoesOne after
   LoadsOne (Ok false) after = Ends remaining rest before (Ok tt) after.history

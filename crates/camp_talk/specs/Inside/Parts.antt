@@ -1,4 +1,4 @@
--- How far a command is read.
+-- How much of a command was read.
 use Rattle.std.specs.Prelude.{◌≡◌, ◌≢◌, ◌==◌, ◌^◌, ◌<◌, ◌≤◌, nat_lt, if◌then◌else◌, ℕ, Bool, true, false, List, [], ◌∷◌, ◌++◌, length, map, take, Option, OnSome}
 use Rattle.std.specs.List.{All, flat_map}
 use Rattle.std.specs.Io.KnownBytes.{Consumes, IsAtEnd}
@@ -13,40 +13,40 @@ use Rattle.camp_talk.specs.Talks.{ReadsCommand}
 use Rattle.camp_talk.specs.declared.lines.Seen.{Seen}
 use Rattle.camp_talk.specs.declared.lines.Seen.TheVariants as seen
 
--- a line has no LF in it
+-- a line has no line feed in it
 abbrev pub IsLine : List ℕ → Type 0
 IsLine line = All (λ byte. byte ≢ newline) line
 
--- lines, each with its LF
+-- lines, each with its line feed
 abbrev pub ended : List (List ℕ) → List ℕ
 ended lines = flat_map (λ line. line ++ newline ∷ []) lines
 
--- lines, and what stands behind the last LF, if anything does
+-- lines, and the bytes after the last line feed, if there are any
 abbrev pub with_last : List (List ℕ) → List ℕ → List (List ℕ)
 with_last lines [] = lines
 with_last lines (byte ∷ last) = lines ++ (byte ∷ last) ∷ []
 
--- where these lines of a command were read, these more are read behind them
+-- after these lines of a command, these more were read
 abbrev pub GoesOn : CommandLines → CommandLines → List (List ℕ) → Type 0
 GoesOn before after more =
     (first : List ℕ) (rest : List (List ℕ)) → HasRead before first rest → HasRead after first (rest ++ more)
 
--- what is seen of a line where so many bytes are shown, and so many of them stand before an LF
+-- what a reader shows of a line, given the number of bytes that are shown and the number of those before a line feed
 abbrev pub seen_of : ℕ → ℕ → Seen
 seen_of shown before = if nat_lt before shown then seen.Line else (if shown == 0 then seen.End else seen.Part)
 
--- what is seen last of a line: its LF, or that the input has ended
+-- what a reader shows last of a line: its line feed, or the end of the input
 abbrev pub last_seen : Bool → Seen
 last_seen true = seen.Line
 last_seen false = seen.End
 
--- the LF of a line, where it is seen
+-- the line feed of a line, if the reader shows it
 abbrev pub feed_of : Seen → List ℕ
 feed_of seen.Line = newline ∷ []
 feed_of other = []
 
 module _ (remaining rest : Option (List ℕ)) where
-  -- nothing is left, where it is known what there was
+  -- nothing is left, if the content of the reader is known
   abbrev pub Ends : Type 0
   Ends = OnSome remaining (IsAtEnd rest)
 
@@ -56,12 +56,12 @@ module _ (remaining rest : Option (List ℕ)) where
     pub reads : Consumes remaining rest some
     pub one : length (lines_of some) ≤ 1
 
-  -- where the end of the input is seen, nothing is left
+  -- if the reader shows the end of the input, nothing is left
   abbrev pub EndsAt : Seen → Type 0
   EndsAt seen.End = Ends
   EndsAt other = Unit {0}
 
-  -- bytes of a line were read, and its LF where that was seen; of the line as much as has room was put behind others
+  -- bytes of a line were read, and its line feed if that was shown; as much of the line as fits was appended
   pub record Takes (room : ℕ) (met : Seen) (old new : List ℕ) : Type 0 where
     pub line : List ℕ
     pub is_line : IsLine line
@@ -69,7 +69,7 @@ module _ (remaining rest : Option (List ℕ)) where
     pub consumes : Consumes remaining rest (line ++ feed_of met)
     pub ends : EndsAt met
 
-  -- lines were read, and what had no LF: these, as they are read, were put behind bytes
+  -- lines were read, and a last one without a line feed: these, as they are read, were appended
   pub record ReadsLines (old new : List ℕ) (lines : List (List ℕ)) (last : List ℕ) : Type 0 where
     pub whole : List (List ℕ)
     pub left : List ℕ
@@ -80,12 +80,12 @@ module _ (remaining rest : Option (List ℕ)) where
     pub are_lines : All IsLine whole
     pub is_line : IsLine left
 
-  -- a line was read with its LF, or the input has ended behind what had none
+  -- a line was read with its line feed, or the input has ended after one without
   abbrev pub ReadsLine : Bool → List ℕ → List ℕ → Type 0
   ReadsLine true old new = (line : List ℕ) × ReadsLines old new (line ∷ []) []
   ReadsLine false old new = (last : List ℕ) × ReadsLines old new [] last × Ends
 
-  -- the next line of a command was read, and handed on; or the input has ended, and what had no LF was
+  -- the next line of a command was read, and processed; or the input has ended, and the one without a line feed was
   abbrev pub ReadsNext : Bool → List ℕ → List ℕ → CommandLines → CommandLines → Type 0
   ReadsNext true old new before after = (line : List ℕ) × ReadsLines old new (line ∷ []) [] × GoesOn before after (line ∷ [])
   ReadsNext false old new before after =
@@ -97,12 +97,12 @@ module _ (remaining rest : Option (List ℕ)) where
     pub lines : lines_of held ≡ lines_in command
     pub reads : ReadsCommand remaining rest whole command
 
--- bytes that can be counted have become more
+-- a count of bytes has grown, without overflow
 pub record IsLonger (old new : List ℕ) : Type 0 where
   pub longer : length old < length new
   pub counted : length old < 2 ^ 64
 
--- reading failed, or there was no memory for a line
+-- reading failed, or a line ran out of memory
 abbrev pub IsReading : TalkFault → Type 0
 IsReading Memory = Unit {0}
 IsReading (Read error) = Unit {0}

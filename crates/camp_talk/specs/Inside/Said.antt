@@ -1,4 +1,4 @@
--- What is written for a command, whether there was memory for its answer or not.
+-- The text that is written for a command, whether or not memory ran out.
 use Rattle.std.specs.Prelude.{◌≡◌, ℕ, List, Result, Ok, Err, Vec}
 use Rattle.camp_call.specs.declared.replies.Refusal.{Refusal}
 use Rattle.camp_call.specs.declared.replies.Reply.TheVariants.{Refused}
@@ -9,7 +9,7 @@ use Rattle.camp_talk.specs.Answers.{memory_text}
 use Rattle.camp_talk.specs.declared.faults.TalkFault.{TalkFault}
 use Rattle.camp_talk.specs.declared.faults.TalkFault.TheVariants.{Internal, Memory, Read, Write}
 
--- the text of an answer, or that memory ran out
+-- the text of an answer, or out of memory
 abbrev pub said_text : {Z E : Type 0} → Result (Vec ℕ Z) E → List ℕ
 said_text (Ok text) = text.items
 said_text (Err error) = memory_text
@@ -21,14 +21,14 @@ IsWriting (Read error) = ⊥
 IsWriting (Write error) = Unit {0}
 IsWriting Internal = ⊥
 
--- it was not the writer that failed
+-- the fault was not of the writer
 abbrev pub IsNotWriting : TalkFault → Type 0
 IsNotWriting Memory = Unit {0}
 IsNotWriting (Read error) = Unit {0}
 IsNotWriting (Write error) = ⊥
 IsNotWriting Internal = Unit {0}
 
--- what was found of a question is told: its answer, or its refusal, as a call is told one
+-- the text of the result of a question: its answer, or its refusal as that of a call
 abbrev pub TellsFound : {A : Type 0} → (A → List ℕ) → Result A Unanswered → List ℕ → Type 0
 TellsFound text_of (Ok answer) text = text ≡ text_of answer
 TellsFound text_of (Err why) text =

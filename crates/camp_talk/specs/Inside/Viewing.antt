@@ -1,11 +1,11 @@
--- What it is to read a command and ask it of a state.
+-- Reading a command and executing it on a state.
 use Rattle.std.specs.Prelude.{◌≡◌, ℕ, Bool, List, ◌++◌, Option}
 use Rattle.std.specs.List.{flat_map}
 use Rattle.camp_repo.specs.States.{Contents}
 use Rattle.camp_talk.specs.Talks.{Exchange, ReadsCommand}
 use Rattle.camp_talk.specs.Views.{Sees, SeesAll}
 
--- a command was read, whole or as far as the input has it, and its answer stands behind what there was
+-- a command was read, whole or as far as the input has it, and its answer was appended
 pub record SeesTurn (remaining rest : Option (List ℕ)) (old new : List ℕ) (state : Contents) (before : ℕ)
     (whole : Bool) (after : ℕ) : Type 0 where
   pub said : Exchange
@@ -13,7 +13,7 @@ pub record SeesTurn (remaining rest : Option (List ℕ)) (old new : List ℕ) (s
   pub sees : Sees state before said after
   pub grows : new ≡ old ++ said.answer
 
--- these commands were read and answered so far, no more and no less
+-- exactly these commands were read and answered so far
 pub record HoldsView (request rest old new : List ℕ) (state : Contents) (lines : ℕ) : Type 0 where
   pub said : List Exchange
   pub sees : SeesAll state 0 said lines

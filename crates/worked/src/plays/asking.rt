@@ -1,10 +1,10 @@
-//! Books and heads: what a command was answered so far.
+//! Books and heads: the answers to a command so far.
 use crate::plays::faults::PlayFault;
 use crate::plays::{Answer, append_bytes};
 use camp_repo::Fault;
 use camp_script::answer_text;
 
-/// How often a command was asked so far, and what it was answered last.
+/// How often a command was executed so far, and its last answer.
 #[derive(Drop)]
 pub(crate) struct Asked {
     count: u32,
@@ -12,7 +12,7 @@ pub(crate) struct Asked {
 }
 
 impl Asked {
-    /// Nothing was asked.
+    /// Starts with no execution.
     pub(crate) fn nothing() -> Asked {
         Asked {
             count: 0,
@@ -24,13 +24,13 @@ impl Asked {
         self.count
     }
 
-    /// The command was asked once more.
+    /// Counts one more execution.
     pub(crate) fn note(&mut self, answer: Answer) {
         self.count = self.count.saturating_add(1);
         self.last = Some(answer);
     }
 
-    /// Appends what was answered last, if anything was.
+    /// Appends the last answer, if there is one.
     pub(crate) fn append_last(&self, text: &mut Vec<u8>) -> Result<(), PlayFault> {
         match &self.last {
             Some(answer) => append_answer(answer, text),
@@ -39,7 +39,7 @@ impl Asked {
     }
 }
 
-/// Appends the text of what is answered, if it is not want of memory.
+/// Appends the text of an answer, unless it is out of memory.
 fn append_answer(answer: &Answer, text: &mut Vec<u8>) -> Result<(), PlayFault> {
     if let Err(Fault::Memory) = answer {
         return Err(PlayFault::Memory);

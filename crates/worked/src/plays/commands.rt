@@ -1,4 +1,4 @@
-//! Books and heads: a command of a table, with its seat and how often it is asked.
+//! Books and heads: a command of a table, with its seat and how often it is executed.
 use crate::plays::faults::{NO_COMMAND, PlayFault};
 use crate::words::{number_of, split_word};
 use bstr::ByteSlice;
@@ -8,7 +8,7 @@ use camp_run::RunFault;
 use camp_script::{Script, ScriptFault, read_script};
 use std::alloc::{AllocError, Global};
 
-/// A command that is asked at a seat, so many times, and the lines that it is made of.
+/// A command that is executed at a seat `times` times, and its lines.
 #[derive(Clone, Copy)]
 pub(crate) struct Command<'a> {
     pub(crate) seat: u32,
@@ -17,7 +17,7 @@ pub(crate) struct Command<'a> {
     body: &'a [&'a [u8]],
 }
 
-/// The command of an entry: `SEAT COMMAND`, or `repeat COUNT SEAT COMMAND`.
+/// Parses the command of an entry: `SEAT COMMAND`, or `repeat COUNT SEAT COMMAND`.
 pub(crate) fn command_of<'a>(
     first: &'a [u8],
     body: &'a [&'a [u8]],
@@ -32,7 +32,7 @@ pub(crate) fn command_of<'a>(
     })
 }
 
-/// How often a line is repeated, and the line.
+/// Returns how often a line is repeated, and the line.
 fn count_before(line: &[u8]) -> Result<(u32, &[u8]), PlayFault> {
     match line.strip_prefix(b"repeat ") {
         Some(rest) => number_before(rest),
@@ -40,7 +40,7 @@ fn count_before(line: &[u8]) -> Result<(u32, &[u8]), PlayFault> {
     }
 }
 
-/// The number that a line begins with, and what stands behind it.
+/// Returns the number that a line begins with, and the rest of the line.
 fn number_before(line: &[u8]) -> Result<(u32, &[u8]), PlayFault> {
     match line.split_once_str(b" ") {
         Some((word, rest)) => Ok((number(word)?, rest)),
@@ -48,12 +48,12 @@ fn number_before(line: &[u8]) -> Result<(u32, &[u8]), PlayFault> {
     }
 }
 
-/// The number that a word tells.
+/// Parses a word as a number.
 pub(crate) fn number(word: &[u8]) -> Result<u32, PlayFault> {
     number_of(word).ok_or(NO_COMMAND)
 }
 
-/// The numbers that words tell, as many as there is room for; one that is missing stays as it is.
+/// Parses words as numbers, as many as fit; missing ones stay as they are.
 pub(crate) fn read_numbers(words: &[u8], numbers: &mut [u32]) -> Result<(), PlayFault> {
     for (at, word) in numbers.iter_mut().zip(words.fields()) {
         *at = number(word)?;
@@ -62,8 +62,8 @@ pub(crate) fn read_numbers(words: &[u8], numbers: &mut [u32]) -> Result<(), Play
 }
 
 impl<'a> Command<'a> {
-    /// The call of the command. Each `%` of its first line stands for which time this is, from 1; not in
-    /// `pull-listed` and `obliterate-listed`.
+    /// Returns the call of the command. Each `%` of its first line stands for the number of this execution,
+    /// from 1; not in `pull-listed` and `obliterate-listed`.
     pub(crate) fn call(self, alloc: Global, time: u32) -> Result<Call, PlayFault> {
         if let Some(branches) = self.first.strip_prefix(b"pull-listed ") {
             return listless_pull(alloc, branches);
@@ -105,7 +105,7 @@ fn append_first(text: &mut Vec<u8>, line: &[u8], time: u32) -> Result<(), AllocE
     Ok(())
 }
 
-/// A line of a body, or `repeat COUNT LINE`, which stands for so many.
+/// Appends a line of a body, or the lines of `repeat COUNT LINE`.
 fn append_line(text: &mut Vec<u8>, line: &[u8]) -> Result<(), PlayFault> {
     let (count, line) = count_before(line)?;
     for _ in 0..count {
@@ -127,7 +127,7 @@ fn last_of(calls: Vec<Call>) -> Result<Call, PlayFault> {
     calls.pop().ok_or(NO_COMMAND)
 }
 
-// The calls that no script has: with an empty list of names, as `pull-listed FROM TO` and
+// Parses the calls that no script can contain: with an empty list of names, as `pull-listed FROM TO` and
 // `obliterate-listed BRANCH`.
 fn listless_pull(alloc: Global, branches: &[u8]) -> Result<Call, PlayFault> {
     let Some((from, to)) = names_of(branches) else {
@@ -137,7 +137,7 @@ fn listless_pull(alloc: Global, branches: &[u8]) -> Result<Call, PlayFault> {
     Ok(Call::Pull { from, to, names })
 }
 
-/// The two names that words tell.
+/// Parses two words as names.
 pub(crate) fn names_of(words: &[u8]) -> Option<(Name, Name)> {
     let (first, second) = split_word(words);
     match (Name::new(first), Name::new(second)) {

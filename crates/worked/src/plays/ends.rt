@@ -3,8 +3,8 @@ use std::alloc::Global;
 use std::io;
 use std::io::{ErrorKind, Read, Write};
 
-/// How many calls of a reader and of a writer are served, how many bytes each of them moves at most, and after how
-/// many that are interrupted.
+/// How many calls of a reader and of a writer succeed, how many bytes each of them moves at most, and how
+/// many interrupted calls come before each.
 #[derive(Clone, Copy)]
 pub(crate) struct Sizes {
     pub(crate) reads: u32,
@@ -14,8 +14,9 @@ pub(crate) struct Sizes {
     pub(crate) times: u32,
 }
 
-/// So many calls of a reader or a writer move up to `size` bytes each, and each only after so many that are
-/// interrupted. Behind them it fails. A flush is one of these calls; it moves nothing, and is not interrupted.
+/// A limited number of calls of a reader or a writer, each of which moves up to `size` bytes and comes after
+/// a number of interrupted ones; then it fails. A flush is one of these calls; it moves nothing, and is not
+/// interrupted.
 #[derive(Clone, Copy)]
 struct Calls {
     served: u32,
@@ -37,7 +38,7 @@ impl Calls {
         }
     }
 
-    /// How many of so many bytes the next call moves.
+    /// Returns how many of `wanted` bytes the next call moves.
     fn next(&mut self, bytes: usize) -> io::Result<usize> {
         if self.interruptions > 0 {
             self.interruptions -= 1;
@@ -48,7 +49,7 @@ impl Calls {
         Ok(self.size.min(bytes))
     }
 
-    /// One call that is not interrupted.
+    /// Counts one call that is not interrupted.
     fn serve(&mut self) -> io::Result<()> {
         if self.served == 0 {
             return Err(self.error.into());
@@ -58,7 +59,7 @@ impl Calls {
     }
 }
 
-/// Gives these bytes.
+/// A reader of these bytes.
 #[derive(Drop)]
 pub(crate) struct Reader<'a> {
     rest: &'a [u8],
@@ -75,12 +76,12 @@ impl<'a> Read for Reader<'a> {
     }
 }
 
-/// What it took stands there at once, or where it is flushed.
+/// A writer whose bytes arrive at once, or when it is flushed.
 #[derive(Drop)]
 pub(crate) struct Writer {
     taken: Vec<u8>,
     holds: bool,
-    /// How many bytes of those that it took stand there.
+    /// How many of the bytes that it took have arrived.
     flushed: usize,
     calls: Calls,
     wants_memory: bool,
@@ -139,7 +140,7 @@ impl Writer {
         self.wants_memory
     }
 
-    /// What stands there.
+    /// Returns the bytes that have arrived.
     pub(crate) fn written(&self) -> &[u8] {
         &self.taken[..self.flushed.min(self.taken.len())]
     }

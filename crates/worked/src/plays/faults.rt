@@ -14,7 +14,7 @@ pub(crate) enum PlayFault {
     Run(RunFault),
     /// A conversation ended with an error of its reader or writer.
     Talk(TalkFault, io::Error),
-    /// Something is not as it has to be.
+    /// The harness found a broken invariant.
     Wrong(&'static str),
 }
 
@@ -23,7 +23,7 @@ pub(crate) const NO_LINE: PlayFault = PlayFault::Wrong("no such line");
 pub(crate) const NO_COMMAND: PlayFault = PlayFault::Wrong("no command");
 
 impl PlayFault {
-    /// In which words it is told.
+    /// Returns the words that report it.
     pub(crate) fn words(self, alloc: Global) -> Result<String, AllocError> {
         match self {
             PlayFault::Memory => words_of(alloc, &RunFault::Memory),
@@ -46,7 +46,7 @@ impl<T: Drop> From<AllocFailed<T>> for PlayFault {
     }
 }
 
-/// A buffer is not made where memory is wanted.
+/// Makes a buffer, or runs out of memory.
 impl From<io::Error> for PlayFault {
     fn from(_error: io::Error) -> PlayFault {
         PlayFault::Memory
@@ -62,7 +62,7 @@ impl From<Fault> for PlayFault {
     }
 }
 
-/// How a run has ended.
+/// Converts the result of a run: out of memory is separate, any other fault is reported.
 pub(crate) fn ran(ended: Result<(), RunFault>) -> Result<(), PlayFault> {
     match ended {
         Ok(()) => Ok(()),
@@ -71,7 +71,7 @@ pub(crate) fn ran(ended: Result<(), RunFault>) -> Result<(), PlayFault> {
     }
 }
 
-/// How a conversation has ended.
+/// Converts the result of a conversation.
 pub(crate) fn talked(ended: Result<(), TalkFault>) -> Result<(), PlayFault> {
     match ended {
         Ok(()) => Ok(()),
@@ -79,7 +79,7 @@ pub(crate) fn talked(ended: Result<(), TalkFault>) -> Result<(), PlayFault> {
     }
 }
 
-/// How a conversation in frames has ended.
+/// Converts the result of a conversation in frames.
 pub(crate) fn talked_in_frames(ended: Result<(), FrameFault>) -> Result<(), PlayFault> {
     match ended {
         Ok(()) => Ok(()),

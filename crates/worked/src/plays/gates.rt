@@ -9,7 +9,7 @@ use std::sync::Wait;
 use std::sync::atomic::{AtomicU64, Ordering};
 use std::thread;
 
-/// How often a seat looks before it gives up.
+/// How often a seat polls before it gives up.
 const MOST_LOOKS: u32 = 100_000_000;
 
 #[derive(Clone, Copy, PartialEq)]
@@ -22,8 +22,8 @@ enum Kind {
     End,
 }
 
-/// A step that a gate is told of: its kind, the seat, and a number (the index of the call; the compare-exchanges that
-/// the call has lost; 0 at the begin and the end of a section).
+/// A scheduling event: its kind, the seat, and a number (the index of the call; the compare-exchanges that
+/// the call has lost; 0 at the start and the end of a section).
 #[derive(Clone, Copy, PartialEq)]
 struct Moment {
     kind: Kind,
@@ -31,7 +31,7 @@ struct Moment {
     number: u32,
 }
 
-/// At a moment a seat waits until another one has come.
+/// A delay: at an event of one seat it waits until another one's event.
 #[derive(Drop)]
 struct Delay {
     at: Moment,
@@ -58,7 +58,7 @@ impl Delay {
     }
 }
 
-/// Where seats wait for each other.
+/// The delays of a run.
 #[derive(Drop)]
 pub(crate) struct Delays {
     all: Vec<Delay>,
@@ -71,7 +71,7 @@ impl Delays {
         }
     }
 
-    /// Reads those lines at the front that begin with `wait`. The lines behind them.
+    /// Reads the lines at the start that begin with `wait`. Returns the lines after them.
     pub(crate) fn read<'a>(&mut self, lines: &'a [&'a [u8]]) -> Result<&'a [&'a [u8]], PlayFault> {
         for (at, line) in lines.iter().enumerate() {
             match line.strip_prefix(b"wait ") {
@@ -82,7 +82,7 @@ impl Delays {
         Ok(&[])
     }
 
-    /// One more, by words such as `before 1 0 until after 2 0`.
+    /// Adds a delay by words such as `before 1 0 until after 2 0`.
     fn push(&mut self, words: &[u8]) -> Result<(), PlayFault> {
         let (at, until) = moments_of(words)?;
         let delay = Delay {
@@ -99,7 +99,7 @@ impl Delays {
         self.all.is_empty()
     }
 
-    /// Whether each delay came about, and no seat gave up.
+    /// True if each delay took place, and no seat gave up.
     pub(crate) fn are_kept(&self) -> bool {
         for delay in &self.all {
             if !delay.is_kept() {
@@ -149,7 +149,7 @@ impl SectionGate for Delays {
     }
 }
 
-/// Delays at the steps of clients that take turns: where a client has the turn and is to wait, it stands still with it.
+/// Delays at the events of clients that take turns: a client that has the turn and is delayed keeps it.
 #[derive(Drop)]
 pub(crate) struct InTurns<'a, R: Wait> {
     turns: Turns<'a, R>,
@@ -166,7 +166,7 @@ impl<'a, R: Wait> InTurns<'a, R> {
         }
     }
 
-    /// Behind a run nobody waits, and no section has woken more than two clients.
+    /// Checks that after a run nobody waits, and no section has woken more than two clients.
     pub(crate) fn are_over(&self) -> Result<(), PlayFault> {
         if self.turns.waiting() != 0 {
             return Err(PlayFault::Wrong("a client still waits"));

@@ -17,16 +17,16 @@ use std::io::{BufReader, Read, Write};
 use std::sync::Wait;
 use std::thread::Threads;
 
-/// How commands are answered: they are a script that is run, or those of a conversation.
+/// How commands are executed: as a script, or in a conversation.
 #[derive(Clone, Copy)]
 enum Means {
     /// In one thread.
     Book,
     /// In threads over a lock.
     Locked,
-    /// In threads over a head, where a call is given up after so many lost exchanges.
+    /// In threads over a head; a call gives up after this many lost exchanges.
     Head(u32),
-    /// The same, where clients take turns.
+    /// The same, with clients that take turns.
     Turns(u32),
     /// Line by line.
     Talk,
@@ -43,14 +43,14 @@ const MEANS: &[(&str, Means)] = &[
     ("frames", Means::Frames),
 ];
 
-/// What is told of a run.
+/// What is shown of a run.
 #[derive(Clone, Copy)]
 enum Told {
     /// What it writes, with its history.
     Answers,
     /// How its calls were answered.
     Counts,
-    /// What stands there behind its reader and its writer, which may fail.
+    /// The bytes that arrived from its reader and its writer, which may fail.
     Ends,
 }
 
@@ -70,7 +70,7 @@ const ENDLESS: Sizes = Sizes {
     times: 0,
 };
 
-/// A script or commands of a conversation, and where the seats of a run wait for each other.
+/// A script or commands of a conversation, and the delays of the seats of a run.
 #[derive(Drop)]
 struct Run {
     manner: Manner,
@@ -78,7 +78,8 @@ struct Run {
     commands: Vec<u8>,
 }
 
-/// Runs the script, or answers the conversation, of the lines of an entry, and appends what is told of it.
+/// Runs the script, or answers the conversation, of the lines of an entry, and appends what is to be shown of
+/// it.
 pub(crate) fn append_run<R: Threads + Wait + Sync>(
     rt: &R,
     entry: Entry<'_>,
@@ -102,7 +103,7 @@ fn run_of(alloc: Global, entry: Entry<'_>) -> Result<Run, PlayFault> {
     })
 }
 
-/// The run that a line tells, as `run head 3 counts`, or `ends talk: 9 1 9 1 0`.
+/// Parses a run from a line such as `run head 3 counts` or `ends talk: 9 1 9 1 0`.
 fn manner_of(entry: Entry<'_>) -> Result<Manner, PlayFault> {
     let (_, words) = split_word(entry.first);
     if matches!(entry.play, Play::Ends) {
@@ -171,7 +172,8 @@ impl Run {
         answer(rt, alloc, self.manner, &self.delays, &mut reader, writer)
     }
 
-    /// Appends what is told of a run that has ended so. One that wants memory, as its writer may, is played again.
+    /// Appends what is to be shown of a run that has ended like this. A run that runs out of memory, as its
+    /// writer may, is tried again.
     fn append_told(
         &self,
         ended: Result<(), PlayFault>,
@@ -190,7 +192,7 @@ impl Run {
         }
     }
 
-    /// A run that wants memory has written nothing.
+    /// Checks that a run that ran out of memory has written nothing.
     fn is_well(&self, ended: Result<(), PlayFault>, written: &[u8]) -> Result<(), PlayFault> {
         match ended {
             Err(PlayFault::Memory) if !written.is_empty() => {
@@ -231,7 +233,7 @@ fn answer<T: Threads + Wait + Sync, R: Read, W: Write>(
     }
 }
 
-/// What stands there; or how the run failed, and how many bytes stand there.
+/// Appends the bytes that arrived, or how the run failed and how many bytes arrived.
 fn append_ends(
     ended: Result<(), PlayFault>,
     written: &[u8],
@@ -258,7 +260,7 @@ fn append_written(told: Told, written: &[u8], text: &mut Vec<u8>) -> Result<(), 
     }
 }
 
-/// How many calls were accepted, refused and busy.
+/// Appends how many calls were accepted, refused and busy.
 fn counts_text(alloc: Global, answers: &[u8]) -> Result<String, AllocError> {
     let accepted = count(answers, b"ok ");
     let refused = count(answers, b"refused ");
@@ -266,7 +268,7 @@ fn counts_text(alloc: Global, answers: &[u8]) -> Result<String, AllocError> {
     format!(in alloc; "accepted {accepted} refused {refused} busy {busy}\n")
 }
 
-/// How many lines begin so.
+/// Counts the lines that begin with these bytes.
 fn count(text: &[u8], front: &[u8]) -> u32 {
     let mut count = 0_u32;
     for line in text.lines() {

@@ -23,15 +23,15 @@ pub(crate) struct Seating {
 const NO_SEAT: PlayFault = PlayFault::Wrong("no such seat");
 
 impl Seating {
-    /// The sizes are the number of seats, the calls of each, the tries of a call, and how many calls
-    /// lie between two versions.
+    /// Makes a head. The sizes are the number of seats, the calls of each, the tries of a call, and the
+    /// positions from one snapshot to the next.
     pub(crate) fn new(alloc: Global, sizes: [u32; 4]) -> Result<Seating, HeadFault> {
         let [seats, per_seat, tries, every] = sizes;
         let (head, seats) = Head::new(alloc, seats, per_seat, tries, every)?;
         Ok(Seating { head, seats })
     }
 
-    /// Does what a line says of one seat or two, and appends what is told.
+    /// Executes a line about one seat or two, and appends the result.
     pub(crate) fn append_told(
         &mut self,
         play: Play,
@@ -49,7 +49,7 @@ impl Seating {
         }
     }
 
-    /// How many calls a seat has seen, and how many of its own were accepted.
+    /// Appends how many calls a seat has seen, and how many of its own were accepted.
     fn append_seen(&self, number: u32, text: &mut Vec<u8>) -> Result<(), PlayFault> {
         let seat = self.seat(number)?;
         let (position, accepted) = (seat.position(), seat.accepted());
@@ -59,18 +59,18 @@ impl Seating {
         )
     }
 
-    /// How many versions a seat has adopted, but at meetings.
+    /// Appends how many snapshots a seat has installed from slots.
     fn append_adopted(&self, number: u32, text: &mut Vec<u8>) -> Result<(), PlayFault> {
         let adopted = self.seat(number)?.adopted();
         append_words(format!(in *text.allocator(); "adopted {adopted}\n"), text)
     }
 
-    /// A seat hands on what it has seen.
+    /// Lets the seat publish what it has seen.
     fn hand_on(&self, number: u32) -> Result<(), PlayFault> {
         Ok(self.head.hand_on(self.seat(number)?)?)
     }
 
-    /// What a seat has seen.
+    /// Appends what a seat has seen.
     fn append_history(&self, number: u32, text: &mut Vec<u8>) -> Result<(), PlayFault> {
         match self.head.history(self.seat(number)?) {
             Ok(history) => append_bytes(history_text(*text.allocator(), &history), text),
@@ -87,7 +87,7 @@ impl Seating {
         }
     }
 
-    /// Keeps a call and asks it at a seat.
+    /// Stores a call and executes it at a seat.
     pub(crate) fn ask<R: Wait>(
         &mut self,
         rt: &R,
@@ -116,7 +116,7 @@ impl Seating {
         Ok(text.extend_from_slice(b"met\n")?)
     }
 
-    /// The first seat meets the second.
+    /// Synchronises the first seat with the second.
     fn meet(&mut self, first: u32, second: u32) -> Result<(), PlayFault> {
         if first == second || find(&self.seats, first).is_none() {
             return Err(NO_SEAT);

@@ -31,7 +31,7 @@ pub(crate) enum Value {
     Numbers(Numbers),
 }
 
-/// What an argument is read as.
+/// The kind of value as which an argument is read.
 #[derive(Clone, Copy)]
 pub(crate) enum Kind {
     /// Bytes.
@@ -42,10 +42,10 @@ pub(crate) enum Kind {
     Lines,
     Tree,
     Label,
-    /// A label, and each argument behind it one more.
+    /// A label; each argument after it is one more.
     Labels,
     Named,
-    /// A primitive; or a catch, where it is written as one.
+    /// A primitive; or a catch, if it is written as one.
     NamedOrCatch,
     List,
     Contexted,
@@ -56,8 +56,8 @@ pub(crate) enum Kind {
     Numbers,
 }
 
-/// The arguments of a call, of these kinds. One that is missing has an empty text, and further ones are passed over;
-/// but labels are all that stand there, or none.
+/// Reads the arguments of a call, of these kinds. A missing one has an empty text, and further ones are
+/// skipped; but labels are all that are there, or none.
 pub(crate) fn read_values(
     table: &Table,
     kinds: &[Kind],
@@ -79,7 +79,7 @@ fn read_labels(table: &Table, texts: &[&[u8]]) -> Result<Value, NotationError> {
     Ok(Value::Labels(labels))
 }
 
-/// The value of the first of some texts. A list or a tree may be called by its name.
+/// Returns the value of the first of some texts. A list or a tree may be given by its name.
 fn read_value(table: &Table, kind: Kind, texts: &[&[u8]]) -> Result<Value, NotationError> {
     let (alloc, text) = (table.alloc(), first_of(texts));
     match kind {
@@ -102,7 +102,7 @@ fn first_of<'a>(texts: &[&'a [u8]]) -> &'a [u8] {
     }
 }
 
-/// The value of a text that tells of patches.
+/// Reads a value that consists of patches from a text.
 fn read_patches(table: &Table, kind: Kind, text: &[u8]) -> Result<Value, NotationError> {
     let (alloc, known) = (table.alloc(), table.known());
     match kind {
@@ -118,7 +118,7 @@ fn read_patches(table: &Table, kind: Kind, text: &[u8]) -> Result<Value, Notatio
     }
 }
 
-/// Whether a text is written as a catch.
+/// True if a text is written as a catch.
 fn is_of_catch(text: &[u8]) -> bool {
     matches!(text.first(), Some(b'[' | b'('))
 }

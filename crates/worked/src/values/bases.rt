@@ -14,7 +14,7 @@ use std::alloc::AllocError;
 use std::fmt::Display;
 use std::io::ErrorKind;
 
-/// What bytes are as a name, a path or a line, or in which words they are refused.
+/// Appends the bytes as a name, a path or a line, or the words with which they are rejected.
 pub(crate) fn answer(table: &Table, call: Call, bytes: &[u8]) -> Outcome {
     match call {
         Call::Name => displayed(table, Name::new(bytes)),
@@ -37,7 +37,7 @@ fn line(table: &Table, bytes: &[u8]) -> Outcome {
     }
 }
 
-/// In which words bytes are refused.
+/// Appends the words with which bytes are rejected.
 fn refused(table: &Table, fault: BaseFault) -> Outcome {
     match fault {
         BaseFault::Memory => Err(NotationError::Memory),
@@ -45,8 +45,9 @@ fn refused(table: &Table, fault: BaseFault) -> Outcome {
     }
 }
 
-/// The words of faults: of bytes, of a change, of a run, of one over a lock, of a head, of a call and of an
-/// answer's writer, and of want of memory for a script. A fault in a line of a script is not among them.
+/// Appends the words of faults: of bytes, of a change, of a run, of one over a lock, of a head, of a call and
+/// of an answer's writer, and of a script that runs out of memory. A fault in a line of a script is not among
+/// them.
 pub(crate) fn faults(table: &Table) -> Outcome {
     let mut text = String::new(table.alloc());
     match append_faults(&mut text) {
@@ -79,7 +80,7 @@ fn append_faults(text: &mut String) -> Result<(), AllocError> {
     append_words(text, &[ScriptFault::Memory])
 }
 
-/// The words of some faults, behind those that stand there.
+/// Appends the words of some faults.
 fn append_words<T: Display>(text: &mut String, faults: &[T]) -> Result<(), AllocError> {
     let mut between = if text.is_empty() { "" } else { "; " };
     for fault in faults {

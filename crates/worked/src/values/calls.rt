@@ -1,4 +1,4 @@
-//! Values: the calls: their names, what they are asked on, and where their results come from.
+//! Values: the calls: their names, the kinds of their arguments, and the modules of their results.
 use crate::tables::Table;
 use crate::values::arguments::{Kind, Value, read_values};
 use crate::values::results::{Outcome, word};
@@ -140,7 +140,7 @@ const CALLS: &[(&str, (Call, &[Kind]))] = &[
     ),
 ];
 
-/// The result of a call, by its name and the text of its arguments.
+/// Returns the result of a call, by its name and the text of its arguments.
 pub(crate) fn answer(table: &Table, name: &[u8], text: &[u8]) -> Outcome {
     match meaning_of(CALLS, name) {
         Some((call, kinds)) => answer_text(table, call, kinds, text),
@@ -154,7 +154,7 @@ fn answer_text(table: &Table, call: Call, kinds: &[Kind], text: &[u8]) -> Outcom
     answer_values(table, call, &values)
 }
 
-/// The result of a call, which is looked for by the kind of its first argument.
+/// Returns the result of a call, from the module for the kind of its first argument.
 fn answer_values(table: &Table, call: Call, values: &[Value]) -> Outcome {
     match values {
         [] => bases::faults(table),

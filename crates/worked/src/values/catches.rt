@@ -10,7 +10,7 @@ use camp_prim::{Key, Label};
 use camp_share::{Shared, SharedMap};
 use std::alloc::AllocError;
 
-/// The result of a call on a catch.
+/// Returns the result of a call on a catch.
 pub(crate) fn answer(table: &Table, call: Call, j: &Catch, behind: &[Value]) -> Outcome {
     match behind {
         [] => tell(table, j.try_clone()),
@@ -22,7 +22,7 @@ pub(crate) fn answer(table: &Table, call: Call, j: &Catch, behind: &[Value]) -> 
     }
 }
 
-/// The result of a call on a list of catches.
+/// Returns the result of a call on a list of catches.
 pub(crate) fn answer_list(
     table: &Table,
     call: Call,
@@ -50,7 +50,7 @@ fn aligned(table: &Table, list: &[Shared<Catch>], labels: &[Label]) -> Outcome {
     tell_list(table, align(table.alloc(), list, &order))
 }
 
-/// What is made of a list, or what stands in its way.
+/// Shows what is made of a list, or what blocks it.
 fn tell_list<T: Shown + Drop, O: Obstacle>(table: &Table, made: Result<T, Unmade<O>>) -> Outcome {
     match made {
         Ok(list) => show(table, &list),
@@ -59,7 +59,7 @@ fn tell_list<T: Shown + Drop, O: Obstacle>(table: &Table, made: Result<T, Unmade
     }
 }
 
-/// What stands in the way of a list.
+/// Shows what blocks a list.
 trait Obstacle: Copy {
     fn words(self, table: &Table) -> Result<String, AllocError>;
 }
@@ -82,7 +82,7 @@ impl Obstacle for NoMerge {
     }
 }
 
-/// Words, each with an absolute label behind it: a label without a caret.
+/// Appends words, each followed by an absolute label: a label without a caret.
 fn words_of_keys(table: &Table, words: &[(&str, Key)]) -> Result<String, AllocError> {
     let mut text = String::new(table.alloc());
     for (word, key) in words {

@@ -5,7 +5,7 @@ use crate::values::calls::{Call, no_such_call};
 use crate::values::results::{Outcome, tell, word};
 use camp_ctx::{Contexted, CtxSet, conflict};
 
-/// The result of a call on a contexted patch.
+/// Returns the result of a call on a contexted patch.
 pub(crate) fn answer(table: &Table, _call: Call, x: &Contexted, behind: &[Value]) -> Outcome {
     match behind {
         [] => tell(table, x.try_clone()),
@@ -14,7 +14,7 @@ pub(crate) fn answer(table: &Table, _call: Call, x: &Contexted, behind: &[Value]
     }
 }
 
-/// The result of a call on a set. An absolute label is written as a label without a caret.
+/// Returns the result of a call on a set. An absolute label is written as a label without a caret.
 pub(crate) fn answer_set(table: &Table, call: Call, set: &CtxSet, behind: &[Value]) -> Outcome {
     match behind {
         [] => match call {

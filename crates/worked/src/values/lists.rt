@@ -7,7 +7,7 @@ use camp_base::Tree;
 use camp_ctx::{Contexted, CtxSet, merge_behind_common};
 use camp_seq::{Seq, apply_all, clean_merge, front, invert_all, norm, past_all, split};
 
-/// The result of a call on a list of primitives.
+/// Returns the result of a call on a list of primitives.
 pub(crate) fn answer(table: &Table, call: Call, list: &Seq, behind: &[Value]) -> Outcome {
     match behind {
         [] => alone(table, call, list),

@@ -1,4 +1,4 @@
-//! Shared lists of numbers, which are written as the rows that they are made of: `0..40 66..67`.
+//! Shared lists of numbers, written as the ranges that they are made of: `0..40 66..67`.
 
 use crate::words::number_of;
 use bstr::ByteSlice;
@@ -6,7 +6,7 @@ use camp_notation::NotationError;
 use camp_share::{Share, SharedList};
 use std::alloc::{AllocError, Global};
 
-/// An element, whose copies take no memory.
+/// An element, whose copies do not allocate.
 #[derive(Clone, Copy, PartialEq, Eq, Drop)]
 pub(crate) struct Number(pub(crate) u32);
 
@@ -18,12 +18,12 @@ impl Share for Number {
 
 pub(crate) type Numbers = SharedList<Number>;
 
-/// The number of a text.
+/// Parses a number.
 pub(crate) fn read_number(text: &[u8]) -> Result<u32, NotationError> {
     number_of(text).ok_or(NotationError::BadNumber)
 }
 
-/// The list of a text.
+/// Parses a list.
 pub(crate) fn read_numbers(alloc: Global, text: &[u8]) -> Result<Numbers, NotationError> {
     let mut items = Vec::new(alloc);
     for row in text.fields() {
@@ -42,7 +42,7 @@ fn push_row(items: &mut Vec<Number>, row: &[u8]) -> Result<(), NotationError> {
     Ok(())
 }
 
-/// The text of a list.
+/// Renders a list.
 pub(crate) fn numbers_text(alloc: Global, numbers: &Numbers) -> Result<String, AllocError> {
     let mut text = String::new(alloc);
     let mut row = Row { from: 0, to: 0 };
@@ -58,7 +58,7 @@ pub(crate) fn numbers_text(alloc: Global, numbers: &Numbers) -> Result<String, A
     Ok(text)
 }
 
-/// Numbers of which each is one more than that before it.
+/// Makes numbers, each one more than the one before it.
 #[derive(Clone, Copy)]
 struct Row {
     from: u32,

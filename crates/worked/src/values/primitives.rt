@@ -9,7 +9,7 @@ use camp_prim::{Named, commute};
 use camp_seq::past;
 use std::alloc::AllocError;
 
-/// The result of a call on a primitive.
+/// Returns the result of a call on a primitive.
 pub(crate) fn answer(table: &Table, call: Call, p: &Named, behind: &[Value]) -> Outcome {
     match behind {
         [] => alone(table, call, p),

@@ -1,4 +1,4 @@
-//! Values: how results are shown, and read back.
+//! Values: showing results, and reading them back.
 use crate::tables::Table;
 use crate::values::numbers::{Numbers, numbers_text};
 use crate::words::words_of;
@@ -14,13 +14,13 @@ use camp_seq::Seq;
 use camp_share::Shared;
 use std::alloc::AllocError;
 
-/// The result of a call, or in which words it is refused.
+/// The result of a call, or the words with which it is rejected.
 pub(crate) type Outcome = Result<String, NotationError>;
 
-/// What a result may be. A contexted patch, a set, a catch and a list of catches are read back, and it
-/// is told where that gives another.
+/// A value that can be a result. A contexted patch, a set, a catch and a list of catches are read back; a
+/// difference is shown.
 pub(crate) trait Shown {
-    /// The text of the value.
+    /// Shows the text of the value.
     fn shown(&self, table: &Table) -> Outcome;
 }
 
@@ -100,7 +100,7 @@ impl Shown for bool {
     }
 }
 
-/// A result, or none.
+/// Shows a result, or none.
 impl<T: Shown> Shown for Option<T> {
     fn shown(&self, table: &Table) -> Outcome {
         match self {
@@ -110,7 +110,7 @@ impl<T: Shown> Shown for Option<T> {
     }
 }
 
-/// Two results, one behind the other.
+/// Shows two results, one after the other.
 impl<T: Shown, U: Shown> Shown for (T, U) {
     fn shown(&self, table: &Table) -> Outcome {
         both(table, &self.0, &self.1)
@@ -141,7 +141,7 @@ fn are_same(list: &[Shared<Catch>], other: &[Shared<Catch>]) -> bool {
     list.len() == other.len()
 }
 
-// A text, and whether it is read back as the value that it was written for.
+// Shows a text, and whether it is read back as the value for which it was written.
 fn read_back(text: String, is_same: bool) -> Outcome {
     let mut text = text;
     if !is_same {
@@ -150,7 +150,7 @@ fn read_back(text: String, is_same: bool) -> Outcome {
     Ok(text)
 }
 
-/// What a call makes, unless memory is wanted.
+/// Returns what a call makes, unless memory ran out.
 pub(crate) fn tell<T: Shown + Drop>(table: &Table, made: Result<T, AllocError>) -> Outcome {
     match made {
         Ok(value) => show(table, &value),
@@ -158,7 +158,7 @@ pub(crate) fn tell<T: Shown + Drop>(table: &Table, made: Result<T, AllocError>) 
     }
 }
 
-/// The text of a value, or `made` where values are not shown.
+/// Shows the text of a value, or `made` if values are not shown.
 pub(crate) fn show<T: Shown>(table: &Table, value: &T) -> Outcome {
     if table.is_quiet() {
         word(table, "made")
@@ -167,7 +167,7 @@ pub(crate) fn show<T: Shown>(table: &Table, value: &T) -> Outcome {
     }
 }
 
-/// A word as it is.
+/// Shows a word as it is.
 pub(crate) fn word(table: &Table, text: &str) -> Outcome {
     told(String::from_str(table.alloc(), text))
 }
@@ -176,7 +176,7 @@ pub(crate) fn none(table: &Table) -> Outcome {
     word(table, "none")
 }
 
-/// A text, unless memory is wanted.
+/// Shows a text, unless memory ran out.
 pub(crate) fn told(text: Result<String, AllocError>) -> Outcome {
     match text {
         Ok(text) => Ok(text),
@@ -184,8 +184,8 @@ pub(crate) fn told(text: Result<String, AllocError>) -> Outcome {
     }
 }
 
-/// The tree that a change leaves, or in which words it is refused. A change that is refused and yet
-/// leaves another tree is told.
+/// Shows the tree that a change gives, or the words with which it is rejected. A change that is rejected and
+/// yet leaves another tree is reported.
 pub(crate) fn changed(
     table: &Table,
     before: &Tree,

@@ -7,7 +7,7 @@ use crate::values::numbers::{Number, Numbers};
 use crate::values::results::{Outcome, none, tell};
 use camp_share::Share;
 
-/// The result of a call on a shared list, or none where it has no such place.
+/// Returns the result of a call on a shared list, or none if an index is past its end.
 pub(crate) fn answer(table: &Table, call: Call, list: &Numbers, behind: &[Value]) -> Outcome {
     match behind {
         [] => tell(table, list.share()),
@@ -47,7 +47,7 @@ fn replaced(table: &Table, list: &Numbers, at: usize, number: Number) -> Outcome
     tell(table, list.replaced(at, number))
 }
 
-/// A list with another one in place of a range.
+/// Returns a list with a range replaced by another list.
 fn spliced(table: &Table, list: &Numbers, from: usize, to: usize, items: &Numbers) -> Outcome {
     let items = items.to_vec()?;
     if from > to || to > list.len() {

@@ -1,9 +1,9 @@
-//! Values: the text of arguments, cut at its commas.
+//! Values: splits the text of arguments at its commas.
 ghost use Rattle.std.specs.Prelude.{◌≤◌, length};
 
 use std::alloc::{AllocError, Global};
 
-/// Where a byte stands: in how many brackets, and whether between quotes.
+/// The state at a byte: the number of open brackets, and whether it is in quotes.
 #[derive(Clone, Copy)]
 struct Nesting {
     depth: u32,
@@ -41,8 +41,8 @@ impl Nesting {
     }
 }
 
-/// The arguments of a text: what stands between commas that are in no brackets and no quotes, each with a blank
-/// behind it. Behind a comma without one all is passed over.
+/// Splits a text into arguments at commas outside brackets and quotes, each followed by a blank. After a
+/// comma without a blank the rest is skipped.
 pub(crate) fn split(alloc: Global, text: &[u8]) -> Result<Vec<&[u8]>, AllocError> {
     let mut parts = Vec::new(alloc);
     let mut rest = text;
@@ -57,7 +57,7 @@ pub(crate) fn split(alloc: Global, text: &[u8]) -> Result<Vec<&[u8]>, AllocError
     Ok(parts)
 }
 
-// How many bytes the first argument of a text has.
+// Counts the bytes of the first argument of a text.
 fn argument_len(text: &[u8]) -> usize
     ensures { result ≤ length text.now }
 {

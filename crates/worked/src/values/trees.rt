@@ -8,7 +8,7 @@ use camp_notation::lines_text;
 use camp_share::SharedList;
 use std::alloc::AllocError;
 
-/// The result of a call on a tree.
+/// Returns the result of a call on a tree.
 pub(crate) fn answer(table: &Table, call: Call, tree: &Tree, behind: &[Value]) -> Outcome {
     match behind {
         [] => match call {
@@ -58,7 +58,7 @@ fn remove_file(table: &Table, before: &Tree, path: &Path) -> Outcome {
     changed(table, before, tree, answer)
 }
 
-/// Lines in place of others.
+/// Replaces lines by others.
 fn splice(
     table: &Table,
     before: &Tree,

@@ -11,7 +11,7 @@ returns-in-Ok c =
     let done : ComeToFront branch grown = (c.in-Ok.field-0.first.items, c.in-Ok.field-0.rest.items, c.in-Ok.ensures.exact) in
     all_grown (map name_of branch) (ComeToFront branch) (StickOn branch) (to_front branch) (names_in c.args.names) grown c.loop-grown.invariant done
 
--- what stops the names
+-- what blocks the names
 stops : (c : In-Err-Blocked) → StickOn c.args.list.now (names_in c.loop-grown.grown) c.in-Err-Blocked.stuck.on.name
 stops c =
     let stuck = rw c.in-Err-Blocked.field-0-is at c.in-Err-Blocked.ensures.exact in

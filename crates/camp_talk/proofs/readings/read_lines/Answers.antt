@@ -43,7 +43,7 @@ loop-is_whole-preserved g c =
     next_on a b (g.R.Read.remaining c.read_next.new.reader) c.loop-is_whole.bytes.items c.read_next.new.bytes.items c.loop-is_whole.command c.read_next.new.command on
     c.in_ok-is_whole-2.is_whole c.in_ok-is_whole-2.ensures.next
 
--- all lines are handed on
+-- all lines are processed
 all : (g : Over) (c : After-finish g) → IsHanded (g.R.Read.remaining c.args.reader.now) (g.R.Read.remaining c.loop-is_whole.reader) c.loop-is_whole.is_whole c.loop-is_whole.bytes.items c.loop-is_whole.command
 all g c =
     all_on _ _ c.loop-is_whole.bytes.items c.loop-is_whole.command c.loop-is_whole.is_whole c.loop-is_whole.invariant (λ whole. enough whole)

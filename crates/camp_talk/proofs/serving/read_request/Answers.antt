@@ -6,7 +6,7 @@ use Rattle.camp_talk.proofs.serving.read_request.Given.{Over}
 use Rattle.camp_talk.proofs.serving.read_request.Goals.{After-is_empty, After-request_len}
 use Rattle.camp_talk.proofs.serving.read_request.Goals as goal
 
--- the input ended in the line or behind it
+-- the input ended in the line or after it
 cut : (g : Over) (c : After-is_empty g)
     → Takes (g.R.Read.remaining c.args.reader.now) (g.R.Read.remaining c.read_front.new.reader) 1_048_577 seen.End c.new-line.result.items
     c.read_front.new.text.items
@@ -15,7 +15,7 @@ cut g c =
     subst (λ (whole : Bool). Takes (g.R.Read.remaining c.args.reader.now) (g.R.Read.remaining c.read_front.new.reader) 1_048_577 (last_seen whole) c.new-line.result.items
     c.read_front.new.text.items) last c.in_ok-read_front.ensures.front
 
--- the line was read with its LF
+-- the line was read with its line feed
 line : (g : Over) (c : After-request_len g)
     → Takes (g.R.Read.remaining c.args.reader.now) (g.R.Read.remaining c.read_front.new.reader) 1_048_577 seen.Line c.new-line.result.items
     c.read_front.new.text.items

@@ -6,7 +6,7 @@ use Rattle.camp_talk.proofs.serving.write_frame.Given.{Over}
 use Rattle.camp_talk.proofs.serving.write_frame.Goals.{After-write_part}
 use Rattle.camp_talk.proofs.serving.write_frame.Goals as goal
 
--- the number of bytes, the line end and the bytes are the frame
+-- the number of bytes, the line feed and the bytes are the frame
 frame : (g : Over) (c : After-write_part g) → c.as_bytes.result.now ++ 10 ∷ c.args.answer.now ≡ framed c.args.answer.now
 frame g c =
     let digits : c.as_bytes.result.now ≡ decimal (length c.args.answer.now) = search rules in

@@ -7,7 +7,7 @@ use Rattle.camp_talk.specs.Whys.{line_at}
 use Rattle.camp_talk.proofs.told_faults.line_at.Goals.{After-nth}
 use Rattle.camp_talk.proofs.told_faults.line_at.Goals as goal
 
--- what stands at the place of the line
+-- the line at the index
 there : (c : After-nth) → without_end (unwrap_or (option_map (λ line. line.now) c.nth.result) []) ≡ line_at c.args.number (lines_of c.args.command.now)
 there c =
     let lines = c.lines_with_terminator.result in

@@ -16,13 +16,13 @@ use Rattle.camp_kept.proofs.kept.Kept.open.Goals as goal
 handed : (g : Over) (c : After-begin g) → texts_of c.in-Ok.found.0.texts.items ≡ texts_of c.deref.result.now
 handed g c = ap texts_of (sym c.deref.ensures.value)
 
--- the log keeps them
+-- the log persists them
 keeps : (g : Over) (c : After-begin g) → IsReading (g.D.Disk.seen c.args.disk) c.in-Ok.found.0 → KeepsTexts g.D.Disk.seen g.D.Disk.may_leave (texts_of c.deref.result.now) c.in-Ok-open.log
 keeps g c is =
     subst (λ ts. KeepsTexts g.D.Disk.seen g.D.Disk.may_leave ts c.in-Ok-open.log) (handed g c)
     (c.in-Ok-open.ensures.keeps (subst (λ f. IsReading f c.in-Ok.found.0) (sym c.in-Ok.ensures.seen) is) c.in-Ok.ensures.settled)
 
--- behind the title it keeps those of the calls
+-- after the title it has those of the calls
 all : (g : Over) (c : In-Ok-begin g) → KeepsTexts g.D.Disk.seen g.D.Disk.may_leave (texts_of c.deref.result.now) c.in-Ok-open.log → KeepsTexts g.D.Disk.seen g.D.Disk.may_leave (store_texts (calls_of c.in-Ok.found.1)) c.in-Ok-begin.log
 all g c keeps =
     c.in-Ok-begin.ensures.keeps (calls_of c.in-Ok.found.1) (subst (λ ts. AreTexts ts (calls_of c.in-Ok.found.1)) (ap texts_of (sym c.deref.ensures.value)) c.in-Ok.ensures.recalled.are) keeps

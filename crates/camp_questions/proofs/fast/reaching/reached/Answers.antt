@@ -5,7 +5,7 @@ use Rattle.camp_questions.proofs.ReachedPatches.{goes_apart_from, step_aside, st
 use Rattle.camp_questions.proofs.fast.reaching.reached.Goals.{else-not-index, then-not-index+in_ok-comes_before+else-branch}
 use Rattle.camp_questions.proofs.fast.reaching.reached.Goals as goal
 
--- a place that was looked up is marked so
+-- an index that was read as marked is marked
 told : (marks : List Bool) (place : ℕ) (r b : Bool) → place < length marks → r ≡ get_or marks place r → r ≡ b → is_marked marks place ≡ b
 told marks place r b within is e = get_or_default marks place false r within ∙ sym is ∙ e
 
@@ -23,7 +23,7 @@ loop-all_below-init c =
       reaches = λ branch inverted known. step_first branch c.args.patches.now inverted c.args.known.now known c.requires.next marks c.index-patches-own.result c.in_ok-going.going.catches.items c.index-patches-own.is first c.in_ok-going.ensures.catches;
     }
 
--- the own patch, and one before it
+-- the patch itself, and one before it
 pub going_first-requires : goal.going_first-requires
 going_first-requires c =
     has_files c.requires.known.0 c.args.patches.now c.requires.known.1 c.args.files.now c.requires.files c.requires.each (length c.args.known.now) c.index-patches-own.result c.index-patches-own.result c.index-files-own.result c.index-files-own.result c.requires.next c.index-patches-own.is c.index-files-own.is
