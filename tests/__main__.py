@@ -4,7 +4,7 @@ python3 -m tests --list              a line for each test: what it shows, its se
 python3 -m tests NAME ..             runs some: golden/shell, or a folder: golden
 python3 -m tests NAME -- WORD ..     gives words to one test: golden/shell -- conversations
 python3 -m tests --help NAME         what a test shows, and the words that it takes
-python3 -m tests --programs          runs all tests that the gate runs before and after the proofs
+python3 -m tests --programs          runs the tests of the gate that build nothing
 python3 -m tests --gate              the whole gate, as .ci/run does
 
 The exit status is 0 if nothing was wrong. JOBS is how many programs run at once: as many as there are processors if not set.
@@ -30,7 +30,7 @@ def main(words):
     if options == ["--gate"]:
         return gate.run_all()
     if options == ["--programs"]:
-        return gate.run_tests([it for it in registry.all_tests() if it.gate in (registry.BEFORE, registry.AFTER)])
+        return gate.run_tests([it for it in registry.all_tests() if it.gate != registry.NEVER and it.seconds < 100])
     tests = registry.named(names)
     if tests is None or options not in ([], ["--help"]) or (given and len(tests) != 1):
         print("python3 -m tests: no such test or option; --list has all tests", file=sys.stderr)
@@ -48,7 +48,7 @@ def main(words):
 
 def print_list():
     for it in registry.all_tests():
-        print(f"{it.name:28} {it.seconds:5} s  {it.gate:7} {it.shows}")
+        print(f"{it.name:28} {it.seconds:5} s  {it.gate:22} {it.shows}")
     return 0
 
 

@@ -1,5 +1,6 @@
 """Runs tests side by side, and the merge gate: proofs and tests together, with a line a minute that says where it is."""
 
+import contextlib
 import glob
 import os
 import re
@@ -13,8 +14,8 @@ from concurrent.futures import ThreadPoolExecutor
 
 from tests import registry
 from tests.harness import programs
-from tests.harness.crates import uses_of
-from tests.harness.paths import TOP
+from tests.harness.crates import below, uses_of
+from tests.harness.paths import TOP, read, write_text
 
 # A test that takes so many times the seconds that it says, and so many seconds at least, counts as hanging.
 PATIENCE, LEAST = 20, 1800
@@ -26,11 +27,13 @@ COUNTS = re.compile(r"^(\d+) passed, (\d+) failed$", re.M)
 
 
 class Progress:
-    """What runs, what is done and what is left."""
+    """What runs, what is done, what is left, and how long the parts took."""
 
     def __init__(self, total):
-        self.started, self.last, self.lock = time.time(), time.time(), threading.Lock()
-        self.running, self.passed, self.failed, self.left, self.crates = {}, 0, 0, total, 0
+        self.started, self.last, self.lock, self.tree = time.time(), time.time(), threading.Lock(), None
+        self.running, self.passed, self.failed, self.left = {}, 0, 0, total
+        # The seconds of each part, and the processor seconds of each process that proves a crate.
+        self.seconds, self.proving, self.proved = {}, {}, set()
         threading.Thread(target=self.watch, daemon=True).start()
 
     def tell(self, text):
@@ -42,9 +45,19 @@ class Progress:
     def watch(self):
         while True:
             time.sleep(1)
+            self.note_proofs()
             if time.time() - self.last >= QUIET:
                 running = ", ".join(f"{name} ({time.time() - since:.0f} s)" for name, since in sorted(self.running.items()))
-                self.tell(f"running: {running}; {self.crates} crates proved, {self.passed} passed, {self.failed} failed, {self.left} parts left")
+                self.tell(f"running: {running}; {len(self.proved)} crates proved, {self.passed} passed, {self.failed} failed, {self.left} parts left")
+
+    def note_proofs(self):
+        """Notes the processor seconds of what runs in the folders of the tree's crates: a check, which ends unseen."""
+        for process in os.listdir("/proc") if self.tree else ():
+            with contextlib.suppress(OSError, IndexError):
+                folder = os.readlink(f"/proc/{process}/cwd").removeprefix(f"{self.tree}/crates/")
+                if not folder.startswith("/"):
+                    times = read(f"/proc/{process}/stat").rpartition(b")")[2].split()[11:13]
+                    self.proving[folder.split("/")[0], process] = sum(map(int, times)) / os.sysconf("SC_CLK_TCK")
 
     def begin(self, name):
         with self.lock:
@@ -52,7 +65,7 @@ class Progress:
 
     def end(self, name, passed, failed):
         with self.lock:
-            del self.running[name]
+            self.seconds[name] = time.time() - self.running.pop(name)
             self.passed, self.failed, self.left = self.passed + passed, self.failed + failed, self.left - 1
 
     def finish(self):
@@ -60,6 +73,18 @@ class Progress:
         failed = self.failed + self.left
         print(f"{self.passed} passed, {failed} failed", flush=True)
         return 1 if failed else 0
+
+    def write_times(self, path):
+        """Writes what took how long, as tables of a page."""
+        crates = {}
+        for (name, _), seconds in self.proving.items():
+            crates[name] = crates.get(name, 0) + seconds
+        rows = [f"| Part | Seconds |\n|---|---|\n| all, on {os.cpu_count()} processors | {time.time() - self.started:.0f} |"]
+        rows += [f"| {name} | {seconds:.0f} |" for name, seconds in sorted(self.seconds.items(), key=lambda it: -it[1])]
+        rows += ["\n| Check | Processor seconds |\n|---|---|"]
+        rows += [f"| {name} | {seconds:.0f} |" for name, seconds in sorted(crates.items(), key=lambda it: -it[1])]
+        os.makedirs(os.path.dirname(path), exist_ok=True)
+        write_text(path, "\n".join([*rows, ""]))
 
 
 def run_one(test, progress, words=(), niceness=0, title=None):
@@ -70,6 +95,9 @@ def run_one(test, progress, words=(), niceness=0, title=None):
     with tempfile.TemporaryFile() as output:
         how = {"cwd": TOP, "stdin": subprocess.DEVNULL, "stdout": output, "stderr": subprocess.STDOUT, "start_new_session": True}
         ran = programs.start(command, **how)
+        # Where the system shares processors by sessions, niceness counts within one: the session gives way too.
+        with contextlib.suppress(OSError):
+            write_text(f"/proc/{ran.pid}/autogroup", str(niceness))
         try:
             ran.wait(timeout=max(LEAST, PATIENCE * test.seconds))
         except subprocess.TimeoutExpired:
@@ -83,56 +111,65 @@ def run_one(test, progress, words=(), niceness=0, title=None):
     progress.tell(f"{text}\n{title}: {'passed' if is_well else 'FAILED'}, {progress.left} parts left")
 
 
-def side_by_side(tests, progress):
+def run_tests(tests):
     """Runs tests, the longest first, as many at once as there are processors."""
+    progress = Progress(len(tests))
     with ThreadPoolExecutor(programs.JOBS) as pool:
         list(pool.map(lambda it: run_one(it, progress, it.gate_words), sorted(tests, key=lambda it: -it.seconds)))
-
-
-def run_tests(tests):
-    progress = Progress(len(tests))
-    side_by_side(tests, progress)
     return progress.finish()
 
 
 def run_all():
-    """The merge gate. Proofs need hours of a processor, so what needs none runs beside them and gives way to them; the mutants of
-    a crate are tried as soon as it is proved; what needs the proved programs runs after them."""
-    phases = {phase: [it for it in registry.all_tests() if it.gate == phase] for phase in (registry.BEFORE, registry.BESIDE, registry.AFTER)}
-    (mutants,) = [it for it in phases[registry.BESIDE] if it.name == "mutants/proof"]
-    crates = [it for it in uses_of() if glob.glob(f"{TOP}/crates/{it}/must-fail/*.edit")]
-    progress = Progress(sum(map(len, phases.values())) + len(crates))
+    """The merge gate. Proofs need hours of a processor, so what needs none of them runs beside them and gives way to them, what is short
+    first; the mutants of a crate are tried once the crates below it are proved, and a test runs once the programs that it needs are."""
+    tests = [it for it in registry.all_tests() if it.gate != registry.NEVER]
+    (mutants,) = [it for it in tests if it.name == "mutants/proof"]
+    beside = sorted((it for it in tests if it.gate == registry.BESIDE and it is not mutants), key=lambda it: it.seconds)
+    after = sorted((it for it in tests if it.gate.startswith(registry.AFTER)), key=lambda it: -it.seconds)
+    uses = uses_of()
+    # What waits for crates, the longest first: the crates, the test, its words, niceness and title.
+    waiting = [(set(it.gate.split()[1:]) or set(uses), it, it.gate_words, 0, it.name) for it in after]
+    progress = Progress(len(beside) + len(waiting) + 1)
     subprocess.run(["rt", "version"], check=True)
-    side_by_side(phases[registry.BEFORE], progress)
-    with tempfile.TemporaryDirectory(prefix="gate-") as folder, ThreadPoolExecutor(len(phases[registry.BESIDE])) as beside:
-        tree = f"{folder}/tree"
+    with tempfile.TemporaryDirectory(prefix="gate-") as folder, ThreadPoolExecutor(programs.JOBS) as others, ThreadPoolExecutor(programs.JOBS) as pool:
+        os.environ["CAMP_TREE"] = progress.tree = f"{folder}/tree"
+        for crate in (it for it in uses if glob.glob(f"{TOP}/crates/{it}/must-fail/*.edit")):
+            waiting.append((below(crate, uses), mutants, ["--over", progress.tree, crate], 10, f"{mutants.name} {crate}"))
+            progress.left += 1
         # `rt ci` would prove a crate once more for each mutant of must-fail/, so they are tried beside it, many in one check.
-        shutil.copytree(TOP, tree, symlinks=True, ignore=shutil.ignore_patterns(".git", "out", "must-fail", "__pycache__"))
-        for it in phases[registry.BESIDE]:
-            if it is not mutants:
-                beside.submit(run_one, it, progress, it.gate_words, 10)
-        with ThreadPoolExecutor(programs.JOBS) as pool:
-            try_mutants = lambda crate: pool.submit(run_one, mutants, progress, ["--over", tree, crate], 10, f"{mutants.name} {crate}")
-            prove(tree, progress, lambda crate: try_mutants(crate) if crate in crates else None)
-            os.environ["CAMP_TREE"] = tree
-            side_by_side(phases[registry.AFTER], progress)
+        shutil.copytree(TOP, progress.tree, symlinks=True, ignore=shutil.ignore_patterns(".git", "out", "must-fail", "__pycache__"))
+        for it in beside:
+            others.submit(run_one, it, progress, it.gate_words, 10)
+
+        def start_ready(*_):
+            for it in [it for it in waiting if it[0] <= progress.proved]:
+                waiting.remove(it)
+                pool.submit(run_one, it[1], progress, *it[2:])
+
+        start_ready()
+        if prove(progress, start_ready):
+            progress.proved.update(uses)
+        start_ready()
+        for *_, title in waiting:
+            progress.tell(f"{title}: not run, since a crate that it needs is not proved")
+    progress.write_times(f"{TOP}/out/gate-times.md")
     return progress.finish()
 
 
-def prove(tree, progress, when_proved):
-    """Runs `rt ci` on the tree, prints its lines, and takes over its counts."""
+def prove(progress, when_proved):
+    """Runs `rt ci` on the tree, prints its lines, and takes over its counts. Whether it passed."""
     progress.begin("rt ci")
-    ran = programs.start(["rt", "ci"], cwd=tree, stdin=subprocess.DEVNULL, stderr=subprocess.STDOUT)
-    seen, counts = set(), (0, 1)
+    ran = programs.start(["rt", "ci"], cwd=progress.tree, stdin=subprocess.DEVNULL, stderr=subprocess.STDOUT)
+    counts = (0, 1)
     for line in ran.stdout:
         text = line.decode(errors="replace").rstrip()
         progress.tell(text)
         proved, found = PROVED.match(text), COUNTS.match(text)
-        if proved and proved[1] not in seen:
-            seen.add(proved[1])
-            progress.crates = len(seen)
-            when_proved(proved[1])
+        if proved:
+            progress.proved.add(proved[1])
+            when_proved()
         counts = tuple(map(int, found.groups())) if found else counts
     status = ran.wait()
     passed, failed = counts
     progress.end("rt ci", passed, max(failed, 1) if status else failed)
+    return status == 0

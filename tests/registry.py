@@ -7,8 +7,8 @@ import os
 from tests.harness.paths import TOP
 
 HERE = f"{TOP}/tests"
-# When the gate runs a test: before the proofs, beside them, after them, or not at all.
-BEFORE, BESIDE, AFTER, NEVER = "before", "beside", "after", "never"
+# When the gate runs a test: beside the proofs, after those of the programs that are named behind it (of all, if none is), or not at all.
+BESIDE, AFTER, NEVER = "beside", "after", "never"
 
 
 class Test:

@@ -13,9 +13,9 @@ import time
 
 from tests.harness import programs, tracing
 from tests.harness.paths import read, write
-from tests.harness.store import TITLE, Store, calls, encode, oks
+from tests.harness.store import TITLE, Store, calls, encode, oks, overwrite
 
-SECONDS, GATE = 30, "after"
+SECONDS, GATE = 30, "after camp_shell"
 # Each call after the answer to the one before, or all in one batch.
 WAYS = (True, False)
 BEFORE, MORE = 2, 3
@@ -250,7 +250,3 @@ def images_before(synced, pending):
         for before in images_before(synced, pending[:-1])
         for image in (before, *(overwrite(before, at, it) for it in (data, data[: len(data) // 2], os.urandom(len(data)))))
     ]
-
-
-def overwrite(content, at, data):
-    return content[:at].ljust(at, b"\0") + data + content[at + len(data) :]

@@ -12,7 +12,7 @@ from concurrent.futures import ThreadPoolExecutor
 from tests.harness import programs
 from tests.harness.scripts import Chance, Maker
 
-SECONDS, GATE = 6, "after"
+SECONDS, GATE = 6, "after camp_shell"
 
 
 def run(report, words):

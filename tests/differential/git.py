@@ -14,7 +14,7 @@ from tests.harness.conversation import responses
 from tests.harness.paths import EXAMPLES, read, write
 from tests.harness.scripts import script_of
 
-SECONDS, GATE = 14, "after"
+SECONDS, GATE = 14, "after camp_shell"
 # A branch of so many copies is asked in one conversation.
 STEP = 60
 

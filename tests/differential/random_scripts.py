@@ -13,7 +13,7 @@ from concurrent.futures import ThreadPoolExecutor
 from tests.harness import golden, programs
 from tests.harness.scripts import script_of
 
-SECONDS, GATE = 1, "after"
+SECONDS, GATE = 1, "after camp"
 
 
 def run(report, words):

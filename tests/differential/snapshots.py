@@ -9,7 +9,7 @@ import re
 from tests.harness import programs
 from tests.harness.paths import WORKED, read
 
-SECONDS, GATE = 3, "after"
+SECONDS, GATE = 3, "after worked"
 GREAT = b"table seats-of-a-great-head\nhead 64 65536 1 1\n63 names main\n"
 
 

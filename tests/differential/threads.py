@@ -7,7 +7,7 @@ branches of their own, or on one branch, where every second name is one that eac
 from tests.harness import programs
 from tests.harness.scripts import example_scripts, script_of, table_scripts
 
-SECONDS, GATE = 4, "after"
+SECONDS, GATE = 4, "after worked"
 # Clients, records of each, and whether all write one branch.
 CROWDS = ((8, 50, False), (63, 1, False), (2, 1000, True), (4, 1000, True), (63, 10, True))
 
@@ -26,7 +26,8 @@ def run(report, words):
     wanted = answers(program, b"book counts", crowds)
     for way in (b"locked counts", b"head 1000 counts"):
         compare(report, way, crowds, answers(program, way, crowds), wanted)
-    histories(report, b"head 1000", program, crowds, answers(program, b"head 1000", crowds))
+    for way in (b"locked", b"head 1000"):
+        histories(report, way, program, crowds, answers(program, way, crowds))
 
 
 def answers(program, way, scripts):

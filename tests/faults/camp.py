@@ -10,7 +10,7 @@ from tests.harness import golden, programs
 from tests.harness.camp import Camp
 from tests.harness.paths import EXAMPLES, read
 
-SECONDS, GATE = 8, "after"
+SECONDS, GATE = 8, "after camp"
 # Address spaces in KiB, from one in which no script is answered to one with room for threads.
 SIZES = (8000, 10000, 12000, 14000, 16000, 20000, 24000, 32000, 64000, 1000000)
 
@@ -34,7 +34,7 @@ def ends(camp):
         unreadable(camp, flags)
         unwritable(camp, script, flags)
     with open("/dev/full", "wb") as full:
-        camp.expect("help, to a full device", written(camp.run(script, ["--help"], stdout=full)), b"", b"cannot write output", 3)
+        camp.expect("help, to a full device", written(camp.run(script, ["--help"], stdout=full)), b"", b"cannot write output: No space left on device (os error 28)", 3)
         # A mistake in the command line is found before anything is read, a fault before anything is written, and no answers
         # are always written.
         wanted = next(golden.unescape(error) for flags, error in golden.rows("refused_options") if flags == "--tries 0")

@@ -4,9 +4,7 @@ Words: torn, changed, fails, refused name parts; all: each part tries all that i
 """
 
 import os
-import resource
 import shutil
-import signal
 import subprocess
 import tempfile
 
@@ -14,7 +12,7 @@ from tests.harness import programs
 from tests.harness.paths import read, write
 from tests.harness.store import NO_STORE, TITLE, Store, calls, encode, oks
 
-SECONDS, GATE = 25, "after"
+SECONDS, GATE = 25, "after camp_shell"
 
 
 def run(report, words):
@@ -121,30 +119,20 @@ def changed_byte(store, content, starts, at, value):
         store.expect(f"byte {at}: refused, the file as it was", (done.returncode, done.stdout, read(path) == image), (3, b"", True))
 
 
-def limit_files(size):
-    """A file that grows past the size fails a write, or has it written in part."""
-
-    def limit():
-        signal.signal(signal.SIGXFSZ, signal.SIG_IGN)
-        resource.setrlimit(resource.RLIMIT_FSIZE, (size, size))
-
-    return limit
-
-
 def fails(store):
     """The file cannot grow past a size: a write fails, or is cut, at each byte of a batch."""
     path, batch = store.path("fails"), b"".join(calls(3, 1))
     before, grown = encode([TITLE, *calls(1)]), encode([TITLE, *calls(4)])
     for size in [*range(len(before), len(grown), 1 if store.is_all else 5), len(grown)]:
         write(path, before)
-        done = store.run(path, batch, preexec_fn=limit_files(size))
+        done = store.run(path, batch, preexec_fn=programs.limit_files(size))
         if size < len(grown):
             store.expect(f"full at {size}", (done.returncode, done.stdout, store.check(path)), (3, b"", 1))
             done = store.run(path, batch)
         store.expect(f"room at {size}", (done.returncode, done.stdout, read(path)), (0, oks(4, 2), grown))
         store.count("full files")
     write(path, before)
-    peer = store.start(path, preexec_fn=limit_files(len(grown)))
+    peer = store.start(path, preexec_fn=programs.limit_files(len(grown)))
     for n in range(3):
         programs.send(peer, calls(1, 1 + n)[0])
         store.expect("answer", peer.stdout.readline(), b"ok %d\n" % (n + 2))

@@ -18,7 +18,7 @@ try:
 except ImportError:
     sqlite3 = None
 
-SECONDS, GATE = 5, "after"
+SECONDS, GATE = 5, "after camp_shell"
 CALL = b"record main p9 add f9\n"
 STORE = [b"camp store 1\n", b"record main p0 add f0\n", b"record main p1 add f1\n"]
 # Another process has a database open: it has written to it, says so, and goes on where a line comes.

@@ -1,9 +1,12 @@
-"""An operation makes as many allocations as crates/worked/allocations says, on a small value and on a large one.
+"""An operation makes as many allocations as crates/worked/allocations says, on a small value and on a large one; or takes a time like its size.
 
 What two tables allocate, one without the operation and one with it, differs by what it allocates; the program with a failing
-allocation tells how many it can still make after a table.
+allocation tells how many it can still make after a table. A row `grows` has two sizes and the lines of a table: its time
+grows with the size, give or take a factor of two.
 """
 
+import re
+import resource
 import subprocess
 from concurrent.futures import ThreadPoolExecutor
 
@@ -11,7 +14,10 @@ from tests.harness import programs
 from tests.harness.paths import WORKED, read_text
 from tests.harness.worked import REFUSED, failing_program
 
-SECONDS, GATE = 4, "after"
+SECONDS, GATE = 15, "beside"
+
+
+GROWS = re.compile(r"^grows (\d+) (\d+) \| (.*)\n", re.M)
 
 
 class Row:
@@ -46,6 +52,7 @@ def filled(text, size):
         "RECORDS": "\n".join(f"0 record main {name(at)} add {name(at)}" for at in range(size)),
         "FILES": ", ".join(f"{name(at)}: []" for at in range(size)),
         "LINES": ", ".join(["line"] * size),
+        "CHAIN": ", ".join(f"c{at} f 1 [l{at}] -> [l{at + 1}]" for at in range(size)),
         "FILE": name(size // 2),
         "LAST": name(size - 1),
         "HALF": str(size // 2),
@@ -72,9 +79,30 @@ def count_of(program, row):
     return without - rest if is_done else answer
 
 
+def seconds_of(program, table):
+    """The least seconds of a processor that the program takes for a table, of three runs."""
+    ends = [used_seconds()]
+    for _ in range(3):
+        programs.run([program], table)
+        ends.append(used_seconds())
+    return min(end - start for start, end in zip(ends, ends[1:]))
+
+
+def used_seconds():
+    used = resource.getrusage(resource.RUSAGE_CHILDREN)
+    return used.ru_utime + used.ru_stime
+
+
 def run(report, words):
-    program, rows = failing_program(), list(rows_of(read_text(f"{WORKED}/allocations")))
+    text = read_text(f"{WORKED}/allocations")
+    program, rows = failing_program(), list(rows_of(GROWS.sub("", text)))
     with ThreadPoolExecutor(programs.JOBS) as pool:
         for row, count in zip(rows, pool.map(lambda it: count_of(program, it), rows)):
             report.expect(row.title, count, row.count)
             report.count("operations")
+    for small, large, lines in GROWS.findall(text):
+        table = "table x\nquiet\n" + lines.replace("; ", "\n") + "\n"
+        times = [seconds_of(program, filled(table, int(size))) for size in (small, large)]
+        if times[1] > 2 * times[0] * int(large) / int(small):
+            report.fail(f"{lines}: {times[0]:.2f} s at {small}, {times[1]:.2f} s at {large}")
+        report.count("times")

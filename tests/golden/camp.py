@@ -10,9 +10,9 @@ import re
 
 from tests.harness import golden
 from tests.harness.camp import Camp
-from tests.harness.paths import DATA, EXAMPLES, read
+from tests.harness.paths import DATA, EXAMPLES, TOP, read
 
-SECONDS, GATE = 16, "after"
+SECONDS, GATE = 16, "after camp"
 
 
 def run(report, words):
@@ -80,10 +80,13 @@ def command_lines(camp):
 
 
 def help_text(camp):
-    """The help text is all that is written, and its example is answered as it says."""
-    text, script = read(f"{DATA}/help"), read(f"{EXAMPLES}/fault.camp")
-    for flags in ("--help", "-h", "--serial --help", "--help extra"):
-        camp.answers("options:", script, text, [flags.split()])
+    """The help text, short and long, or the version is all that is written; the example of the long one is answered as it says."""
+    text, short, script = read(f"{DATA}/help"), read(f"{DATA}/short_help"), read(f"{EXAMPLES}/fault.camp")
+    version = b"camp " + read(f"{TOP}/VERSION")
+    texts = {"--help": text, "--serial --help": text, "--help extra": text, "-h": short, "--serial -h": short, "--version": version,
+             "-V": version, "--serial --version": version, "-V extra": version}
+    for flags, wanted in texts.items():
+        camp.answers("options:", script, wanted, [flags.split()])
     example = re.search(rb"^The script\n(.*)^is answered by\n(.*?)^Commands, ", text, re.M | re.S)
     answers = b"".join(it for it in example[2].splitlines(keepends=True) if it.strip())
     camp.answers("the example of the help text", example[1], answers)

@@ -6,7 +6,7 @@ that is built already; else clients/build builds it, over the tree that CAMP_TRE
 
 from tests.harness.clients import Clients
 
-SECONDS, GATE = 60, "after"
+SECONDS, GATE = 60, "after camp_c"
 PARTS = ("c", "memory", "sanitized", "rust", "python")
 
 

@@ -21,9 +21,9 @@ import sys
 import tempfile
 
 from tests.harness import programs
-from tests.harness.paths import TOP
+from tests.harness.paths import TOP, read_text
 
-SECONDS, GATE = 20, "after"
+SECONDS, GATE = 20, "after camp camp_shell"
 BLOCK = re.compile(r"^```(console|camp)( new)?\n(.*?)^```$", re.M | re.S)
 ANY_BLOCK = re.compile(r"^```.*?^```$", re.M | re.S)
 MARK = "== end of command "
@@ -67,8 +67,8 @@ def run_console(commands, path):
             if entry != ".git":
                 os.symlink(f"{TOP}/{entry}", f"{folder}/{entry}")
         script = "".join(f"{command}\necho '{MARK}{at}'\n" for at, (command, _) in enumerate(commands))
-        done = subprocess.run(["bash"], input=script, text=True, errors="replace", stdout=subprocess.PIPE,
-                              stderr=subprocess.STDOUT, cwd=folder, env={**os.environ, "PATH": path}, timeout=300)
+        how = {"text": True, "errors": "replace", "stderr": subprocess.STDOUT, "cwd": folder, "env": {**os.environ, "PATH": path}}
+        done = programs.run(["bash"], script, **how)
     at, lines = 0, []
     for line in done.stdout.splitlines():
         if line == f"{MARK}{at}":
@@ -78,110 +78,81 @@ def run_console(commands, path):
             lines.append(line)
 
 
-def check_console(page, blocks, path):
-    """How many commands of a page write something else than it shows."""
+def check_console(report, page, blocks, path):
     commands = [it for block in blocks for it in commands_of(block)]
-    wrong = 0
     results = list(run_console(commands, path))
     for (command, wanted), lines in zip(commands, results):
         if not is_match(wanted, lines):
-            wrong += 1
-            report(page, command, wanted, lines)
-    if len(results) != len(commands):
-        wrong += 1
-        print(f"docs: {page}: the session ended after {len(results)} of {len(commands)} commands")
-    return wrong
+            differ(report, page, command, wanted, lines)
+    report.expect(f"{page}: commands that came to their end", len(results), len(commands))
 
 
-def check_conversation(page, text, shell):
-    """1 where a conversation of a page has other answers than it shows, else 0."""
+def check_conversation(report, page, text, shell):
+    """Compares the answers of a conversation with those that a page shows; `ok NUMBER` may be left out there."""
     lines = [it for it in text.splitlines() if it]
     commands = [it for it in lines if not it.startswith("#")]
     wanted = [it[2:] for it in lines if it.startswith("#")]
-    done = subprocess.run([shell], input="".join(f"{it}\n" for it in commands), text=True, errors="replace",
-                          stdout=subprocess.PIPE, stderr=subprocess.STDOUT, timeout=300)
-    left = list(wanted)
-    for line in done.stdout.splitlines():
-        if left and left[0] == line:
-            left.pop(0)
+    how = {"text": True, "errors": "replace", "stderr": subprocess.STDOUT}
+    for line in programs.run([shell], "".join(f"{it}\n" for it in commands), **how).stdout.splitlines():
+        if wanted and wanted[0] == line:
+            wanted.pop(0)
         elif not re.fullmatch(r"ok \d+", line):
-            report(page, f"answer {len(wanted) - len(left) + 1}", left[:3], [line])
-            return 1
-    if left:
-        report(page, "end of the conversation", left[:3], [])
-    return 1 if left else 0
+            return differ(report, page, "an answer", wanted[:3], [line])
+    if wanted:
+        differ(report, page, "the end of the conversation", wanted[:3], [])
 
 
-def report(page, what, wanted, lines):
-    print(f"docs: {page}: {what}")
-    for sign, side in (("-", wanted), ("+", lines)):
-        for line in side[:12]:
-            print(f"    {sign} {line}")
+def differ(report, page, what, wanted, lines):
+    report.fail("\n    ".join([f"{page}: {what}", *(f"- {it}" for it in wanted[:12]), *(f"+ {it}" for it in lines[:12])]))
 
 
 def prose(page):
     """The text of a page without its blocks."""
-    with open(page, encoding="utf-8") as it:
-        return ANY_BLOCK.sub("", it.read())
+    return ANY_BLOCK.sub("", read_text(page))
 
 
 def anchors(page):
     """The anchors of a page's headings."""
-    found = set()
     for heading in re.findall(r"^#+ (.*)$", prose(page), re.M):
         text = re.sub(r"\[([^]]*)\]\([^)]*\)", r"\1", heading).lower().strip()
-        found.add(re.sub(r"[^\w\- ]", "", text).replace(" ", "-"))
-    return found
+        yield re.sub(r"[^\w\- ]", "", text).replace(" ", "-")
 
 
-def check_links(page):
-    """How many links of a page lead nowhere."""
-    wrong = 0
+def check_links(report, page):
+    """Each link of a page leads to a file, and to a heading of it."""
     for link in re.findall(r"\]\(([^)\s]+)\)", prose(page)):
         path, _, anchor = link.partition("#")
         target = os.path.normpath(os.path.join(os.path.dirname(page), path)) if path else page
-        if re.match(r"https?:", link):
-            continue
-        if not os.path.exists(target) or (anchor and target.endswith(".md") and anchor not in anchors(target)):
-            wrong += 1
-            print(f"docs: {page}: the link {link} leads nowhere")
-    return wrong
+        is_outside = re.match(r"https?:", link)
+        if not is_outside and (not os.path.exists(target) or (anchor and target.endswith(".md") and anchor not in anchors(target))):
+            report.fail(f"{page}: the link {link} leads nowhere")
 
 
-def check_pictures():
-    """How many pictures are not what their scripts draw."""
-    scripts = sorted(glob.glob("docs/pictures/*.py"))
-    return sum(subprocess.run([sys.executable, it, "--check"]).returncode != 0 for it in scripts)
-
-
-def check_page(page, shell, path):
-    """How many sessions and commands of a page there are, and how many differ."""
-    with open(f"{TOP}/{page}", encoding="utf-8") as it:
-        found = BLOCK.findall(it.read())
-    consoles = [text for kind, _, text in found if kind == "console"]
-    conversations = []
+def check_page(report, page, shell, path):
+    found = BLOCK.findall(read_text(page))
+    consoles, conversations = [text for kind, _, text in found if kind == "console"], []
     for _, new, text in (it for it in found if it[0] == "camp"):
         if new or not conversations:
             conversations.append("")
         conversations[-1] += text
-    wrong = check_console(page, consoles, path) if consoles else 0
-    wrong += sum(check_conversation(page, it, shell) for it in conversations)
-    return len(found), wrong
+    if consoles:
+        check_console(report, page, consoles, path)
+    for it in conversations:
+        check_conversation(report, page, it, shell)
+    report.count("blocks", len(found))
+    report.count("pages")
 
 
-def run(test, pages):
+def run(report, words):
     shell, camp = programs.path("camp_shell"), programs.path("camp")
-    all_pages = not pages
-    pages = pages or sorted([*glob.glob("*.md"), *glob.glob("docs/*.md"), "examples/README.md",
-                             *glob.glob("clients/**/README.md", recursive=True), *glob.glob("crates/*/README.md")])
-    wrong = sum(check_links(it) for it in pages) + (check_pictures() if all_pages else 0)
+    folders = ("*", "docs/*", "examples/*", "clients/**/*", "crates/*/README")
+    pages = words or sorted({it for folder in folders for it in glob.glob(f"{folder}.md", recursive=True)})
+    for page in pages:
+        check_links(report, page)
+    for script in [] if words else sorted(glob.glob("docs/pictures/*.py")):
+        report.expect(script, programs.run([sys.executable, script, "--check"]).returncode, 0)
     with tempfile.TemporaryDirectory(prefix="docs-bin-") as folder:
         for name, target in (("camp_shell", shell), ("camp", camp)):
             os.symlink(target, f"{folder}/{name}")
         for page in pages:
-            count, bad = check_page(page, shell, f"{folder}:{os.environ['PATH']}")
-            wrong += bad
-            test.count("blocks", count)
-    test.count("pages", len(pages))
-    if wrong:
-        test.fail(f"{wrong} sessions, links or pictures differ")
+            check_page(report, page, shell, f"{folder}:{os.environ['PATH']}")

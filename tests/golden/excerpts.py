@@ -9,7 +9,7 @@ import re
 
 from tests.harness.paths import read_text
 
-SECONDS, GATE = 1, "before"
+SECONDS, GATE = 1, "beside"
 BLOCK = re.compile(r"^```rust\n(.*?)^```$", re.M | re.S)
 
 

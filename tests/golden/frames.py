@@ -1,11 +1,11 @@
-"""camp_shell answers requests in frames: good ones, garbage, each prefix, 10,000 that are awaited, and a client in Python."""
+"""camp_shell answers requests in frames: good ones, garbage, each prefix, 200,000 at once, 10,000 that are awaited, a client in Python."""
 
 import sys
 
 from tests.harness import programs
 from tests.harness.paths import EXAMPLES, read
 
-SECONDS, GATE = 4, "after"
+SECONDS, GATE = 6, "after camp_shell"
 CLIENT = f"{EXAMPLES}/clients/camp_client.py"
 NO_NUMBER = b"camp_shell: the line before a request is no number of 1 to 10 digits\n"
 TOO_LARGE = b"camp_shell: a request has more than 268435456 bytes\n"
@@ -48,7 +48,9 @@ def run(report, words):
     report.count("requests", len(REQUESTS))
     garbage(report, ask)
     prefixes(report, ask)
-    waiting_peer(report, program, 10_000)
+    many = programs.many(program, 200_000)
+    report.expect_run(f"{many} requests at once", ask(frame(b"names main") * many), frame(b"names 0\n") * many)
+    waiting_peer(report, program, programs.many(program, 10_000))
     done = programs.run([sys.executable, CLIENT, program])
     report.expect_run("the client in Python", done, read(f"{CLIENT}.stdout"))
 

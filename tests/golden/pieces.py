@@ -9,7 +9,7 @@ import time
 
 from tests.harness import programs
 
-SECONDS, GATE = 30, "after"
+SECONDS, GATE = 30, "after camp_shell"
 COMMANDS = [
     b"record main a add f\n",
     b"# a note on an edit of a group\n",

@@ -1,6 +1,6 @@
 """camp_shell's conversations are answered byte by byte: examples, short ones, loaded files, and lines at their limits.
 
-Words: examples, conversations, loads, lines name parts; none: all, and also a peer that waits for each answer, and many questions.
+Words: examples, conversations, loads, lines, options name parts; none: all, and also a peer that waits for each answer, and many questions.
 """
 
 import os
@@ -11,7 +11,7 @@ from tests.harness import golden, programs
 from tests.harness.conversation import ask
 from tests.harness.paths import DATA, EXAMPLES, TOP, read, read_text
 
-SECONDS, GATE = 10, "after"
+SECONDS, GATE = 10, "after camp_shell"
 
 
 class Shell:
@@ -32,9 +32,21 @@ class Shell:
 
 def run(report, words):
     shell = Shell(report)
-    parts = {"examples": examples, "conversations": conversations, "loads": loads, "lines": lines, "peers": peers}
+    parts = {"examples": examples, "conversations": conversations, "loads": loads, "lines": lines, "peers": peers, "options": options}
     for name in words or parts:
         parts[name](shell)
+
+
+def options(shell):
+    """The help text, short and long, or the version is all that is written."""
+    short, version = read(f"{DATA}/shell_short_help"), b"camp_shell " + read(f"{TOP}/VERSION")
+    for flags, wanted in (("-h", short), ("--version", version), ("-V", version), ("--frames -V", version), ("-h extra", short)):
+        done = programs.run([shell.program, *flags.split()], b"branches\n")
+        shell.report.expect_run(f"options: {flags}", done, wanted)
+        shell.report.count("options")
+    long = programs.run([shell.program, "--help"]).stdout
+    for it in re.findall(rb"^ .*(--[\w-]+)", short, re.M) + [b"Exit status:"]:
+        shell.report.expect(f"the long help has {it}", it in long, True)
 
 
 def examples(shell):
@@ -155,8 +167,21 @@ def endless_line(shell):
 
 
 def peers(shell):
-    waiting_peer(shell, 10_000)
-    many_questions(shell, 70_000)
+    blocked_input(shell)
+    waiting_peer(shell, programs.many(shell.program, 10_000))
+    many_questions(shell, programs.many(shell.program, 70_000))
+
+
+def blocked_input(shell):
+    """An input that would block, in each form: the program says so and ends. One that asked again would use up its second."""
+    for form in ([], ["--frames"]):
+        end, other = os.pipe()
+        os.set_blocking(end, False)
+        done = programs.run(programs.limited([shell.program, *form], t=1), stdin=end)
+        os.close(end), os.close(other)
+        told = done.stderr.startswith(b"camp_shell: cannot read input: ")
+        shell.report.expect(f"an input that would block {form}", (done.stdout, told, done.returncode), (b"", True, 3))
+        shell.report.count("inputs that would block")
 
 
 def waiting_peer(shell, count):

@@ -1,10 +1,9 @@
 """A store has the documented bytes: each kind of call, frames, prompts, exports and refused words; 300,000 calls are reopened.
 
-Words: whole, forms, pieces, long name parts; all: cuts the input of `pieces` at each byte.
+Words: whole, forms, long name parts.
 """
 
 import os
-import selectors
 import subprocess
 import tempfile
 import time
@@ -13,14 +12,14 @@ from tests.harness import programs
 from tests.harness.paths import read, write
 from tests.harness.store import TITLE, Store, calls, digest_of, encode, long_script, oks
 
-SECONDS, GATE = 20, "after"
+SECONDS, GATE = 20, "after camp_shell"
 
 
 def run(report, words):
-    parts = {"whole": whole, "forms": forms, "pieces": pieces, "long": long}
-    for name in [it for it in words if it in parts] or parts:
+    parts = {"whole": whole, "forms": forms, "long": long}
+    for name in words or parts:
         with tempfile.TemporaryDirectory(prefix="store-") as folder:
-            parts[name](Store(report, folder, "all" in words))
+            parts[name](Store(report, folder))
             report.count("parts")
 
 
@@ -113,57 +112,9 @@ def refused_words(store, path):
     store.expect("files beside it", sorted(os.listdir(store.folder)), ["store", "text"])
 
 
-def pieces(store):
-    """Commands come in two pieces, cut at each byte: no answer is buffered while the second one is awaited."""
-    commands = [
-        b"record main a add f\n",
-        b"# a note on an edit of a group\n",
-        b"\n",
-        b"record main b edit f 1\n+one\nend\n",
-        b"record main q group\nadd g\nedit g 1\n+done\n+end\nend\ndone\n",
-        b"record main edit add group\n",
-        b"record main r edit f 1\nnonsense\nend\n",
-        b"record main s group\nadd g\nnonsense\ndone\n",
-        b"names main\n",
-    ]
-    text, answers = b"".join(commands), [b"ok 1\n", b"", b"", b"ok 2\n", b"ok 3\n", b"ok 4\n"]
-    found = programs.run([store.program], text).stdout
-    rest = found[len(b"".join(answers)) :]
-    fault = rest.index(b"fault", 1)
-    answers += [rest[:fault], rest[fault : rest.index(b"names")], rest[rest.index(b"names") :]]
-    store.expect("answers", found, b"".join(answers))
-    for cut in range(0, len(text) + 1, 1 if store.is_all else 4):
-        ready = sum(1 for n in range(1, len(commands) + 1) if len(b"".join(commands[:n])) <= cut)
-        two_pieces(store, text, cut, b"".join(answers[:ready]), b"".join(answers))
-        store.count("cuts")
-
-
-def two_pieces(store, text, cut, ready, answers):
-    path = store.path(f"cut-{cut}")
-    peer = store.start(path)
-    programs.send(peer, text[:cut])
-    found = read_until(peer.stdout, len(ready))
-    store.expect(f"cut at {cut}", found, ready)
-    store.expect(f"cut at {cut}, and the rest", found + peer.communicate(text[cut:])[0], answers)
-    os.remove(path)
-
-
-def read_until(stream, size):
-    """So many bytes of a pipe; fewer where they have not come in the time after which a program counts as hanging."""
-    found, until = b"", time.time() + programs.TIMEOUT
-    with selectors.DefaultSelector() as selector:
-        selector.register(stream, selectors.EVENT_READ)
-        while len(found) < size and selector.select(max(0, until - time.time())):
-            piece = os.read(stream.fileno(), size - len(found))
-            if not piece:
-                break
-            found += piece
-    return found
-
-
 def long(store):
     """Stores of many calls, made in a pipe and opened again; their seconds."""
-    for number in (65536, 300000):
+    for number in (programs.many(store.program, 65_536), programs.many(store.program, 300_000)):
         path, load, what = store.path(f"long-{number}"), store.path("text"), f"{number} calls"
         text = b"".join(long_script(number))
         write(load, text)

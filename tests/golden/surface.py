@@ -14,7 +14,7 @@ import re
 
 from tests.harness.paths import DATA, TOP, read_text
 
-SECONDS, GATE = 1, "before"
+SECONDS, GATE = 1, "beside"
 SECTION = "## Public surface"
 # What a caller sees under another name, or does not see.
 LIFETIME = re.compile(r"'\w+\s*,?\s*")

@@ -1,14 +1,50 @@
 """Builds the library for other languages, and programs of its clients."""
 
+import fcntl
 import os
 import shutil
 import subprocess
 import tempfile
 
-from tests.harness import programs
+from tests.harness import programs, unproved
 from tests.harness.paths import TOP, read
 
 WARNINGS = ["-std=c11", "-D_GNU_SOURCE", "-Wall", "-Wextra", "-Werror", "-O2"]
+
+
+def built_library(report, makes=False):
+    """The folder of the library: that which CAMP_LIB_DIR names; else clients/build makes it over the tree that CAMP_TREE names, once
+    for each tree; else what ./build or clients/build has made, unless a source is newer, or clients/build makes it now, if that
+    is wanted. None where there is none."""
+    named, tree, folder = os.environ.get("CAMP_LIB_DIR"), os.environ.get("CAMP_TREE"), f"{TOP}/out/clients"
+    if named:
+        return os.path.abspath(named)
+    if not tree:
+        made = [it for it in (f"{TOP}/out/lib", folder) if unproved.is_newer(f"{it}/libcamp.so")]
+        if made or not makes:
+            return made[0] if made else None
+    os.makedirs(f"{TOP}/out", exist_ok=True)
+    with open(f"{folder}.lock", "a+", encoding="utf-8") as lock:
+        fcntl.flock(lock, fcntl.LOCK_EX)
+        lock.seek(0)
+        if not tree or lock.read() != tree:
+            done = programs.run(["clients/build", *(["--over", tree] if tree else [])], cwd=TOP, timeout=6 * programs.TIMEOUT)
+            if done.returncode:
+                report.fail(f"the library was not built: {(done.stdout + done.stderr).decode(errors='replace')[-3000:]}")
+                return None
+            lock.truncate(0)
+            lock.write(tree or "")
+    return folder
+
+
+def stand_in_library(folder):
+    """Compiles clients/c/tests/stand_in.c as both libraries."""
+    source, include = f"{TOP}/clients/c/tests/stand_in.c", f"{TOP}/clients/c/include"
+    flags = [*WARNINGS, "-fPIC", "-I", include]
+    subprocess.run(["cc", *flags, "-c", source, "-o", f"{folder}/stand_in.o"], check=True)
+    subprocess.run(["ar", "rcs", f"{folder}/libcamp.a", f"{folder}/stand_in.o"], check=True)
+    subprocess.run(["cc", "-shared", "-Wl,-soname,libcamp.so.0", f"{folder}/stand_in.o", "-o", f"{folder}/libcamp.so"], check=True)
+    os.remove(f"{folder}/stand_in.o")
 
 
 class Clients:
@@ -27,14 +63,10 @@ class Clients:
         self.temporary.cleanup()
 
     def is_built(self):
-        if not os.environ.get("CAMP_LIB_DIR"):
-            tree = os.environ.get("CAMP_TREE")
-            done = self.call(["clients/build", *(["--over", tree] if tree else [])])
-            if done.returncode:
-                self.report.fail(f"the library was not built: {done.stdout.decode(errors='replace')[-3000:]}")
-                return False
-            self.environment["CAMP_LIB_DIR"] = done.stdout.decode().split()[-1]
-        return True
+        found = built_library(self.report, makes=True)
+        if found:
+            self.environment["CAMP_LIB_DIR"] = found
+        return bool(found)
 
     def call(self, words, given=None, **environment):
         with open(given or os.devnull, "rb") as source:

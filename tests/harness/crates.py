@@ -1,6 +1,13 @@
-"""The crates of crates.txt: what each one uses."""
+"""The crates of crates.txt: what each one uses; and crates that a page shows, laid out in a repository of their own."""
 
-from tests.harness.paths import TOP, read_text
+import os
+import re
+import shutil
+
+from tests.harness.paths import TOP, read_text, write_text
+
+# A block of a page: the file that its fence names, and its text.
+BLOCK = re.compile(r"^```\w+ (\S+)\n(.*?)^```$", re.M | re.S)
 
 
 def lines_of_crates(text):
@@ -22,3 +29,20 @@ def below(name, uses):
             found.add(it)
             left += [other for other in uses[it] if other in uses]
     return found
+
+
+def lay_out(page, folder):
+    """Lays the crate whose files a page shows out in a folder, with the crates that it stands on. Returns its name, and its output."""
+    files = {file: text for file, text in BLOCK.findall(read_text(page))}
+    own, wanted = files.pop("crates.txt"), files.pop("stdout", "")
+    name = own.partition(":")[0]
+    lines = uses_of()
+    taken = below(name, {**lines, **lines_of_crates(own)})
+    write_text(f"{folder}/crates.txt", "".join(f"{it}: {' '.join(lines[it])}\n" for it in lines if it in taken) + own)
+    for crate in taken:
+        shutil.copytree(f"{TOP}/crates/{crate}", f"{folder}/crates/{crate}", ignore=shutil.ignore_patterns("out", "planted*", "must-fail"))
+    for file, text in {"stdin": "", **files, "stdout": wanted}.items():
+        path = f"{folder}/crates/{name}/{file}"
+        os.makedirs(os.path.dirname(path), exist_ok=True)
+        write_text(path, text)
+    return name, wanted

@@ -1,6 +1,7 @@
 """Starts programs: which file is run, with what limits, and how a peer talks to it."""
 
 import os
+import resource
 import signal
 import subprocess
 
@@ -51,6 +52,16 @@ def limited(words, **limits):
     return ["bash", "-c", f'{sets}exec "$@"', "bash", *words]
 
 
+def limit_files(size):
+    """What makes a file that grows past the size fail a write, or have it written in part."""
+
+    def limit():
+        signal.signal(signal.SIGXFSZ, signal.SIG_IGN)
+        resource.setrlimit(resource.RLIMIT_FSIZE, (size, size))
+
+    return limit
+
+
 def end(process):
     """Ends a process that was started here in a session of its own, with all that it started."""
     if process.poll() is None:
@@ -65,3 +76,8 @@ def end(process):
 def is_plain(program):
     """Whether a program was proved and has no run-time checks, which take an address space that no limit leaves room for."""
     return run(limited([program], v=1_000_000), b"").returncode == 0
+
+
+def many(program, count):
+    """How many calls a test asks that asks many: a program with run-time checks takes a hundred times as long, so a fiftieth of them."""
+    return count if is_plain(program) else count // 50

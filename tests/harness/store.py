@@ -44,6 +44,11 @@ def long_script(number):
     return found[:number]
 
 
+def overwrite(content, at, data):
+    """A file after a write."""
+    return content[:at].ljust(at, b"\0") + data + content[at + len(data) :]
+
+
 class Store:
     """The program, the report of a test, a folder for its files, and whether all is tried that can be."""
 

@@ -61,8 +61,8 @@ def can_trace():
         return False
 
 
-def run(words, commands, alone=False, at_call=lambda number, call: None):
-    """Runs a program over commands: all at once, or each after the answer to the one before. At each system call `at_call` is
+def run(words, commands, alone=False, at_call=lambda number, call: None, folder="."):
+    """Runs a program in a folder over commands: all at once, or each after the answer to the one before. At each system call `at_call` is
     called with its number and the call, and decides: None, ("fail", errno), ("short", bytes), or "kill". Returns the exit
     status, standard output, standard error, and the calls that did not fail."""
     source, feed = os.pipe()
@@ -73,6 +73,7 @@ def run(words, commands, alone=False, at_call=lambda number, call: None):
             for file, stream in ((source, 0), (out, 1), (error, 2)):
                 os.dup2(file, stream)
             os.closerange(3, 100)
+            os.chdir(folder)
             ptrace(TRACEME, 0)
             os.execv(words[0], words)
         finally:
@@ -81,6 +82,8 @@ def run(words, commands, alone=False, at_call=lambda number, call: None):
     input_left = Input(feed, commands if alone else [b"".join(commands)])
     try:
         input_left.send_next()
+        if not alone:
+            input_left.close()
         status, calls = follow(pid, input_left, at_call)
     finally:
         input_left.close()

@@ -23,38 +23,43 @@ from tests.harness.paths import TOP, read
 FOLDER = f"{TOP}/out/unproved"
 # Seconds between two looks at the folder, and of two looks at the processes of `rt try` one each so many.
 PAUSE, LOOKS = 0.02, 50
-# What keeps a program running for a second or more: commands that its input repeats; or where an allocation fails, a comment that is
-# read in pieces. Other programs are given the file `stdin` of their crate.
-BUSY = {"camp_shell": b"tree main\n" * 60_000, "camp": b"tree main\n" * 60_000}
-BUSY_WITH_FAULT = {"camp_shell": b"#" * 100_000_000 + b"\n"}
+# What keeps a program running for two seconds, unless one of its crate does: commands that its input repeats; or where an allocation
+# fails, a comment that is read in pieces.
+ASKED = {"camp_shell": b"tree main\n" * 3_000, "camp": b"tree main\n" * 3_000, "worked": b"table busy\n" + b"repeat 500 0 names main\n" * 20}
+ASKED_WITH_FAULT = {**ASKED, "camp_shell": b"#" * 4_000_000 + b"\n"}
 # The last line of `rt try` where the program ran.
 RAN = re.compile(rb"^(?:run=(?!none)|calls=).*proved=no$", re.M)
 
 
 def program(crate, fail_alloc=None, tell=None):
-    """The unproved program of a crate of this repository, built unless it is newer than all sources; with `fail_alloc` its
-    allocation of that number fails."""
-    path = f"{FOLDER}/{crate}" + (f"-fail-alloc-{fail_alloc}" if fail_alloc else "")
+    """The unproved program of a crate of this repository; with `fail_alloc` its allocation of that number fails."""
+    name, words = (f"{crate}-fail-alloc-{fail_alloc}", ["--fail-alloc", str(fail_alloc)]) if fail_alloc else (crate, [])
+    return once(name, lambda path: build(f"{TOP}/crates/{crate}", path, words, tell))
+
+
+def once(name, make, sources=()):
+    """The program of a name, made unless it is newer than all sources, and some files more."""
+    path = f"{FOLDER}/{name}"
     os.makedirs(FOLDER, exist_ok=True)
     with open(f"{path}.lock", "w", encoding="ascii") as lock:
         fcntl.flock(lock, fcntl.LOCK_EX)
-        if not is_newer(path):
-            build(f"{TOP}/crates/{crate}", path, ["--fail-alloc", str(fail_alloc)] if fail_alloc else [], tell)
+        if not is_newer(path, sources):
+            make(path)
     return path
 
 
-def is_newer(path):
-    """Whether a file is there and newer than each source of the repository."""
+def is_newer(path, more=()):
+    """Whether a file is there and newer than each source of the repository, and than some files more."""
     if not os.path.exists(path):
         return False
     sources = glob.iglob(f"{TOP}/crates/*/src/**/*.rt", recursive=True)
-    return all(os.path.getmtime(it) < os.path.getmtime(path) for it in [f"{TOP}/crates.txt", *sources])
+    return all(os.path.getmtime(it) < os.path.getmtime(path) for it in [f"{TOP}/crates.txt", *sources, *more])
 
 
 def build(crate, path, words=(), tell=None):
     """Builds the program of a crate's folder as a file; `tell` is called with the seconds that it takes, again and again."""
     name = os.path.basename(crate)
-    busy = (BUSY_WITH_FAULT if words else BUSY).get(name) or read(f"{crate}/stdin")
+    busy = (ASKED_WITH_FAULT if words else ASKED).get(name) or read(f"{crate}/stdin")
     new, started = path + ".new", time.time()
     with contextlib.suppress(FileNotFoundError):
         os.remove(new)

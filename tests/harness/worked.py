@@ -1,5 +1,7 @@
 """The tables of crates/worked, and its program with an allocation that fails."""
 
+import os
+
 from tests.harness import unproved
 from tests.harness.paths import WORKED, read
 
@@ -19,4 +21,4 @@ def tables(name):
 
 
 def failing_program():
-    return unproved.program("worked", fail_alloc=REFUSED)
+    return os.environ.get("WORKED_FAILING") or unproved.program("worked", fail_alloc=REFUSED)

@@ -5,7 +5,7 @@ from tests.harness.mutants import mutants_of, pairs_of, times_in
 from tests.harness.paths import TOP, read_text
 from tests.mutants.test import pattern_of, read_mutants
 
-SECONDS, GATE = 1, "before"
+SECONDS, GATE = 1, "beside"
 
 
 def run(report, words):

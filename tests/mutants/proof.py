@@ -1,7 +1,7 @@
 """The prover refuses each mutant of a crate: a wrong body of must-fail/ or planted.edits (its contract is strong enough).
 
-Words: none: all mutants, on copies of the repository with what checks left in out/; CRATE or CRATE/NAME ..: those of the crate, or
-those whose names begin so; --over TREE: those of must-fail/, over the libraries that `rt ci` has built in TREE, as the gate does.
+Words: none: all mutants, over the libraries that `rt ci` kept; CRATE or CRATE/NAME ..: those of the crate, or those whose names begin
+so; --over TREE: those of must-fail/, over the libraries that `rt ci` has built in TREE, as the gate does.
 
 The prover judges each function alone, so mutants of functions of different names stand in one copy, of which only these functions
 are checked, with those that they call. Where one that it calls is refused, a function is not judged, so what is not judged is tried
@@ -20,10 +20,11 @@ from collections import Counter
 from concurrent.futures import ThreadPoolExecutor
 
 from tests.harness import programs
-from tests.harness.crates import below, uses_of
-from tests.harness.mutants import Mutant, function_at, functions_in, mutants_of, sources
+from tests.harness.checks import tree_below, words_over
+from tests.harness.crates import uses_of
+from tests.harness.mutants import Mutant, functions_in, mutants_of, sources
 from tests.harness.paths import TOP, read_text, write_text
-from tests.harness.verdicts import VERDICT, errors_in, functions_with
+from tests.harness.verdicts import VERDICT, errors_in, function_of, functions_with
 
 SECONDS, GATE = 540, "beside"
 # A call, or the function's own head.
@@ -44,43 +45,17 @@ def run(report, words):
               for name, begins in (wanted or {it: [""] for it in uses_of()}).items()}
     crates = {name: some for name, some in crates.items() if some}
     with ThreadPoolExecutor(programs.JOBS) as pool:
-        jobs = max(1, programs.JOBS // max(1, len(crates)))
         names = sorted(crates, key=lambda it: -len(crates[it]))
-        list(pool.map(lambda name: try_crate(report, name, crates[name], tree, jobs), names))
+        list(pool.map(lambda name: try_crate(report, name, crates[name], tree), names))
 
 
-def try_crate(report, name, mutants, tree, jobs):
-    """Tries the mutants of a crate in a copy of it, over the tree's libraries, or in a copy of the repository."""
+def try_crate(report, name, mutants, tree):
+    """Tries the mutants of a crate in a copy of it, over the tree's libraries, or over those that are kept."""
     with tempfile.TemporaryDirectory(prefix="mutants-") as folder:
-        if tree:
-            shutil.copytree(f"{TOP}/crates/{name}", f"{folder}/{name}", ignore=shutil.ignore_patterns("out", "planted*"))
-            check = Check(f"{folder}/{name}", words_over(name, tree))
-        else:
-            copy_repository(folder)
-            check = Check(f"{folder}/crates/{name}", ["rt", "check", "--jobs", str(jobs)])
+        shutil.copytree(f"{TOP}/crates/{name}", f"{folder}/{name}", ignore=shutil.ignore_patterns("out", "planted*"))
+        words = [*words_over(name, tree or tree_below(name)), "--jobs", "1", "--incremental", "kept"]
+        check = Check(f"{folder}/{name}", words)
         Trial(report, check, [Mutant(*it, check.crate) for it in mutants]).try_all()
-
-
-def copy_repository(folder):
-    """Copies the repository with what checks left in out/."""
-    listed = "git ls-files --cached --others --exclude-standard -z; find crates -path '*/out/*' -type f -print0"
-    words = f"({listed}) | tar --null --ignore-failed-read --files-from=- -cf - 2>/dev/null | tar -xf - -C '{folder}'"
-    subprocess.run(words, shell=True, cwd=TOP, check=True)
-
-
-def words_over(name, tree):
-    """The words of a check of a crate over the libraries that `rt ci` built in the tree."""
-    kit = os.path.dirname(subprocess.run(["rt", "doc"], cwd=tree, stdout=subprocess.PIPE, check=True).stdout.decode().strip())
-    uses = uses_of(tree)
-    rlib = lambda it: f"{tree}/crates/{it}/out/rlib/{it}.rlib" if it in uses else f"{kit}/rlibs/{it}.rlib"
-    words = [f"{kit}/bin/rattle", "check", "--crate-name", name, "src/lib.rt"]
-    words += ["--crate-type", "staticlib"] if f"{name} staticlib:" in read_text(f"{tree}/crates.txt") else []
-    for it in ["std", *uses[name]]:
-        words += ["--extern", f"{it}={rlib(it)}"]
-    for it in [f"{kit}/rlibs", *(os.path.dirname(rlib(it)) for it in sorted(below(name, uses)))]:
-        words += ["-L", f"dependency={it}"]
-    words += ["--antt-project", f"{kit}/rattle/logic/antt-project.json", "--logic-built", f"{kit}/logic_built"]
-    return [*words, "--jobs", "1", "--incremental", "kept"]
 
 
 class Check:
@@ -187,13 +162,6 @@ class Trial:
             return "no mutant"
         errors = [it[0] for it in errors_in(printed)]
         return by_errors(errors) if errors else "refused"
-
-
-def function_of(error, texts):
-    """The function that an error is about: of the source by its line, of a proof by its folder."""
-    if error[1].startswith("src/") and error[1] in texts:
-        return function_at(texts[error[1]], sum(len(it) + 1 for it in texts[error[1]].split("\n")[: int(error[2]) - 1]))
-    return os.path.basename(os.path.dirname(error[1]))
 
 
 def verdict_of(mutant, texts, printed):

@@ -3,8 +3,8 @@
 Words: CRATE or CRATE/src/FILE ..: the mutants of these; --find: prints tests that notice them.
 
 crates/worked/turns names lines of the bodies, with what a careless reader could have written in their place and the test that
-notices it: a table of crates/worked/stdin; `faults` or `answers`, the scripts of these files of tests/data; or `examples PART` or
-`shell PART`, a part of golden/camp or golden/shell. In a copy of the repository each function has a body for each of
+notices it: a table of crates/worked/stdin; `faults` or `answers`, the scripts of these files of tests/data; or `examples PART`,
+`shell PART` or `allocations`, a part of golden/camp or golden/shell, or golden/allocations. In a copy of the repository each function has a body for each of
 its mutants, and a switch between them. The programs are built once, without proofs, and run with each mutant.
 """
 
@@ -19,13 +19,19 @@ from concurrent.futures import ThreadPoolExecutor
 from tests.harness import programs, unproved
 from tests.harness.paths import TOP, WORKED, read_text, write_text
 from tests.harness.scripts import table_scripts
-from tests.harness.worked import tables
+from tests.harness.worked import REFUSED, tables
 
 SECONDS, GATE = 600, "never"
 FN = re.compile(r"^( *)(?:pub(?:\([a-z]+\))? )?fn (\w+)", re.M)
 # The copy's switch: the mutant is on whose number is that of an open file.
 FIRST = 300
 SWITCH = "//! Which mutant is on.\n\npub fn is_on(mutant: i32) -> bool {\n    libc::lseek(FIRST + mutant, 0, 1) >= 0\n}\n\nconst FIRST: i32 = 300;\n"
+# A kind of test: its name, the crate of its program, the variable that names it, and how it is built.
+GOLDEN = {
+    "examples": ("golden/camp", "camp", "CAMP", []),
+    "shell": ("golden/shell", "camp_shell", "CAMP_SHELL", []),
+    "allocations": ("golden/allocations", "worked", "WORKED_FAILING", ["--fail-alloc", str(REFUSED)]),
+}
 # What takes so many seconds of a processor has noticed something as well; beside other work it may take so many times longer.
 LIMIT, PATIENCE = 120, 20
 
@@ -66,8 +72,8 @@ def run(report, words):
             with ThreadPoolExecutor(programs.JOBS) as pool:
                 noticed = (find if is_find else notice)(report, pool, program, by_table, known)
         left = [it for it in mutants if it not in noticed and it.test not in known]
-        noticed.update(by_program(report, folder, "camp", [it for it in left if it.test.startswith("examples ")]))
-        noticed.update(by_program(report, folder, "camp_shell", [it for it in left if it.test.startswith("shell ")]))
+        for kind in GOLDEN:
+            noticed.update(by_program(report, folder, kind, [it for it in left if it.test.split()[0] == kind]))
     for it in mutants:
         report.count("test mutants")
         if is_find:
@@ -176,25 +182,26 @@ def differing(pool, program, pairs, known):
     return noticed
 
 
-def by_program(report, folder, crate, mutants):
+def by_program(report, folder, kind, mutants):
     """The mutants with which a part of a golden test finds something wrong, where it finds nothing wrong without them."""
-    noticed, program = {}, f"{folder}/{crate}"
+    _, crate, _, words = GOLDEN[kind]
+    noticed, program = {}, f"{folder}/{kind}"
     if mutants:
-        unproved.build(f"{folder}/crates/{crate}", program)
+        unproved.build(f"{folder}/crates/{crate}", program, words)
     for test in sorted({it.test for it in mutants}):
-        report.expect(f"{test} without a mutant", is_well(test, crate, program), True)
+        report.expect(f"{test} without a mutant", is_well(test, program), True)
     for it in mutants:
         wrapper = f"{program}-{it.number}"
         write_text(wrapper, f'#!/bin/bash\nexec {FIRST + it.number}</dev/null\nexec -a {crate} {program} "$@"\n')
         os.chmod(wrapper, 0o755)
-        if not is_well(it.test, crate, wrapper):
+        if not is_well(it.test, wrapper):
             noticed[it] = [it.test]
     return noticed
 
 
-def is_well(test, crate, program):
+def is_well(test, program):
     """Whether the part of a golden test, as `examples limits/calls` or `shell talks`, finds nothing wrong with a program."""
-    kind, part = test.split()
-    name = {"shell": "golden/shell", "examples": "golden/camp"}[kind]
-    words = [sys.executable, "-m", "tests", name, "--", {"talks": "conversations"}.get(part, part)]
-    return programs.run(words, env={**os.environ, crate.upper(): program}, timeout=None).returncode == 0
+    kind, *part = test.split()
+    name, _, variable, _ = GOLDEN[kind]
+    words = [sys.executable, "-m", "tests", name, "--", *({"talks": "conversations"}.get(it, it) for it in part)]
+    return programs.run(words, env={**os.environ, variable: program}, timeout=None).returncode == 0

@@ -9,7 +9,7 @@ import glob
 import re
 from collections import defaultdict
 
-SECONDS, GATE = 1, "before"
+SECONDS, GATE = 1, "beside"
 # How many names stand in several crates today. The number only goes down.
 KNOWN = 88
 
