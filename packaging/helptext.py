@@ -1,4 +1,4 @@
-"""The text of `--help`, in parts."""
+"""The texts of `-h` and `--help`, in parts."""
 
 import re
 import subprocess
@@ -22,10 +22,12 @@ OPTION = re.compile(r"^  (?:(-\w), |    )(--[\w-]+)(?: <(\w+)>(?:\.\.\.)?)?\s+(.
 
 
 def help_of(program):
-    """Asks a program for its help, and parses it. Every line under `Options:` has to be an option."""
-    text = subprocess.run([program, "--help"], stdout=subprocess.PIPE, check=True, text=True).stdout
-    head, _, rest = text.partition("\n\nOptions:\n")
-    listed, _, reference = rest.partition("\n\n")
+    """Asks a program for its help, and parses it: the options of the short one, of which every line under `Options:` has to be
+    one, and what the long one says after its options."""
+    short, long = (subprocess.run([program, it], stdout=subprocess.PIPE, check=True, text=True).stdout for it in ("-h", "--help"))
+    head, _, rest = short.partition("\n\nOptions:\n")
+    listed = rest.partition("\n\n")[0]
+    reference = re.sub(r"\A(?:  .*\n|\n)*", "", long.partition("\n\nOptions:\n")[2])
     options = []
     for line in listed.splitlines():
         found = OPTION.match(line)

@@ -7,6 +7,8 @@ import subprocess
 from . import completions, helptext, man
 
 TOP = os.path.dirname(os.path.dirname(os.path.abspath(__file__)))
+# Where ./build puts what it makes.
+BUILT = f"{TOP}/out"
 PROGRAMS = ("camp", "camp_shell")
 PKG_CONFIG = """prefix={prefix}
 libdir=${{prefix}}/lib
@@ -15,9 +17,9 @@ includedir=${{prefix}}/include
 Name: camp
 Description: A repository of named patches, as a library
 Version: {version}
-Libs: -L${{libdir}} -lcamp
+Libs: -L"${{libdir}}" -lcamp
 Libs.private: -lpthread
-Cflags: -I${{includedir}}
+Cflags: -I"${{includedir}}"
 """
 
 
@@ -36,10 +38,10 @@ class Missing(Exception):
     """Something that ./build makes is not there."""
 
 
-def built(path):
-    if not os.path.isfile(f"{TOP}/out/{path}"):
-        raise Missing(f"out/{path} is not there: run ./build first")
-    return f"{TOP}/out/{path}"
+def built(source, path):
+    if not os.path.isfile(f"{source}/{path}"):
+        raise Missing(f"{source}/{path} does not exist: run ./build first")
+    return f"{source}/{path}"
 
 
 def write(path, text):
@@ -54,13 +56,14 @@ def copy(path, to, mode):
     os.chmod(to, mode)
 
 
-def lay_out(folder, prefix):
-    """Puts all that is installed below a folder, which has to be empty; `prefix` is where it will stand in the end."""
+def lay_out(folder, prefix, source=BUILT):
+    """Puts all that is installed below a folder, which has to be empty; `prefix` is where it will stand in the end, and `source`
+    has what ./build makes."""
     number = version()
     major = number.split(".")[0]
     helps = {}
     for name in PROGRAMS:
-        copy(built(f"bin/{name}"), f"{folder}/bin/{name}", 0o755)
+        copy(built(source, f"bin/{name}"), f"{folder}/bin/{name}", 0o755)
         helps[name] = helptext.help_of(f"{folder}/bin/{name}")
         write(f"{folder}/share/man/man1/{name}.1", man.program_page(name, helps[name], number))
         write(f"{folder}/share/zsh/site-functions/_{name}", completions.zsh(name, helps[name]))
@@ -69,11 +72,11 @@ def lay_out(folder, prefix):
     for name in PROGRAMS:
         # bash loads the file of the name of the command
         write(f"{folder}/share/bash-completion/completions/{name}", completions.bash(helps))
-    copy(built("lib/libcamp.a"), f"{folder}/lib/libcamp.a", 0o644)
-    copy(built("lib/libcamp.so"), f"{folder}/lib/libcamp.so.{number}", 0o755)
+    copy(built(source, "lib/libcamp.a"), f"{folder}/lib/libcamp.a", 0o644)
+    copy(built(source, "lib/libcamp.so"), f"{folder}/lib/libcamp.so.{number}", 0o755)
     for link in (f"libcamp.so.{major}", "libcamp.so"):
         os.symlink(f"libcamp.so.{number}", f"{folder}/lib/{link}")
-    copy(built("include/camp.h"), f"{folder}/include/camp.h", 0o644)
+    copy(built(source, "include/camp.h"), f"{folder}/include/camp.h", 0o644)
     write(f"{folder}/lib/pkgconfig/camp.pc", PKG_CONFIG.format(prefix=prefix, version=number))
     lay_out_documents(f"{folder}/share/doc/camp")
 
