@@ -12,6 +12,7 @@ import threading
 import time
 from concurrent.futures import ThreadPoolExecutor
 
+from packaging import products
 from tests import registry
 from tests.harness import programs
 from tests.harness.crates import below, uses_of
@@ -131,6 +132,8 @@ def run_all():
     waiting = [(set(it.gate.split()[1:]) or set(uses), it, it.gate_words, 0, it.name) for it in after]
     progress = Progress(len(beside) + len(waiting) + 1)
     subprocess.run(["rt", "version"], check=True)
+    products.forget()
+    shutil.rmtree(f"{TOP}/out/clients", ignore_errors=True)
     with tempfile.TemporaryDirectory(prefix="gate-") as folder, ThreadPoolExecutor(programs.JOBS) as others, ThreadPoolExecutor(programs.JOBS) as pool:
         os.environ["CAMP_TREE"] = progress.tree = f"{folder}/tree"
         for crate in (it for it in uses if glob.glob(f"{TOP}/crates/{it}/must-fail/*.edit")):
@@ -147,13 +150,25 @@ def run_all():
                 pool.submit(run_one, it[1], progress, *it[2:])
 
         start_ready()
-        if prove(progress, start_ready):
+        is_proved = prove(progress, start_ready)
+        if is_proved:
             progress.proved.update(uses)
         start_ready()
         for *_, title in waiting:
             progress.tell(f"{title}: not run, since a crate that it needs is not proved")
+        pool.shutdown()
+        if is_proved:
+            keep_products(progress)
     progress.write_times(f"{TOP}/out/gate-times.md")
     return progress.finish()
+
+
+def keep_products(progress):
+    """Leaves the programs, and the library that a test has built, in out/, so that ./build need not prove the same text again."""
+    products.keep_programs(progress.tree)
+    if os.path.exists(f"{TOP}/out/clients/libcamp.so"):
+        products.keep_library(f"{TOP}/out/clients")
+        products.note()
 
 
 def prove(progress, when_proved):
