@@ -25,7 +25,8 @@ FOLDER = f"{TOP}/out/unproved"
 PAUSE, LOOKS = 0.02, 50
 # What keeps a program running for two seconds, unless one of its crate does: commands that its input repeats; or where an allocation
 # fails, a comment that is read in pieces.
-ASKED = {"camp_shell": b"tree main\n" * 3_000, "camp": b"tree main\n" * 3_000, "worked": b"table busy\n" + b"repeat 500 0 names main\n" * 20}
+ASKED = {"camp_shell": b"tree main\n" * 3_000, "camp": b"tree main\n" * 3_000, "worked": b"table busy\n" + b"repeat 500 0 names main\n" * 20,
+         "worked_talks": b"ends talk: 4000000000 99 4000000000 99 0\n" + b"tree main\n" * 3_000}
 ASKED_WITH_FAULT = {**ASKED, "camp_shell": b"#" * 4_000_000 + b"\n"}
 # The last line of `rt try` where the program ran.
 RAN = re.compile(rb"^(?:run=(?!none)|calls=).*proved=no$", re.M)

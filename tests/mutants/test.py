@@ -3,9 +3,10 @@
 Words: CRATE or CRATE/src/FILE ..: the mutants of these; --find: prints tests that notice them.
 
 crates/worked/turns names lines of the bodies, with what a careless reader could have written in their place and the test that
-notices it: a table of crates/worked/stdin; `faults` or `answers`, the scripts of these files of tests/data; or `examples PART`,
-`shell PART` or `allocations`, a part of golden/camp or golden/shell, or golden/allocations. In a copy of the repository each function has a body for each of
-its mutants, and a switch between them. The programs are built once, without proofs, and run with each mutant.
+notices it: a table of crates/worked/stdin or of crates/worked_talks/stdin; `faults` or `answers`, the scripts of these files of
+tests/data; or `examples PART`, `shell PART` or `allocations`, a part of golden/camp or golden/shell, or golden/allocations. In a
+copy of the repository each function has a body for each of its mutants, and a switch between them. The programs are built once,
+without proofs, and run with each mutant.
 """
 
 import os
@@ -61,16 +62,19 @@ def read_mutants():
 def run(report, words):
     named = [it for it in words if not it.startswith("--")]
     mutants = [it for it in read_mutants() if not named or it.file in named or it.file.split("/")[0] in named]
-    known, is_find = known_tables(), "--find" in words
+    known_of, is_find = known_tables(), "--find" in words
+    known = {name for tables_of_it in known_of.values() for name in tables_of_it}
     with tempfile.TemporaryDirectory(prefix="mutants-") as folder:
         make_copy(folder, mutants)
         noticed = {}
         by_table = mutants if is_find else [it for it in mutants if it.test in known]
-        if by_table:
-            program = f"{folder}/program"
-            unproved.build(f"{folder}/crates/worked", program)
-            with ThreadPoolExecutor(programs.JOBS) as pool:
-                noticed = (find if is_find else notice)(report, pool, program, by_table, known)
+        for crate, tables_of_it in known_of.items():
+            some = [it for it in by_table if is_find or it.test in tables_of_it]
+            if some:
+                program = f"{folder}/{crate}"
+                unproved.build(f"{folder}/crates/{crate}", program)
+                with ThreadPoolExecutor(programs.JOBS) as pool:
+                    noticed.update((find if is_find else notice)(report, pool, program, some, tables_of_it))
         left = [it for it in mutants if it not in noticed and it.test not in known]
         for kind in GOLDEN:
             noticed.update(by_program(report, folder, kind, [it for it in left if it.test.split()[0] == kind]))
@@ -83,12 +87,13 @@ def run(report, words):
 
 
 def known_tables():
-    """Each table by its name, and the scripts of tests/data that can stand in one of runs in one thread: no line is empty."""
+    """The tables of each program by their names, and the scripts of tests/data that can stand in one of runs in one thread: no
+    line is empty."""
     found = tables("stdin")
     for name in ("faults", "answers"):
         scripts = [it.strip(b"\n") for it in table_scripts(name)]
         found[name] = b"table runs\n" + b"".join(b"run book\n" + it + b"\n\n" for it in scripts if it and b"\n\n" not in it)
-    return found
+    return {"worked": found, "worked_talks": tables("stdin", "worked_talks")}
 
 
 def pattern_of(text):

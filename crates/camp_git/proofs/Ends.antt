@@ -5,10 +5,10 @@ use Rattle.std.specs.Prelude.{IsErrAnd, Vec}
 use Rattle.camp_catch.specs.declared.catches.Catch.{Catch}
 use Rattle.camp_git.proofs.ChangedTrees.{shows_new}
 use Rattle.camp_git.proofs.TreeSteps.{listed}
-use Rattle.camp_git.specs.Exports.{IsUnheld, Shows}
+use Rattle.camp_git.specs.Exports.{IsUnheld, HasFilesOf}
 use Rattle.camp_git.specs.FastImport.{GitTree, changed_by}
 use Rattle.camp_git.specs.Holding.{CanHold, CannotHold}
-use Rattle.camp_git.specs.Inside.Commits.{changes_of, paths_in}
+use Rattle.camp_git.specs.Inside.Commits.{differences_of, paths_in}
 use Rattle.camp_git.specs.Inside.Steps.{StaysBeside}
 use Rattle.camp_git.specs.Inside.Streams.{EndsIn, Streams}
 use Rattle.camp_git.specs.declared.faults.Unexported.{Unexported}
@@ -27,6 +27,6 @@ stops name branch (Ok text) fault is w = absurd is
 stops name branch (Err error) fault is w = subst (λ f. Streams name branch (Err f)) (sym is) w
 
 -- if nothing changes outside these paths, the changes at them make the new tree of the old one
-pub shows_step : (old new : Files) (set : List (List ℕ × Unit {0})) → CanHold old → CanHold new → StaysBeside set old new → (git : GitTree) → Shows git old → Shows (changed_by git (changes_of old new (paths_in set))) new
+pub shows_step : (old new : Files) (set : List (List ℕ × Unit {0})) → CanHold old → CanHold new → StaysBeside set old new → (git : GitTree) → HasFilesOf git old → HasFilesOf (changed_by git (differences_of old new (paths_in set))) new
 shows_step old new set was held stays git shows =
     shows_new old new was held (paths_in set) (λ path lacks. stays path (sym (listed set path) ∙ lacks)) git shows

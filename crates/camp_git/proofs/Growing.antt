@@ -6,13 +6,13 @@ use Rattle.camp_branch.proofs.Names.{all_append}
 use Rattle.camp_git.specs.Exports.{reference_of}
 use Rattle.std.specs.Prelude.{codes}
 use Rattle.camp_base.specs.Signs.{newline}
-use Rattle.camp_git.specs.FastImport.{CanBeNamed, FileChange, FileModify, HasGoodPath, IsOneLine, change_text, data_text, head_text, line, path_text}
+use Rattle.camp_git.specs.FastImport.{CanBeNamed, FileChange, FileModify, HasGoodPath, IsOneLine, change_command, data_text, head_text, line, path_text}
 use Rattle.camp_git.specs.Inside.Commits.{GrowsBy, IsWritten, commit_at}
 use Rattle.camp_git.specs.declared.commits.Place.{Place}
 
 pub grows_more : (old text new : List ℕ) (xs ys : List FileChange) → GrowsBy old xs text → GrowsBy text ys new → GrowsBy old (xs ++ ys) new
 grows_more old text new xs ys v w = (
-  w.0 ∙ ap (λ t. t ++ flat_map change_text ys) v.0 ∙ append_assoc old (flat_map change_text xs) (flat_map change_text ys) ∙ ap (λ t. old ++ t) (sym (flat_map-append change_text xs ys)),
+  w.0 ∙ ap (λ t. t ++ flat_map change_command ys) v.0 ∙ append_assoc old (flat_map change_command xs) (flat_map change_command ys) ∙ ap (λ t. old ++ t) (sym (flat_map-append change_command xs ys)),
   all_append HasGoodPath xs ys v.1 w.1,
 )
 
@@ -20,8 +20,8 @@ pub grows_not : (text : List ℕ) → GrowsBy text [] text
 grows_not text = (sym (append-nil text), tt)
 
 -- one change more
-pub grows_by_one : (old new : List ℕ) (change : FileChange) → new ≡ old ++ change_text change → HasGoodPath change → GrowsBy old (change ∷ []) new
-grows_by_one old new change is good = (is ∙ ap (λ t. old ++ t) (sym (append-nil (change_text change))), (good, tt))
+pub grows_by_one : (old new : List ℕ) (change : FileChange) → new ≡ old ++ change_command change → HasGoodPath change → GrowsBy old (change ∷ []) new
+grows_by_one old new change is good = (is ∙ ap (λ t. old ++ t) (sym (append-nil (change_command change))), (good, tt))
 
 -- a file with its content, piece by piece
 pub grows_by_file : (old word named ended new path content : List ℕ) → word ≡ old ++ codes "M 100644 inline " → named ≡ word ++ path_text path → ended ≡ named ++ newline ∷ [] → CanBeNamed path → new ≡ ended ++ data_text content → GrowsBy old (FileModify path content ∷ []) new
@@ -45,6 +45,6 @@ all_there f all rest first text is on =
 -- a commit up to its changes, and then these
 pub written : (old text new : List ℕ) (place : Place) (changes : List FileChange) → text ≡ old ++ head_text (commit_at place []) → 0 < place.mark → IsOneLine (reference_of place.branch) → GrowsBy text changes new → IsWritten old (commit_at place changes) new
 written old text new place changes head mark named grown = (
-  grown.0 ∙ ap (λ t. t ++ flat_map change_text changes) head ∙ append_assoc old (head_text (commit_at place [])) (flat_map change_text changes),
+  grown.0 ∙ ap (λ t. t ++ flat_map change_command changes) head ∙ append_assoc old (head_text (commit_at place [])) (flat_map change_command changes),
   record { reference = named; mark = mark; paths = grown.1 },
 )

@@ -14,8 +14,8 @@ use Rattle.camp_branch.proofs.EffectSteps.{second_fits}
 use Rattle.camp_branch.proofs.Names.{all_append}
 use Rattle.camp_branch.specs.Branches.{HasPatches, IsLawfulBranch, IsSized, LeadsTo, Patch, labels_of, name_of}
 use Rattle.camp_git.proofs.PatchEnds.{drop_on, first_name, labels_behind, no_patch, patch_ends, some_patch}
-use Rattle.camp_git.specs.Exports.{IsAbove, IsExport, IsFirstBad, IsUnheld, Shows, TellEach, Tells, content_of, reference_of}
-use Rattle.camp_git.specs.FastImport.{AreFromKnown, Commit, IsFromKnown, IsGood, Kept, commit_text, keep, keep_all, mark_of, marked, parent_of, tree_of}
+use Rattle.camp_git.specs.Exports.{IsNewMark, IsExport, IsFirstBad, IsUnheld, HasFilesOf, RepresentEach, RepresentsPatch, content_of, reference_of}
+use Rattle.camp_git.specs.FastImport.{AreFromKnown, Commit, IsFromKnown, IsGood, Kept, commit_text, keep, keep_all, mark_of, commit_at_mark, parent_of, files_before}
 use Rattle.camp_git.specs.Holding.{CanHold, CannotHold}
 use Rattle.camp_git.specs.Inside.Commits.{commit_at, from_of}
 use Rattle.camp_git.specs.Inside.Steps.{led_by}
@@ -30,7 +30,7 @@ newest_of (kept ∷ older) = Some kept
 -- it has this mark, and its tree shows these files; before the first the mark is 0, and there are none
 abbrev pub IsNewest : List Kept → ℕ → Files → Type 0
 IsNewest [] mark files = (mark ≡ 0) × (files ≡ empty)
-IsNewest (kept ∷ older) mark files = (0 < mark) × (kept.mark ≡ mark) × Shows kept.tree files
+IsNewest (kept ∷ older) mark files = (0 < mark) × (kept.mark ≡ mark) × HasFilesOf kept.tree files
 
 -- the progress of the stream of a branch: it represents the patches up to an index, and the rest comes after
 pub record Progress (name : List ℕ) (branch : List Catch) (at : ℕ) (text : List ℕ) (tree : Files) : Type 0 where
@@ -48,7 +48,7 @@ pub record Progress (name : List ℕ) (branch : List Catch) (at : ℕ) (text : L
   pub good : AllByRecursion IsGood commits
   pub kept : List Kept
   pub newest : IsNewest kept at tree
-  pub tells : (more : List Commit) → TellEach (reference_of name) branch at (mark_of (newest_of kept)) rest (keep_all kept more) → TellEach (reference_of name) branch 0 None patches (keep_all [] (commits ++ more))
+  pub tells : (more : List Commit) → RepresentEach (reference_of name) branch at (mark_of (newest_of kept)) rest (keep_all kept more) → RepresentEach (reference_of name) branch 0 None patches (keep_all [] (commits ++ more))
   pub known : (more : List Commit) → AreFromKnown kept more → AreFromKnown [] (commits ++ more)
   pub first : (patch path : List ℕ) → IsFirstBad branch at rest patch path → IsFirstBad branch 0 patches patch path
 
@@ -82,10 +82,10 @@ from_newest [] zero files commit newest = refl
 from_newest [] (suc at) files commit newest = absurd (omega (arith, newest.0))
 from_newest (k ∷ older) zero files commit newest = absurd (omega (arith, newest.0))
 from_newest (k ∷ older) (suc at) files commit newest =
-    ap (λ b. cond b (Some k) (marked older (suc at))) (ap (λ m. m == suc at) newest.1 ∙ eq-eqb (suc at) (suc at) refl)
+    ap (λ b. cond b (Some k) (commit_at_mark older (suc at))) (ap (λ m. m == suc at) newest.1 ∙ eq-eqb (suc at) (suc at) refl)
 
 -- a later mark is greater than that of the one that was stored last
-rises_newest : (kept : List Kept) (at more : ℕ) (files : Files) → IsNewest kept at files → 0 < more → IsAbove (mark_of (newest_of kept)) (at + more)
+rises_newest : (kept : List Kept) (at more : ℕ) (files : Files) → IsNewest kept at files → 0 < more → IsNewMark (mark_of (newest_of kept)) (at + more)
 rises_newest [] at more files newest some = omega (arith, some)
 rises_newest (k ∷ older) at more files newest some = omega (arith, newest.1, some)
 
@@ -94,9 +94,9 @@ from_known [] zero files newest = tt
 from_known [] (suc at) files newest = absurd (omega (arith, newest.0))
 from_known (k ∷ older) zero files newest = absurd (omega (arith, newest.0))
 from_known (k ∷ older) (suc at) files newest =
-    ap (λ b. is_some (cond b (Some k) (marked older (suc at)))) (ap (λ m. m == suc at) newest.1 ∙ eq-eqb (suc at) (suc at) refl)
+    ap (λ b. is_some (cond b (Some k) (commit_at_mark older (suc at)))) (ap (λ m. m == suc at) newest.1 ∙ eq-eqb (suc at) (suc at) refl)
 
-shows_newest : (kept : List Kept) (at : ℕ) (files : Files) → IsNewest kept at files → Shows (tree_of (newest_of kept)) files
+shows_newest : (kept : List Kept) (at : ℕ) (files : Files) → IsNewest kept at files → HasFilesOf (files_before (newest_of kept)) files
 shows_newest [] at files newest path =
     sym (ap (λ (f : Files). option_map content_of (get f path)) newest.1 ∙ ap (option_map content_of) (get-empty (slice_cmp nat_cmp) path))
 shows_newest (k ∷ older) at files newest path = newest.2 path
@@ -141,10 +141,10 @@ module _ (name : List ℕ) (branch : List Catch) (at : ℕ) (text : List ℕ) (t
       from : parent_of s.kept commit commit.from ≡ newest_of s.kept
       from = from_newest s.kept at tree commit s.newest
 
-      shows : Shows kept_now.tree new
-      shows = adds.3 (tree_of (parent_of s.kept commit commit.from)) (subst (λ o. Shows (tree_of o) tree) (sym from) (shows_newest s.kept at tree s.newest))
+      shows : HasFilesOf kept_now.tree new
+      shows = adds.3 (files_before (parent_of s.kept commit commit.from)) (subst (λ o. HasFilesOf (files_before o) tree) (sym from) (shows_newest s.kept at tree s.newest))
 
-      told : Tells (reference_of name) (mark_of (newest_of s.kept)) (take (at + patch.changes) branch) patch.name kept_now
+      told : RepresentsPatch (reference_of name) (mark_of (newest_of s.kept)) (take (at + patch.changes) branch) patch.name kept_now
       told = record {
         on = refl;
         behind = ap mark_of from;
@@ -173,7 +173,7 @@ module _ (name : List ℕ) (branch : List Catch) (at : ℕ) (text : List ℕ) (t
         kept = kept_now ∷ s.kept;
         newest = (omega (arith, next_sized.0.0), refl, shows);
         tells = λ later w.
-            subst (λ l. TellEach (reference_of name) branch 0 None s.patches (keep_all [] l)) (sym (append_assoc s.commits (commit ∷ []) later)) (s.tells (commit ∷ later) (subst (λ r. TellEach (reference_of name) branch at (mark_of (newest_of s.kept)) r (keep_all s.kept (commit ∷ later))) (sym next) (told, w)));
+            subst (λ l. RepresentEach (reference_of name) branch 0 None s.patches (keep_all [] l)) (sym (append_assoc s.commits (commit ∷ []) later)) (s.tells (commit ∷ later) (subst (λ r. RepresentEach (reference_of name) branch at (mark_of (newest_of s.kept)) r (keep_all s.kept (commit ∷ later))) (sym next) (told, w)));
         known = λ later w.
             subst (AreFromKnown []) (sym (append_assoc s.commits (commit ∷ []) later)) (s.known (commit ∷ later) (from_known s.kept at tree s.newest, w));
         first = λ called path bad.
@@ -186,7 +186,7 @@ all_told name branch at text tree s end = record {
   has = s.has;
   commits = s.commits;
   reads = record { is = s.is; good = s.good; known = subst (AreFromKnown []) (append-nil s.commits) (s.known [] tt) };
-  tell = subst (λ l. TellEach (reference_of name) branch 0 None s.patches (keep_all [] l)) (append-nil s.commits) (s.tells [] (subst (λ r. TellEach (reference_of name) branch at (mark_of (newest_of s.kept)) r []) (sym (no_patch branch at s.rest s.labels s.sized end)) tt));
+  represents = subst (λ l. RepresentEach (reference_of name) branch 0 None s.patches (keep_all [] l)) (append-nil s.commits) (s.tells [] (subst (λ r. RepresentEach (reference_of name) branch at (mark_of (newest_of s.kept)) r []) (sym (no_patch branch at s.rest s.labels s.sized end)) tt));
 }
 
 -- one step, in the words of the code

@@ -5,7 +5,7 @@ use Rattle.std.specs.List.{flat_map}
 use Rattle.camp_base.specs.Trees.{Files, Lines}
 use Rattle.camp_branch.specs.Branches.{HasPatches, LeadsTo, Patch}
 use Rattle.camp_catch.specs.declared.catches.Catch.{Catch}
-use Rattle.camp_git.specs.FastImport.{Commit, GitTree, Kept, Reads, keep_all, line}
+use Rattle.camp_git.specs.FastImport.{Commit, GitTree, Kept, ReadsAsCommits, keep_all, line}
 use Rattle.camp_git.specs.Holding.{CanHold, CannotHold}
 
 -- the content of a file: its lines, each with a line feed at its end
@@ -13,47 +13,47 @@ abbrev pub content_of : Lines → List ℕ
 content_of lines = flat_map line lines
 
 -- git has exactly the files of a tree
-abbrev pub Shows : GitTree → Files → Type 0
-Shows git files = (path : List ℕ) → git path ≡ option_map content_of (get files path)
+abbrev pub HasFilesOf : GitTree → Files → Type 0
+HasFilesOf git files = (path : List ℕ) → git path ≡ option_map content_of (get files path)
 
 -- the branch of git that a branch becomes
 abbrev pub reference_of : List ℕ → List ℕ
 reference_of branch = codes "refs/heads/" ++ branch
 
 -- a mark is above 0 and above that of the parent: so no two commits of one history have the same mark
-abbrev pub IsAbove : Option ℕ → ℕ → Type 0
-IsAbove None mark = 0 < mark
-IsAbove (Some parent) mark = parent < mark
+abbrev pub IsNewMark : Option ℕ → ℕ → Type 0
+IsNewMark None mark = 0 < mark
+IsNewMark (Some parent) mark = parent < mark
 
 -- a commit represents a patch up to which a branch has these catches: it is of this branch of git and has this
 -- parent, with a greater mark; its message is the name of the patch and a line feed, and its tree is the one that the
 -- catches lead to, which git can hold
-pub record Tells (reference : List ℕ) (parent : Option ℕ) (upto : List Catch) (name : List ℕ) (commit : Kept) : Type 0 where
+pub record RepresentsPatch (reference : List ℕ) (parent : Option ℕ) (upto : List Catch) (name : List ℕ) (commit : Kept) : Type 0 where
   pub on : commit.reference ≡ reference
   pub behind : commit.parent ≡ parent
-  pub rises : IsAbove parent commit.mark
+  pub rises : IsNewMark parent commit.mark
   pub message : commit.message ≡ line name
   pub files : Files
   pub leads : LeadsTo upto files
   pub held : CanHold files
-  pub tree : Shows commit.tree files
+  pub tree : HasFilesOf commit.tree files
 
 -- commits represent the patches of a branch after its first catches, each commit the child of the one before it
-abbrev pub TellEach : List ℕ → List Catch → ℕ → Option ℕ → List Patch → List Kept → Type 0
-TellEach reference branch count parent [] [] = Unit {0}
-TellEach reference branch count parent [] (commit ∷ commits) = ⊥
-TellEach reference branch count parent (patch ∷ patches) [] = ⊥
-TellEach reference branch count parent (patch ∷ patches) (commit ∷ commits) =
-    Tells reference parent (take (count + patch.changes) branch) patch.name commit
-    × TellEach reference branch (count + patch.changes) (Some commit.mark) patches commits
+abbrev pub RepresentEach : List ℕ → List Catch → ℕ → Option ℕ → List Patch → List Kept → Type 0
+RepresentEach reference branch count parent [] [] = Unit {0}
+RepresentEach reference branch count parent [] (commit ∷ commits) = ⊥
+RepresentEach reference branch count parent (patch ∷ patches) [] = ⊥
+RepresentEach reference branch count parent (patch ∷ patches) (commit ∷ commits) =
+    RepresentsPatch reference parent (take (count + patch.changes) branch) patch.name commit
+    × RepresentEach reference branch (count + patch.changes) (Some commit.mark) patches commits
 
 -- a text is an export of a branch: it reads as commits that represent its patches, in order, one for each
 pub record IsExport (name : List ℕ) (branch : List Catch) (text : List ℕ) : Type 0 where
   pub patches : List Patch
   pub has : HasPatches branch patches
   pub commits : List Commit
-  pub reads : Reads text commits
-  pub tell : TellEach (reference_of name) branch 0 None patches (keep_all [] commits)
+  pub reads : ReadsAsCommits text commits
+  pub represents : RepresentEach (reference_of name) branch 0 None patches (keep_all [] commits)
 
 -- the tree that catches lead to has a file at this path, and git can't hold it
 pub record IsBad (upto : List Catch) (path : List ℕ) : Type 0 where
@@ -63,7 +63,7 @@ pub record IsBad (upto : List Catch) (path : List ℕ) : Type 0 where
   pub unheld : CannotHold files path
 
 -- git can hold the tree that catches lead to
-pub record IsHeld (upto : List Catch) : Type 0 where
+pub record FitsGit (upto : List Catch) : Type 0 where
   pub files : Files
   pub leads : LeadsTo upto files
   pub held : CanHold files
@@ -74,7 +74,7 @@ abbrev pub IsFirstBad : List Catch → ℕ → List Patch → List ℕ → List 
 IsFirstBad branch count [] name path = ⊥
 IsFirstBad branch count (patch ∷ patches) name path =
     ((patch.name ≡ name) × IsBad (take (count + patch.changes) branch) path)
-    ⊎ (IsHeld (take (count + patch.changes) branch) × IsFirstBad branch (count + patch.changes) patches name path)
+    ⊎ (FitsGit (take (count + patch.changes) branch) × IsFirstBad branch (count + patch.changes) patches name path)
 
 -- the same of all patches of a branch
 pub record IsUnheld (branch : List Catch) (name path : List ℕ) : Type 0 where

@@ -46,10 +46,10 @@ abbrev pub path_text : List ℕ → List ℕ
 path_text path = if begins_with_quote path then quote ∷ escaped path ++ quote ∷ [] else path
 
 -- a change as a command; a file that gets its content is a plain one that is not executable, and its data follow
-abbrev pub change_text : FileChange → List ℕ
-change_text (FileModify path content) = line (codes "M 100644 inline " ++ path_text path) ++ data_text content
-change_text (FileDelete path) = line (codes "D " ++ path_text path)
-change_text FileDeleteAll = line (codes "deleteall")
+abbrev pub change_command : FileChange → List ℕ
+change_command (FileModify path content) = line (codes "M 100644 inline " ++ path_text path) ++ data_text content
+change_command (FileDelete path) = line (codes "D " ++ path_text path)
+change_command FileDeleteAll = line (codes "deleteall")
 
 -- the parent of a commit, by its mark
 abbrev pub from_text : Option ℕ → List ℕ
@@ -64,7 +64,7 @@ head_text commit =
 
 -- a commit as a command
 abbrev pub commit_text : Commit → List ℕ
-commit_text commit = head_text commit ++ flat_map change_text commit.changes
+commit_text commit = head_text commit ++ flat_map change_command commit.changes
 
 -- no byte of a text is a line feed
 abbrev pub IsOneLine : List ℕ → Type 0
@@ -100,17 +100,17 @@ is_inside folder path = starts_with nat_eq path (folder ++ slash ∷ [])
 
 -- the tree after a change. A file replaces the folder of its path, and any file that is a folder of its path; what is
 -- deleted goes with all that is in it
-abbrev pub changed : GitTree → FileChange → GitTree
-changed tree (FileModify path content) other =
+abbrev pub tree_after : GitTree → FileChange → GitTree
+tree_after tree (FileModify path content) other =
     if bytes_eq other path then Some content
     else (if is_inside path other || is_inside other path then None else tree other)
-changed tree (FileDelete path) other = if bytes_eq other path || is_inside path other then None else tree other
-changed tree FileDeleteAll other = None
+tree_after tree (FileDelete path) other = if bytes_eq other path || is_inside path other then None else tree other
+tree_after tree FileDeleteAll other = None
 
 -- the tree after changes, one after the other
 abbrev pub changed_by : GitTree → List FileChange → GitTree
 changed_by tree [] = tree
-changed_by tree (change ∷ changes) = changed_by (changed tree change) changes
+changed_by tree (change ∷ changes) = changed_by (tree_after tree change) changes
 
 -- a commit as git stores it: its branch, its mark, its message, its parent by its mark, and its tree
 pub record Kept : Type 0 where
@@ -121,9 +121,9 @@ pub record Kept : Type 0 where
   pub tree : GitTree
 
 -- the commit of a mark among those stored, the newest first
-abbrev pub marked : List Kept → ℕ → Option Kept
-marked [] mark = None
-marked (kept ∷ older) mark = if kept.mark == mark then Some kept else marked older mark
+abbrev pub commit_at_mark : List Kept → ℕ → Option Kept
+commit_at_mark [] mark = None
+commit_at_mark (kept ∷ older) mark = if kept.mark == mark then Some kept else commit_at_mark older mark
 
 -- the newest commit of a branch
 abbrev pub tip_of : List Kept → List ℕ → Option Kept
@@ -133,12 +133,12 @@ tip_of (kept ∷ older) reference = if bytes_eq kept.reference reference then So
 -- the parent of a commit: the one of the given mark, or else the newest of its branch
 abbrev pub parent_of : List Kept → Commit → Option ℕ → Option Kept
 parent_of kept commit None = tip_of kept commit.reference
-parent_of kept commit (Some mark) = marked kept mark
+parent_of kept commit (Some mark) = commit_at_mark kept mark
 
 -- the tree that a commit begins with, and the mark of its parent
-abbrev pub tree_of : Option Kept → GitTree
-tree_of None = no_files
-tree_of (Some kept) = kept.tree
+abbrev pub files_before : Option Kept → GitTree
+files_before None = no_files
+files_before (Some kept) = kept.tree
 
 abbrev pub mark_of : Option Kept → Option ℕ
 mark_of None = None
@@ -153,7 +153,7 @@ keep kept commit =
       mark = commit.mark;
       message = commit.message;
       parent = mark_of parent;
-      tree = changed_by (tree_of parent) commit.changes;
+      tree = changed_by (files_before parent) commit.changes;
     }
 
 -- what git stores of commits, one after the other
@@ -164,7 +164,7 @@ keep_all kept (commit ∷ commits) = keep kept commit ∷ keep_all (keep kept co
 -- the mark of the given parent, if there is one, is that of an earlier commit
 abbrev pub IsFromKnown : List Kept → Option ℕ → Type 0
 IsFromKnown kept None = Unit {0}
-IsFromKnown kept (Some mark) = is_some (marked kept mark) ≡ true
+IsFromKnown kept (Some mark) = is_some (commit_at_mark kept mark) ≡ true
 
 -- the same of commits, one after the other
 abbrev pub AreFromKnown : List Kept → List Commit → Type 0
@@ -173,7 +173,7 @@ AreFromKnown kept (commit ∷ commits) =
     IsFromKnown kept commit.from × AreFromKnown (keep kept commit ∷ kept) commits
 
 -- a text reads as these commits: it is their commands, in order, and each can be written and has an earlier parent
-pub record Reads (text : List ℕ) (commits : List Commit) : Type 0 where
+pub record ReadsAsCommits (text : List ℕ) (commits : List Commit) : Type 0 where
   pub is : text ≡ flat_map commit_text commits
   pub good : AllByRecursion IsGood commits
   pub known : AreFromKnown [] commits

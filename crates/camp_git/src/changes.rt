@@ -4,7 +4,7 @@ ghost use Rattle.std.specs.List.{flat_map};
 ghost use Rattle.std.specs.FinMap.{contains_key};
 ghost use Rattle.camp_git.specs.Exports.{content_of};
 ghost use Rattle.camp_git.specs.FastImport.{FileDelete, FileModify};
-ghost use Rattle.camp_git.specs.Inside.Commits.{GrowsBy, changes_of, deletion_of, modification_of, paths_in};
+ghost use Rattle.camp_git.specs.Inside.Commits.{GrowsBy, differences_of, deletion_of, modification_of, paths_in};
 
 use crate::texts::{append_content, append_path};
 use camp_base::{Line, Path, Tree};
@@ -19,7 +19,7 @@ pub(crate) fn append_changes(
     old: &Tree,
     new: &Tree,
 ) -> Result<(), AllocError>
-    ensures { OnOk result (GrowsBy text.old.items (changes_of old.now new.now (paths_in paths.now)) text.new.items) }
+    ensures { OnOk result (GrowsBy text.old.items (differences_of old.now new.now (paths_in paths.now)) text.new.items) }
 {
     append_deletions(text, paths, old, new)?;
     append_modifications(text, paths, new)

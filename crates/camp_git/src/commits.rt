@@ -2,7 +2,7 @@
 ghost use Rattle.std.specs.Prelude.{◌≡◌, ◌<◌, ◌++◌, [], codes, OnOk, IfOk};
 ghost use Rattle.camp_git.specs.FastImport.{IsOneLine, from_text, head_text, line};
 ghost use Rattle.camp_git.specs.Exports.{reference_of};
-ghost use Rattle.camp_git.specs.Inside.Commits.{IsWritten, changes_of, commit_at, from_of, paths_in};
+ghost use Rattle.camp_git.specs.Inside.Commits.{IsWritten, differences_of, commit_at, from_of, paths_in};
 
 use crate::changes::append_changes;
 use crate::texts::{append_message, append_numbered, append_parts};
@@ -29,7 +29,7 @@ pub(crate) fn append_commit(
     new: &Tree,
 ) -> Result<(), AllocError>
     requires { 0 < place.now.mark }
-    ensures { OnOk result (IsWritten text.old.items (commit_at place.now (changes_of old.now new.now (paths_in paths.now))) text.new.items) }
+    ensures { OnOk result (IsWritten text.old.items (commit_at place.now (differences_of old.now new.now (paths_in paths.now))) text.new.items) }
 {
     append_head(text, place)?;
     append_changes(text, paths, old, new)

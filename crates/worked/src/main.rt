@@ -19,7 +19,7 @@
 //! | `no-merge LEFT RIGHT` | the text of a refusal |
 //! | `run book`, `run locked`, `run head`, `run head TRIES`, `run turns TRIES` | the script below, up to an empty line, after its gates |
 //! | `run locked counts` and the like | how its calls were answered, whatever the order of its clients |
-//! | `ends WAY: READS BYTES WRITES BYTES TIMES` | the script or conversation below, with a reader and a writer that fail |
+//! | `ends WAY: READS BYTES WRITES BYTES TIMES` | the script below, with a reader and a writer that fail |
 //!
 //! The notation is that of `camp_notation`. What runs out of memory is tried again. The exit status is 0 if
 //! no line ran out of memory, 3 if one did or the allocation after the last line was refused, 4 if the input

@@ -2,12 +2,10 @@
 
 pub(crate) mod asking;
 pub(crate) mod commands;
-pub(crate) mod ends;
 pub(crate) mod faults;
 pub(crate) mod gates;
 pub(crate) mod runs;
 pub(crate) mod seatings;
-pub(crate) mod talks;
 
 use crate::entries::Play;
 use crate::plays::asking::Asked;

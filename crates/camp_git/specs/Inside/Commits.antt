@@ -6,7 +6,7 @@ use Rattle.std.specs.FinMap.{contains_key, entries, get}
 use Rattle.std.specs.List.{AllByRecursion, flat_map}
 use Rattle.camp_share.specs.Maps.{map_of}
 use Rattle.camp_base.specs.Trees.{Files, Lines}
-use Rattle.camp_git.specs.FastImport.{Commit, FileChange, FileDelete, FileModify, HasGoodPath, IsGood, change_text, commit_text, line}
+use Rattle.camp_git.specs.FastImport.{Commit, FileChange, FileDelete, FileModify, HasGoodPath, IsGood, change_command, commit_text, line}
 use Rattle.camp_git.specs.Exports.{content_of, reference_of}
 use Rattle.camp_git.specs.declared.commits.Place.{Place}
 
@@ -41,8 +41,8 @@ modification_of new path = modified_to path (get new path)
 
 -- the changes from one tree to another that differs only at some paths: files are deleted first, then others get
 -- their lines
-abbrev pub changes_of : Files → Files → List (List ℕ) → List FileChange
-changes_of old new paths = flat_map (deletion_of old new) paths ++ flat_map (modification_of new) paths
+abbrev pub differences_of : Files → Files → List (List ℕ) → List FileChange
+differences_of old new paths = flat_map (deletion_of old new) paths ++ flat_map (modification_of new) paths
 
 -- the paths of a set
 abbrev pub paths_in : List (List ℕ × Unit {0}) → List (List ℕ)
@@ -50,7 +50,7 @@ paths_in set = map (λ entry. entry.0) (entries (map_of (slice_cmp nat_cmp) set)
 
 -- a text grows by changes whose paths can be named
 abbrev pub GrowsBy : List ℕ → List FileChange → List ℕ → Type 0
-GrowsBy old changes new = (new ≡ old ++ flat_map change_text changes) × AllByRecursion HasGoodPath changes
+GrowsBy old changes new = (new ≡ old ++ flat_map change_command changes) × AllByRecursion HasGoodPath changes
 
 -- a text grows by a commit that can be written
 abbrev pub IsWritten : List ℕ → Commit → List ℕ → Type 0

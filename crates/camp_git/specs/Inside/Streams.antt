@@ -4,7 +4,7 @@ use Rattle.std.specs.declared.alloc.Global.{Global}
 use Rattle.std.specs.FinMap.{contains_key}
 use Rattle.camp_base.specs.Trees.{Files}
 use Rattle.camp_catch.specs.declared.catches.Catch.{Catch}
-use Rattle.camp_git.specs.Exports.{IsExport, IsUnheld, Shows}
+use Rattle.camp_git.specs.Exports.{IsExport, IsUnheld, HasFilesOf}
 use Rattle.camp_git.specs.FastImport.{FileChange, GitTree, changed_by}
 use Rattle.camp_git.specs.Holding.{CanHold, CannotHold}
 use Rattle.camp_git.specs.Inside.Commits.{IsWritten, commit_at}
@@ -16,7 +16,7 @@ use Rattle.camp_git.specs.declared.faults.Unexported.TheVariants.{NoBranch, Unhe
 abbrev pub AddsCommit : Place → Files → Files → List ℕ → List ℕ → Type 0
 AddsCommit place old new before after =
     (changes : List FileChange) × IsWritten before (commit_at place changes) after
-    × CanHold new × ((git : GitTree) → Shows git old → Shows (changed_by git changes) new)
+    × CanHold new × ((git : GitTree) → HasFilesOf git old → HasFilesOf (changed_by git changes) new)
 
 -- the stream ended well, or with the file because of which git can't hold a tree, or because memory ran out
 abbrev pub EndsIn : {A : Type 0} → (A → Type 0) → List ℕ → Files → Result A Unexported → Type 0

@@ -2,7 +2,6 @@
 use crate::words::words_of;
 use camp_object::Fault;
 use camp_run::RunFault;
-use camp_talk::{FrameFault, TalkFault};
 use std::alloc::{AllocError, AllocFailed, Global};
 use std::io;
 
@@ -12,8 +11,6 @@ pub(crate) enum PlayFault {
     Memory,
     /// A script was not read, or not run.
     Run(RunFault),
-    /// A conversation ended with an error of its reader or writer.
-    Talk(TalkFault, io::Error),
     /// The harness found a broken invariant.
     Wrong(&'static str),
 }
@@ -28,7 +25,6 @@ impl PlayFault {
         match self {
             PlayFault::Memory => words_of(alloc, &RunFault::Memory),
             PlayFault::Run(fault) => words_of(alloc, &fault),
-            PlayFault::Talk(fault, error) => format!(in alloc; "{fault}: {error}"),
             PlayFault::Wrong(words) => String::from_str(alloc, words),
         }
     }
@@ -68,30 +64,5 @@ pub(crate) fn ran(ended: Result<(), RunFault>) -> Result<(), PlayFault> {
         Ok(()) => Ok(()),
         Err(RunFault::Memory) => Err(PlayFault::Memory),
         Err(fault) => Err(PlayFault::Run(fault)),
-    }
-}
-
-/// Converts the result of a conversation.
-pub(crate) fn talked(ended: Result<(), TalkFault>) -> Result<(), PlayFault> {
-    match ended {
-        Ok(()) => Ok(()),
-        Err(fault) => Err(of_talk(fault)),
-    }
-}
-
-/// Converts the result of a conversation in frames.
-pub(crate) fn talked_in_frames(ended: Result<(), FrameFault>) -> Result<(), PlayFault> {
-    match ended {
-        Ok(()) => Ok(()),
-        Err(FrameFault::Talk(fault)) => Err(of_talk(fault)),
-        Err(_) => Err(PlayFault::Wrong("no frames")),
-    }
-}
-
-fn of_talk(fault: TalkFault) -> PlayFault {
-    match fault {
-        TalkFault::Memory => PlayFault::Memory,
-        TalkFault::Read(error) | TalkFault::Write(error) => PlayFault::Talk(fault, error),
-        TalkFault::Internal => PlayFault::Wrong("internal fault"),
     }
 }

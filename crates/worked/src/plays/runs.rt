@@ -1,23 +1,22 @@
-//! Books and heads: scripts that are run, in one thread, over a lock or over a head, and conversations.
+//! Books and heads: scripts that are run, in one thread, over a lock or over a head.
 ghost use Rattle.std.specs.Prelude.{◌↔◌, ◌<◌, ◌≤◌, IsTrue};
 ghost use Rattle.camp_clients.specs.Sections.{most_tries};
 
 use crate::entries::Play;
 use crate::plays::commands::{number, read_numbers};
-use crate::plays::ends::{Reader, Sizes, Writer};
 use crate::plays::faults::{NO_COMMAND, NO_LINE, PlayFault, ran};
 use crate::plays::gates::{Delays, InTurns};
-use crate::plays::talks::{hold, hold_framed};
 use crate::plays::{Entry, append_words};
 use crate::words::{joined, meaning_of, split_word};
 use bstr::ByteSlice;
 use camp_run::{NoGate, run_book, run_head, run_head_at, run_locked};
 use std::alloc::{AllocError, Global};
-use std::io::{BufReader, Read, Write};
+use std::io::{Read, Write};
 use std::sync::Wait;
 use std::thread::Threads;
+use worked_ends::{Reader, Sizes, Writer};
 
-/// How commands are executed: as a script, or in a conversation.
+/// How a script is run.
 #[derive(Clone, Copy)]
 enum Means {
     /// In one thread.
@@ -28,10 +27,6 @@ enum Means {
     Head(u32),
     /// The same, with clients that take turns.
     Turns(u32),
-    /// Line by line.
-    Talk,
-    /// Request by request.
-    Frames,
 }
 
 const MEANS: &[(&str, Means)] = &[
@@ -39,8 +34,6 @@ const MEANS: &[(&str, Means)] = &[
     ("locked", Means::Locked),
     ("head", Means::Head(100)),
     ("turns", Means::Turns(100)),
-    ("talk", Means::Talk),
-    ("frames", Means::Frames),
 ];
 
 /// What is shown of a run.
@@ -70,7 +63,7 @@ const ENDLESS: Sizes = Sizes {
     times: 0,
 };
 
-/// A script or commands of a conversation, and the delays of the seats of a run.
+/// A script, and the delays of the seats of a run.
 #[derive(Drop)]
 struct Run {
     manner: Manner,
@@ -78,8 +71,7 @@ struct Run {
     commands: Vec<u8>,
 }
 
-/// Runs the script, or answers the conversation, of the lines of an entry, and appends what is to be shown of
-/// it.
+/// Runs the script of the lines of an entry, and appends what is to be shown of it.
 pub(crate) fn append_run<R: Threads + Wait + Sync>(
     rt: &R,
     entry: Entry<'_>,
@@ -103,7 +95,7 @@ fn run_of(alloc: Global, entry: Entry<'_>) -> Result<Run, PlayFault> {
     })
 }
 
-/// Parses a run from a line such as `run head 3 counts` or `ends talk: 9 1 9 1 0`.
+/// Parses a run from a line such as `run head 3 counts` or `ends book: 9 1 9 1 0`.
 fn manner_of(entry: Entry<'_>) -> Result<Manner, PlayFault> {
     let (_, words) = split_word(entry.first);
     if matches!(entry.play, Play::Ends) {
@@ -158,8 +150,7 @@ fn is_allowed(tries: u32) -> bool
 
 impl Run {
     fn writer(&self, alloc: Global) -> Writer {
-        let holds = matches!(self.manner.means, Means::Talk | Means::Frames);
-        Writer::new(alloc, self.manner.sizes, holds)
+        Writer::new(alloc, self.manner.sizes, false)
     }
 
     fn play<R: Threads + Wait + Sync>(
@@ -228,8 +219,6 @@ fn answer<T: Threads + Wait + Sync, R: Read, W: Write>(
             gate.are_over()
         }
         Means::Head(_) | Means::Turns(_) => Err(PlayFault::Wrong("1 to 1000 tries")),
-        Means::Talk => hold(alloc, BufReader::new(alloc, reader)?, writer),
-        Means::Frames => hold_framed(alloc, BufReader::new(alloc, reader)?, writer),
     }
 }
 

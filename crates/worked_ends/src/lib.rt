@@ -1,4 +1,6 @@
-//! Books and heads: readers and writers that move a few bytes a call, are interrupted, and fail.
+//! Readers and writers for worked examples that move a few bytes a call, are interrupted, and fail.
+#![tactic(auto)]
+
 use std::alloc::Global;
 use std::io;
 use std::io::{ErrorKind, Read, Write};
@@ -6,12 +8,12 @@ use std::io::{ErrorKind, Read, Write};
 /// How many calls of a reader and of a writer succeed, how many bytes each of them moves at most, and how
 /// many interrupted calls come before each.
 #[derive(Clone, Copy)]
-pub(crate) struct Sizes {
-    pub(crate) reads: u32,
-    pub(crate) read_size: u32,
-    pub(crate) writes: u32,
-    pub(crate) write_size: u32,
-    pub(crate) times: u32,
+pub struct Sizes {
+    pub reads: u32,
+    pub read_size: u32,
+    pub writes: u32,
+    pub write_size: u32,
+    pub times: u32,
 }
 
 /// A limited number of calls of a reader or a writer, each of which moves up to `size` bytes and comes after
@@ -61,7 +63,7 @@ impl Calls {
 
 /// A reader of these bytes.
 #[derive(Drop)]
-pub(crate) struct Reader<'a> {
+pub struct Reader<'a> {
     rest: &'a [u8],
     calls: Calls,
 }
@@ -78,7 +80,7 @@ impl<'a> Read for Reader<'a> {
 
 /// A writer whose bytes arrive at once, or when it is flushed.
 #[derive(Drop)]
-pub(crate) struct Writer {
+pub struct Writer {
     taken: Vec<u8>,
     holds: bool,
     /// How many of the bytes that it took have arrived.
@@ -107,7 +109,8 @@ impl Write for Writer {
 }
 
 impl<'a> Reader<'a> {
-    pub(crate) fn new(bytes: &'a [u8], sizes: Sizes) -> Reader<'a> {
+    /// Makes a reader of these bytes; its last call fails with `TimedOut`.
+    pub fn new(bytes: &'a [u8], sizes: Sizes) -> Reader<'a> {
         Reader {
             rest: bytes,
             calls: Calls::new(
@@ -121,7 +124,9 @@ impl<'a> Reader<'a> {
 }
 
 impl Writer {
-    pub(crate) fn new(alloc: Global, sizes: Sizes, holds: bool) -> Writer {
+    /// Makes a writer that has taken nothing; its last call fails with `BrokenPipe`. If it `holds`, bytes arrive when
+    /// it is flushed.
+    pub fn new(alloc: Global, sizes: Sizes, holds: bool) -> Writer {
         Writer {
             taken: Vec::new(alloc),
             holds,
@@ -136,12 +141,13 @@ impl Writer {
         }
     }
 
-    pub(crate) fn wants_memory(&self) -> bool {
+    /// Returns whether it ran out of memory for what it took.
+    pub fn wants_memory(&self) -> bool {
         self.wants_memory
     }
 
     /// Returns the bytes that have arrived.
-    pub(crate) fn written(&self) -> &[u8] {
+    pub fn written(&self) -> &[u8] {
         &self.taken[..self.flushed.min(self.taken.len())]
     }
 }
