@@ -3,7 +3,7 @@ use Rattle.std.specs.Prelude.{◌≡◌, List, ◌∷◌, ◌++◌}
 use Rattle.camp_prim.specs.Commuting.{Commute}
 use Rattle.camp_prim.specs.declared.named.Named.{Named}
 
--- .. [p] [q] .. becomes .. [q'] [p'] .., for a relation that leads from p and q to q' and p'
+-- t is s with two neighbours [p] [q] replaced by the [q'] [p'] that a relation gives for them
 pub record CommutesOnce (Turns : Named → Named → Named → Named → Type 0) (s t : List Named) : Type 0 where
   pub before : List Named
   pub p : Named
@@ -15,7 +15,7 @@ pub record CommutesOnce (Turns : Named → Named → Named → Named → Type 0)
   pub turns : Turns p q q' p'
   pub becomes : t ≡ before ++ q' ∷ p' ∷ after
 
--- the least equivalence that commutes two neighbours
+-- the least equivalence relation in which lists that differ by one commute of neighbours are equivalent
 infix 4 ◌~◌
 pub data ◌~◌ : List Named → List Named → Type 0 where
   same : {s : List Named} → s ~ s

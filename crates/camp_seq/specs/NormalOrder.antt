@@ -15,7 +15,7 @@ abbrev pub Norm : List Named → List Named → Type 0
 Norm s [] = s ≡ []
 Norm s (y ∷ t) = (rest : List Named) × Fronts (label_of y) s y rest × IsLeast (label_of y) s × Norm rest t
 
--- the elements with these labels and the others, both in normal order
+-- a list is split into f, the elements with these labels, and t, the others; both are in normal order
 pub record Splits (labels : List Label) (s f t : List Named) : Type 0 where
   pub named : List Named
   pub others : List Named

@@ -21,8 +21,8 @@ pub data Reaches : List Named → List Named → Type 0 where
 abbrev pub HasRoom : List Named → Type 0
 HasRoom s = (t : List Named) → Reaches s t → All (λ p. InRange p.prim) t
 
--- the law of three: with headroom, if p and q commute, all six orders of p q r exist in each of two cases: r
--- commutes past q and then past p; or p commutes past q and then past r, and q and r commute
+-- the law of three, with headroom: if p and q commute, the six orders of p q r exist in two cases. In the first, r
+-- commutes past q and then past p. In the second, p commutes past q and then past r, and q commutes past r.
 pub record LawOfThree : Type 0 where
   pub from_behind : (p q r q' p' r1 q1 y p1 : Named) → HasRoom (p ∷ q ∷ r ∷ [])
       → Commute p q q' p' → Commute q r r1 q1 → Commute p r1 y p1
@@ -36,12 +36,12 @@ pub record LawOfThree : Type 0 where
 abbrev pub NormalForm : Type 0
 NormalForm = (s t : List Named) → HasRoom s → s ~ t → (u : List Named) → Norm s u → Norm t u
 
--- a list of primitives in range whose reach is in range has headroom
+-- a list of primitives in range has headroom if its reach (`reach_of`) is at most 2^30
 abbrev pub ReachGivesRoom : Type 0
 ReachGivesRoom = (s : List Named) → All (λ p. InRange p.prim) s → reach_of s ≤ greatest_reach → HasRoom s
 
--- two lists that begin in the same state have headroom to merge: the inverse of each followed by the other
--- has headroom
+-- two lists that begin in the same state have headroom to merge: the inverse of either, followed by the other, has
+-- headroom
 pub record HasRoomToMerge (s t : List Named) : Type 0 where
   pub forth : HasRoom (inverse_all s ++ t)
   pub back : HasRoom (inverse_all t ++ s)
@@ -50,8 +50,8 @@ pub record HasRoomToMerge (s t : List Named) : Type 0 where
 abbrev pub MergeCleanly : List Named → List Named → Type 0
 MergeCleanly s t = (t' : List Named) × (s' : List Named) × CleanMerge s t t' s'
 
--- whether two lists have headroom to merge does not depend on the order of their elements; nor does, with
--- headroom, whether they merge cleanly
+-- the order of their elements decides neither whether two lists have headroom to merge nor, with headroom, whether
+-- they merge cleanly
 abbrev pub MergesInAnyOrder : Type 0
 MergesInAnyOrder =
     (s u t v : List Named) → HasRoomToMerge s t → s ~ u → t ~ v → HasRoomToMerge u v × (MergeCleanly s t ↔ MergeCleanly u v)

@@ -1,4 +1,4 @@
--- How far the hunks of a list can reach, by their greatest line and the count of their lines.
+-- The reach of a list: its greatest line plus the count of all its lines.
 use Rattle.std.specs.Prelude.{ℕ, ◌+◌, max, List, [], ◌∷◌, length}
 use Rattle.camp_prim.specs.declared.primitives.Primitive.{Primitive}
 use Rattle.camp_prim.specs.declared.primitives.Primitive.TheVariants.{Add, Remove, Hunk}
@@ -26,7 +26,7 @@ abbrev pub all_sides : List Named → ℕ
 all_sides [] = 0
 all_sides (p ∷ s) = sides_of p.prim + all_sides s
 
--- a bound on how far hunks of the list reach in any order that commuting gives it: the greatest line of one
--- plus the old and new lines of all
+-- the reach of a list: the greatest line of its hunks plus the old and new lines of all; no order that commuting
+-- gives has a hunk that reaches further
 abbrev pub reach_of : List Named → ℕ
 reach_of s = greatest_line s + all_sides s

@@ -59,8 +59,8 @@ pub fn put_first(a: Named, s: &mut Seq, ordered: bool) -> Result<bool, AllocErro
     Ok(order(&mut s.items))
 }
 
-/// The same for a list that is its own normal order: moves the primitive to its position, and orders what
-/// comes after it only if one of them may be moved in front of it.
+/// `put_first` for a list that is in normal order: moves the primitive to its position, and orders what comes
+/// after it only if some of that may be moved in front of it.
 fn put_before(mut a: Named, s: &mut Seq) -> Result<bool, AllocError>
     requires { Norm s.old s.old }
     ensures order { IfOk result (λ told. Norm (a ∷ s.old) s.new) }
@@ -72,8 +72,8 @@ fn put_before(mut a: Named, s: &mut Seq) -> Result<bool, AllocError>
     Ok(surely_has_room(&s.items))
 }
 
-/// Commutes `a`, which is before `s`, to its position. Returns that index, and whether `a` is known to stay
-/// before the elements after it.
+/// Commutes `a`, which is before `s`, to its position. Returns the index of its position, and whether `a` is
+/// known to stay before the elements after it.
 fn find_first_place(a: &mut Named, s: &mut [Named]) -> (usize, bool)
     requires { Norm s.old s.old }
     ensures place { GoesIn s.old a.old result.0 s.new a.new }
@@ -113,7 +113,7 @@ pub(crate) fn order(items: &mut [Named]) -> bool
     surely_has_room(items)
 }
 
-/// The same for a list that the quick check does not recognise as ordered.
+/// `order` for a list that the quick check does not recognise as ordered.
 fn order_anew(items: &mut [Named])
     ensures { Norm items.old items.new }
 {
@@ -137,7 +137,7 @@ fn order_by_selection(items: &mut [Named])
     }
 }
 
-/// Commutes the element with the least label that can be moved to the front to the front.
+/// Moves to the front the element with the least label that can be moved there.
 #[tactic(auto, using(crate::proofs::LabelSteps::starts_above))]
 fn settle(items: &mut [Named])
     requires { 0 < length items.old }

@@ -12,7 +12,8 @@ use camp_prim::{Named, Primitive};
 /// The greatest sum of a hunk's line and the counts of its old and of its new lines.
 const MAX_REACH: usize = 1 << 30;
 
-/// A list of primitives in range whose reach is in range has headroom.
+/// A list of primitives in range has headroom if its reach, the greatest line plus all old and new lines, is
+/// at most 2^30.
 #[tactic(auto, using(crate::proofs::Reaching::room_within))]
 pub fn reach_gives_room()
     ensures law { ReachGivesRoom }
@@ -40,8 +41,8 @@ pub(crate) fn surely_has_room(items: &[Named]) -> bool
 }
 
 /// True if two lists that begin in the same state, each followed by one more element, certainly have headroom
-/// to merge in any order of their elements: the greatest line of all their hunks and the counts of all their
-/// lines add up to at most 2^30. Visits each element once.
+/// to merge in any order of their elements: the greatest line and the counts of all their lines add up to at
+/// most 2^30. Visits each element once.
 pub fn has_room_to_merge(s: &[Named], p: &Named, t: &[Named], q: &Named) -> bool
     ensures exact { IsTrue result ↔ (reach_of ((s.now ++ p.now ∷ []) ++ (t.now ++ q.now ∷ [])) ≤ greatest_reach) }
     ensures room { IsTrue result → HasRoomToMerge (s.now ++ p.now ∷ []) (t.now ++ q.now ∷ []) }

@@ -1,4 +1,4 @@
--- An element before or after a list that is its own normal order.
+-- Inserting an element before or after a list that is in normal order.
 use Rattle.std.specs.Prelude.{◌≡◌, ◌≢◌, ◌⊎◌, ℕ, ◌≤◌, Bool, true, false, List, ◌∷◌, [], ◌++◌, length, take, drop}
 use Rattle.std.specs.declared.cmp.Ordering.TheVariants.{Less}
 use Rattle.camp_prim.specs.Labels.{label_of, label_cmp}
@@ -8,9 +8,9 @@ use Rattle.camp_seq.specs.Chains.{CanCommute}
 use Rattle.camp_seq.specs.NormalOrder.{Norm}
 use Rattle.camp_seq.specs.Passing.{Fronts, Passes}
 
--- x0, which was before s0, was commuted in place to the index `at`: the elements from there on are unchanged,
--- and the whole is in normal order as soon as x and the elements after it are; if x0 commutes past all of s0,
--- x commutes past the elements after it
+-- x0, which stood before s0, was commuted to the right in place, up to the index `at`, and is now x. The elements
+-- from there on are unchanged. Once x and these are in normal order, the whole list is. If x0 commutes past all of
+-- s0, x commutes past these.
 pub record GoesIn (s0 : List Named) (x0 : Named) (at : ℕ) (s : List Named) (x : Named) : Type 0 where
   pub bound : at ≤ length s0
   pub long : length s ≡ length s0
@@ -19,25 +19,26 @@ pub record GoesIn (s0 : List Named) (x0 : Named) (at : ℕ) (s : List Named) (x 
   pub passing : (t : List Named) (p : Named) → Passes x0 s0 t p
       → (u : List Named) × (q : Named) × Passes x (drop at s0) u q
 
--- x0, which was after s0, was commuted in place to its position
+-- x0, which stood after s0, was commuted to the left in place, up to the index `at`, and is now x; the whole list is
+-- in normal order
 pub record ComesIn (s0 : List Named) (x0 : Named) (at : ℕ) (s : List Named) (x : Named) : Type 0 where
   pub bound : at ≤ length s0
   pub ordered : Norm (s0 ++ x0 ∷ []) (take at s ++ x ∷ drop at s)
 
--- t is s with the elements from an index on in normal order, or unchanged
+-- t is s with the elements from an index on put in normal order, or s itself if they are known to be so
 abbrev pub OrderedFrom : List Named → ℕ → Bool → List Named → Type 0
 OrderedFrom s at true t = t ≡ s
 OrderedFrom s at false t = (rest : List Named) × Norm (drop at s) rest × (t ≡ take at s ++ rest)
 
--- p after other elements, whose last is `last` and whose greatest label is `greatest`: its own label is less;
--- or it does not commute with the last, and its own label is the greatest from then on
+-- one step of a quick check: p stays after the elements before it, of which `last` is the last and `greatest` the
+-- greatest label. Either p has a lesser label, or it does not commute with `last` and its label is the greatest now.
 abbrev pub StaysBehind : Label → Named → Named → Label → Type 0
 StaysBehind greatest last p more =
     ((label_cmp (label_of p) greatest ≡ Less) × (more ≡ greatest))
     ⊎ ((¬ (CanCommute last p)) × (more ≡ label_of p))
 
--- of the labels that can be moved to the front of a list after p and then commute with p, none that is not
--- less than `label` is less than another
+-- no element of s with a label of at least `greatest`, which can be moved to the front of s and then past p, has a
+-- label below `label`
 abbrev pub NoneBefore : Label → Label → Named → List Named → Type 0
 NoneBefore label greatest p s =
     (other : Label) (found : Named) (u : List Named) → Fronts other s found u → CanCommute p found

@@ -12,16 +12,16 @@ Precedes [] p p' s' = (p' ≡ p) × (s' ≡ [])
 Precedes (q ∷ s) p p' s' =
     (coming : Named) × (q' : Named) × (t : List Named) × Precedes s p coming t × Commute q coming p' q' × (s' ≡ q' ∷ t)
 
--- the same in place
+-- `Precedes` for a list and a primitive that are changed in place
 abbrev pub PrecedesInPlace : List Named × Named → List Named × Named → Type 0
 PrecedesInPlace old new = Precedes old.0 old.1 new.1 new.0
 
--- a and then s are before p: commuted to the left, p is blocked before it passes any element of a
+-- p, which stands after a and then s, is blocked on its way to the left before it has passed any element of a
 abbrev pub IsHeld : List Named → List Named → Named → Type 0
 IsHeld [] s p = Unit {0}
 IsHeld (y ∷ a) s p = ((p' : Named) (t : List Named) → ¬ (Precedes (y ∷ (a ++ s)) p p' t)) × IsHeld a s p
 
--- p0, which was after s0, was commuted in place to the left up to the index `at`, and was blocked there
+-- p0, which stood after s0, was commuted to the left in place and was blocked at the index `at`; it is now p
 pub record ComesUpTo (s0 : List Named) (p0 : Named) (at : ℕ) (s : List Named) (p : Named) : Type 0 where
   pub bound : at ≤ length s0
   pub long : length s ≡ length s0
@@ -29,8 +29,7 @@ pub record ComesUpTo (s0 : List Named) (p0 : Named) (at : ℕ) (s : List Named) 
   pub came : Precedes (drop at s0) p0 p (drop at s)
   pub held : IsHeld (take at s0) (drop at s0) p0
 
--- p0, which was before s0, was commuted in place past the elements before the index `at`, and was blocked
--- there
+-- p0, which stood before s0, was commuted to the right in place and was blocked at the index `at`; it is now p
 pub record GoesPast (s0 : List Named) (p0 : Named) (at : ℕ) (s : List Named) (p : Named) : Type 0 where
   pub bound : at ≤ length s0
   pub long : length s ≡ length s0
@@ -46,7 +45,7 @@ PassesInPlace old new = Passes old.0 old.1 new.1 new.0
 abbrev pub Lacks : Label → List Named → Type 0
 Lacks label s = All (λ p. label_of p ≢ label) s
 
--- the first element with this label
+-- `at` is the index of the first element with this label
 pub record FirstWith (label : Label) (s : List Named) (at : ℕ) : Type 0 where
   pub before : List Named
   pub first : Named
@@ -65,8 +64,8 @@ abbrev pub FirstPasses : List Named → List Named → Type 0
 FirstPasses [] t = ⊥
 FirstPasses (p ∷ s) t = (s' : List Named) × (p' : Named) × Passes p s s' p' × (t ≡ s' ++ p' ∷ [])
 
--- from the index `at` on, first the elements with these labels and then the others; before it the list is
--- unchanged
+-- from the index `at` on the list is reordered: first the `count` elements with these labels, then the others; before
+-- `at` it is unchanged
 pub record PartsFrom (labels : List Label) (s : List Named) (at count : ℕ) (now : List Named) : Type 0 where
   pub named : List Named
   pub others : List Named

@@ -1,4 +1,5 @@
--- The labels of a list in ascending order, up to the first that can be moved to its front.
+-- The search for the least label that can be moved to the front: labels are tried in ascending order, and `tried` is
+-- the last one.
 use Rattle.std.specs.Prelude.{◌≡◌, ◌≢◌, ℕ, ◌+◌, Bool, true, if◌then◌else◌, List, [], ◌∷◌, Option, None, Some, IsTrue, All, ◌⊎◌}
 use Rattle.std.specs.Ordering.{is_lt}
 use Rattle.std.specs.declared.cmp.Ordering.TheVariants.{Less}
@@ -38,7 +39,7 @@ abbrev pub untried : Option Label → List Named → ℕ
 untried tried [] = 0
 untried tried (p ∷ s) = (if is_above tried (label_of p) then 1 else 0) + untried tried s
 
--- t is s with the least label that can be moved to the front at its front
+-- t is s after the element with the least label that can be moved to the front was moved there
 pub record Settles (s t : List Named) : Type 0 where
   pub first : Named
   pub rest : List Named

@@ -8,8 +8,9 @@ use Rattle.camp_prim.specs.declared.named.Named.{Named}
 use Rattle.camp_seq.specs.Chains.{CanCommute}
 use Rattle.camp_seq.specs.NormalOrder.{Norm}
 
--- x after other elements, whose last is `last` and whose greatest label is `greatest`: its own label is not
--- less, and is the greatest from then on; or it is less, and x does not commute with the last
+-- one step of a quick check: x stays after the elements before it, of which `last` is the last and `greatest` the
+-- greatest label. Either the label of x is at least `greatest`, and is the greatest now; or it is less, and x does
+-- not commute with `last`.
 abbrev pub StaysLast : Label → Named → Named → Label → Type 0
 StaysLast greatest last x more =
     ((label_cmp (label_of x) greatest ≢ Less) × (more ≡ label_of x))

@@ -1,4 +1,4 @@
--- What one pass over a list says of its headroom.
+-- The result of one pass over a list that checks its headroom.
 use Rattle.std.specs.Prelude.{◌≡◌, ◌≤◌, ◌+◌, max, ℕ, List}
 use Rattle.std.specs.List.{All}
 use Rattle.camp_base.specs.Limits.{greatest_reach}
@@ -6,8 +6,8 @@ use Rattle.camp_prim.specs.Effect.{InRange}
 use Rattle.camp_prim.specs.declared.named.Named.{Named}
 use Rattle.camp_seq.specs.Shapes.{all_sides, greatest_line}
 
--- a list of primitives in range, started at a line and a count: the greatest line, and the count with all its
--- old and new lines; neither is too great for one hunk
+-- the primitives of the list are in range; `greatest` is the greater of `line` and their greatest line, and `sides`
+-- is `more` plus all their old and new lines; both are at most 2^30
 pub record GoesOnTo (s : List Named) (line more greatest sides : ℕ) : Type 0 where
   pub ranges : All (λ p. InRange p.prim) s
   pub top : greatest ≡ max line (greatest_line s)

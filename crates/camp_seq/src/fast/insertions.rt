@@ -20,8 +20,8 @@ pub(crate) fn order_by_insertion(items: &mut [Named])
     }
 }
 
-/// Commutes the last element to its position among the others, which are in normal order: after those that
-/// block it, and from there after those with lesser labels.
+/// Commutes the last element to its position among the others, which are in normal order: to the left as far
+/// as it can be moved, and back to the right past lesser labels.
 fn place_last(items: &mut [Named])
     requires room { HasRoom items.old }
     requires own { Norm (take (length items.old - 1) items.old) (take (length items.old - 1) items.old) }

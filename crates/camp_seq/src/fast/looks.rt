@@ -23,7 +23,7 @@ pub fn is_own_order(items: &[Named]) -> bool
     greatest_in_order(items).is_some()
 }
 
-/// The same check of a list, and of the list followed by one more element.
+/// Makes the check of `is_own_order` for a list, and for the list followed by one more element.
 pub fn are_own_orders(items: &[Named], last: &Named) -> (bool, bool)
     ensures list { IsTrue result.0 → Norm items.now items.now }
     ensures with_last { IsTrue result.1 → Norm (items.now ++ last.now ∷ []) (items.now ++ last.now ∷ []) }
@@ -37,8 +37,8 @@ pub fn are_own_orders(items: &[Named], last: &Named) -> (bool, bool)
     }
 }
 
-/// The same of a list in which no two neighbours commute. If the last of them does not commute with the one
-/// more element, no other is visited.
+/// `are_own_orders` for a list in which no two neighbours commute. If its last element does not commute with
+/// the added one, no other is visited.
 pub fn are_own_orders_of_chain(items: &[Named], last: &Named) -> (bool, bool)
     requires { Chain items.now }
     ensures list { IsTrue result.0 → Norm items.now items.now }
@@ -66,8 +66,8 @@ fn greatest_in_order(items: &[Named]) -> Option<&Named>
     Some(greatest)
 }
 
-/// Returns the element with the greatest label among those so far and `x`, if `x` stays after the others;
-/// else `None`.
+/// Returns `x` if its label is not less than that of `greatest`; else `greatest` if `x` does not commute with
+/// `last`, the element before it; else `None`.
 fn greatest_with<'a>(greatest: &'a Named, last: &Named, x: &'a Named) -> Option<&'a Named>
     ensures { IfSome result (λ more. StaysLast (label_of greatest.now) last.now x.now (label_of more.now)) }
 {
@@ -80,9 +80,10 @@ fn greatest_with<'a>(greatest: &'a Named, last: &Named, x: &'a Named) -> Option<
     Some(greatest)
 }
 
-/// True only if a list in normal order stays so with one more element before it: no element can be moved in
-/// front of it from after a greater label, from after one that it does not commute with, or from after a
-/// label that is not less than that of `x`.
+/// True only if a list in normal order stays so with `x` before it. There are three reasons why an element
+/// cannot be moved in front of `x`: a greater label before it, a neighbour before it with which it does not
+/// commute, or, before it or its own, a label that is not less than that of `x`. Checks that each element has
+/// one. False decides nothing.
 pub(crate) fn stays_first(x: &Named, s: &[Named]) -> bool
     requires { Norm s.now s.now }
     ensures { IsTrue result → Norm (x.now ∷ s.now) (x.now ∷ s.now) }
@@ -105,7 +106,8 @@ pub(crate) fn stays_first(x: &Named, s: &[Named]) -> bool
     true
 }
 
-/// Returns the element with the greatest label, `p` included, if `p` stays after the others; else `None`.
+/// Returns `greatest` if the label of `p` is less; else `p` if it does not commute with `last`, the element
+/// before it; else `None`.
 fn greatest_behind<'a>(greatest: &'a Named, last: &Named, p: &'a Named) -> Option<&'a Named>
     ensures { IfSome result (λ more. StaysBehind (label_of greatest.now) last.now p.now (label_of more.now)) }
 {
