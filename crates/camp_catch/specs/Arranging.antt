@@ -27,8 +27,8 @@ StopsAt (j ∷ list) k on =
 abbrev pub IsOf : List (List ℕ) → Catch → Type 0
 IsOf names k = Contains names (catch_key k).name
 
--- rest list <-> first others: the catches of the names are commuted to before `rest` and the others, in their
--- order
+-- rest list <-> first others: the catches of the names in a list are commuted to before `rest` and the other catches
+-- of the list, in their order
 abbrev pub ArrangesBehind : List (List ℕ) → List Catch → List Catch → List Catch → List Catch → Type 0
 ArrangesBehind names rest [] first others = (first ≡ []) × (others ≡ rest)
 ArrangesBehind names rest (k ∷ list) first others =
@@ -36,8 +36,8 @@ ArrangesBehind names rest (k ∷ list) first others =
     × ComesBefore rest k k' rest' × ArrangesBehind names rest' list t others × (first ≡ k' ∷ t)))
     ⊎ ((¬ (IsOf names k)) × ArrangesBehind names (rest ++ k ∷ []) list first others)
 
--- after the catches of `rest`, which are of none of the names: `patch` is the absolute label of the first
--- catch of the names that is blocked, and `on` that of the catch that blocks it
+-- the list after `rest`, which has no catch of the names, cannot be arranged: `patch` is the absolute label of the
+-- first catch of the names that is blocked, and `on` that of the catch that blocks it
 abbrev pub SticksBehind : List (List ℕ) → List Catch → List Catch → Key → Key → Type 0
 SticksBehind names rest [] patch on = ⊥
 SticksBehind names rest (k ∷ list) patch on =

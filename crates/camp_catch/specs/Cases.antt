@@ -9,12 +9,12 @@ use Rattle.camp_catch.specs.declared.catches.Conflictor.{Conflictor}
 abbrev pub Exclude : (Catch → Catch → Type 0) → (Catch → Catch → Type 0) → Type 0
 Exclude One Other = (k' j' k j : Catch) → One k' j' → ¬ (Other k j)
 
--- the same of two cases of a plain catch and a conflictor
+-- `Exclude` for two cases of a plain catch and a conflictor
 abbrev pub PlainExclude :
     (Named → Conflictor → Catch → Catch → Type 0) → (Named → Conflictor → Catch → Catch → Type 0) → Type 0
 PlainExclude One Other = (a : Named) (k : Conflictor) → Exclude (One a k) (Other a k)
 
--- the same of two cases of two conflictors
+-- `Exclude` for two cases of two conflictors
 abbrev pub ConflictorsExclude :
     (Conflictor → Conflictor → Catch → Catch → Type 0) → (Conflictor → Conflictor → Catch → Catch → Type 0) → Type 0
 ConflictorsExclude One Other = (j k : Conflictor) → Exclude (One j k) (Other j k)
@@ -28,8 +28,8 @@ pub record CasesExclude : Type 0 where
   pub apart_several : ConflictorsExclude TwoConflictorsApart OneOfSeveralConflicts
   pub only_several : ConflictorsExclude OnlyConflictGoes OneOfSeveralConflicts
 
--- the same of merging; the mirror is the cases of a plain catch and a conflictor with the results exchanged,
--- and two conflictors have one case
+-- of two cases of merging catches of the same kinds, at most one has a result. The cases of a conflictor and a plain
+-- catch are those of a plain catch and a conflictor, with the results exchanged. Two conflictors have one case.
 pub record MergeCasesExclude : Type 0 where
   pub both_plain : (a b : Named) → Exclude (Clean a b) (FirstConflict a b)
   pub plain_and_conflictor : PlainExclude PlainBesideConflictor PlainJoinsConflictor

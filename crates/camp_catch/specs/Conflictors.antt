@@ -15,24 +15,23 @@ against a b = record { effect = inverse_of a ∷ []; conflicts = only (bare a); 
 abbrev pub in_conflict_with : ContextedPatch → ContextedPatch → Conflictor
 in_conflict_with l i = record { effect = []; conflicts = only l; identity = i }
 
--- (s, X, i): the same with another effect
+-- (s, X, i): the conflictor with another effect
 abbrev pub with_effect : List Named → Conflictor → Conflictor
 with_effect s k = record { effect = s; conflicts = k.conflicts; identity = k.identity }
 
--- (r, Y, i): the same with other conflicts
+-- (r, Y, i): the conflictor with other conflicts
 abbrev pub with_conflicts : ContextedPatches → Conflictor → Conflictor
 with_conflicts ys k = record { effect = k.effect; conflicts = ys; identity = k.identity }
 
--- (r, X and l, i): the same in conflict with l too
+-- (r, X and l, i): the conflictor in conflict with l too
 abbrev pub joined_by : ContextedPatch → Conflictor → Conflictor
 joined_by l k = with_conflicts (with_member k.conflicts l) k
 
--- (r, X without a label, i): the same without the conflict of this absolute label
+-- (r, X without a label, i): the conflictor without its conflict of this absolute label
 abbrev pub without : Key → Conflictor → Conflictor
 without key k = with_conflicts (remove k.conflicts key) k
 
--- (r, X, i) becomes (r', X', i'): the three relations lead from the effect, each member of the conflicts, and
--- the identity to the new ones
+-- (r, X, i) becomes (r', X', i'), where the first relation gives r', the second each member of X', and the third i'
 pub record Becomes (IsEffect : List Named → Type 0) (ChangesMember ChangesIdentity : ContextedPatch → ContextedPatch → Type 0)
     (old new : Conflictor) : Type 0 where
   pub effect : IsEffect new.effect

@@ -66,7 +66,7 @@ MergePlainConflictor a k k' j' = PlainBesideConflictor a k k' j' ⊎ PlainJoinsC
 abbrev pub Mirror : Conflictor → Named → Catch → Catch → Type 0
 Mirror j b k' j' = MergePlainConflictor b j j' k'
 
--- l joins the conflicts if a fact holds; else they stay
+-- l joins the conflicts if a fact holds; else the conflicts are unchanged
 abbrev pub JoinsWhere : Type 0 → ContextedPatch → Conflictor → Conflictor → Type 0
 JoinsWhere Holds l old new = (Holds × (new ≡ joined_by l old)) ⊎ ((¬ Holds) × (new ≡ old))
 

@@ -31,7 +31,8 @@ pub struct Stuck {
 }
 
 /// Commutes the catches of the patches whose names are keys of the map to the front, past the others. Blocked
-/// by the first of them that cannot pass another. Catches that do not change are shared with the old list.
+/// if one of them cannot pass one of the others; the first such pair is reported. Catches that do not change
+/// are shared with the old list.
 pub fn arrange<V>(
     alloc: Global,
     list: &[Shared<Catch>],

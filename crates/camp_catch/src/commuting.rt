@@ -177,8 +177,8 @@ fn plain_leaves_the_set(
     Ok(Some((Catch::Conflictor(second), Catch::Conflictor(first))))
 }
 
-/// Returns the list after the inverse of `a` at its front. `None` if the primitive with that label that can
-/// be moved to the front is not that inverse.
+/// Moves the inverse of `a` to the front of a list, and returns the rest. `None` if no primitive with its
+/// label can be moved there, or that primitive is not the inverse of `a`.
 fn behind_inverse(a: &Named, s: &Seq) -> Result<Option<Seq>, AllocError>
     ensures { IfOk result
         (Finds (λ rest. Fronts (label_of (inverse_of a.now)) s.now (inverse_of a.now) rest)) }

@@ -126,7 +126,7 @@ fn joined_behind(r: &Seq, s: Seq, k: &Conflictor, l: &Contexted) -> Result<Confl
     joined(moved, l)
 }
 
-/// Commutes two effects, except that what the first undoes of a set stays first.
+/// Commutes two effects, except that the primitives with which the first undoes members of a set stay first.
 fn effects_pass(
     alloc: Global,
     r: &Seq,
@@ -145,7 +145,7 @@ fn effects_pass(
     Ok(Some((effect, ordered(first))))
 }
 
-/// Splits a list into what it undoes of a set and the rest.
+/// Splits a list into the primitives that undo members of a set, and the rest.
 fn parted(alloc: Global, r: &Seq, ys: &CtxSet) -> Result<Option<(Seq, Seq)>, AllocError>
     ensures { IfOk result (FindsPair (Splits (labels_undone r.now ys.now) r.now)) }
 {

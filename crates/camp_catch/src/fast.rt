@@ -1,7 +1,7 @@
 //! Faster ways to the results of the definitions. Each says when it applies; there its result is the defined one.
 //!
-//! - Two plain catches that keep their lines commute unchanged, and by the square law also merge unchanged. No catch is
-//! made; comparing a new catch with the old one would take longer than keeping both.
+//! - Two plain catches that keep their lines commute unchanged, and by the square law also merge unchanged. No catch
+//! is made then: both are kept.
 //! - A plain catch and a conflictor commute unchanged if the plain one is not in the conflictor's set, passes its
 //! effect unchanged, and leaves its conflicts and its identity unchanged. By the square law a plain one passes a
 //! conflictor before it in the same way if its inverse does.
@@ -10,11 +10,11 @@
 //! set of the second, it leaves that set, and the second joins the set of the first, whatever joined it before.
 //! - A plain catch and a conflictor of the same state merge unchanged if the inverse of the plain one passes the
 //! conflictor unchanged, and the two do not conflict.
-//! - Of the last catch of a pull the other side is not made: nobody reads what the branch itself would become
-//! beside it. There is a result whenever the side that is read has one, since adding always gives something.
-//! - The conflicts that a catch gains on its way join its set at the end. If two conflictors have no effect, merging
-//! changes nothing but their sets: if they conflict, the identity of each joins the set of the other, whatever
-//! joined it before. So two lists that merge, and one that is arranged or aligned, keep beside each catch what it
+//! - The last catch of a pull is merged to one result alone, what it becomes after the branch: what the branch would
+//! become after it is read by nobody. If the one exists, so does the other, since adding always has a result.
+//! - The conflicts that a catch gains while it moves through a list join its set at the end. If two conflictors have no
+//! effect, merging changes nothing but their sets: if they conflict, the identity of each joins the set of the other,
+//! whatever joined it before. So merging, arranging and aligning lists keep beside each catch the conflicts that it
 //! gains, and make its set once for all of them when another step reads it.
 mod behind;
 mod gaining;

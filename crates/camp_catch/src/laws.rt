@@ -80,14 +80,14 @@ pub fn arrange_goes_by_members()
     ensures law { ArrangeByMembers }
 {}
 
-/// Of plain catches with headroom: a patch that blocks some patches on their way to the front is among the
-/// names of every larger arrangement that succeeds.
+/// Of plain catches with headroom: if a patch blocks some patches on their way to the front, each set that
+/// has these patches and can be moved to the front has it too.
 pub fn what_stops_comes_along()
     ensures law { WhatStopsComesAlong }
 {}
 
-/// Of plain catches with headroom: if the patches of two lists of names can each be moved to the front, those
-/// of the first can be moved there after those of the second.
+/// Of plain catches with headroom: if two groups of patches can be moved to the front, each for itself, then
+/// the second can be moved there first, and the rest of the first directly after it.
 pub fn fronts_come_behind_fronts()
     ensures law { FrontsComeBehindFronts }
 {}

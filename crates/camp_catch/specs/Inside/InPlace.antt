@@ -10,15 +10,15 @@ use Rattle.camp_catch.specs.Merging.{MergeCatch}
 use Rattle.camp_catch.specs.declared.catches.Catch.{Catch}
 use Rattle.camp_catch.specs.declared.catches.Catch.TheVariants.{Plain}
 
--- j and the k after it commute in place: j becomes j', and k becomes k'
+-- j and then k commute in place: k' is written where k was, and j' where j was
 abbrev pub CommutesInPlace : Catch × Catch → Catch × Catch → Type 0
 CommutesInPlace old new = CommuteCatch old.0 old.1 new.1 new.0
 
--- j and the k of the same state merge in place
+-- j and k of the same state merge in place: k' is written where k was, and j' where j was
 abbrev pub MergesInPlace : Catch × Catch → Catch × Catch → Type 0
 MergesInPlace old new = MergeCatch old.0 old.1 new.1 new.0
 
--- j and the k of the same state merge, and k becomes k'
+-- j and k of the same state merge, and this is what k becomes after j
 abbrev pub MergesBehind : Catch → Catch → Catch → Type 0
 MergesBehind j k k' = (j' : Catch) × MergeCatch j k k' j'
 
@@ -31,7 +31,7 @@ with_gained gained (Catch.Conflictor k) = Catch.Conflictor (with_conflicts (fold
 abbrev pub Lacks : Key → List Catch → Type 0
 Lacks key list = All (λ j. catch_key j ≢ key) list
 
--- the first catch with this absolute label
+-- `at` is the index of the first catch with this absolute label
 pub record FirstWith (key : Key) (list : List Catch) (at : ℕ) : Type 0 where
   pub before : List Catch
   pub first : Catch

@@ -9,27 +9,26 @@ use Rattle.camp_catch.specs.declared.fast.gaining.Meeting.{Meeting}
 use Rattle.camp_catch.specs.declared.fast.gaining.Meeting.TheVariants.{Aside, Conflict, Unknown}
 use Rattle.camp_catch.specs.declared.fast.passing.Passing.{Passing}
 
--- the two merge, and the second gains `these` conflicts, and the first `those`, whatever they have gained
--- before
+-- two catches merge, whatever conflicts they have gained before; the second then gains `these`, and the first `those`
 abbrev pub EachGains : Catch → Catch → List ContextedPatch → List ContextedPatch → Type 0
 EachGains j k these those =
     (before beside : List ContextedPatch)
     → MergeCatch (with_gained before j) (with_gained beside k) (with_gained (beside ++ these) k) (with_gained (before ++ those) j)
 
--- what the quick check says of a merge is true: neither gains, or each gains the given conflict; Unknown says
--- nothing
+-- the result of the quick check is true of a merge: neither gains a conflict, or each gains the given one; `Unknown`
+-- says nothing
 abbrev pub MeetAs : Catch → Catch → Meeting → Type 0
 MeetAs j k Aside = EachGains j k [] []
 MeetAs j k (Conflict l i) = EachGains j k (l ∷ []) (i ∷ [])
 MeetAs j k Unknown = Unit {0}
 
--- k passes the j before it and becomes k', and j gains these conflicts, whatever it has gained before
+-- k commutes with the j before it, whatever conflicts j has gained before: k becomes k', and j gains these conflicts
 abbrev pub PassesGaining : Catch → Catch → Catch → List ContextedPatch → Type 0
 PassesGaining j k k' these =
     (before : List ContextedPatch) → CommuteCatch (with_gained before j) k k' (with_gained (before ++ these) j)
 
--- what the quick check says of commuting is true: both stay, or k becomes the given catch and j gains the
--- given conflict; Unknown says nothing
+-- the result of the quick check is true of a commute: both catches stay unchanged, or k becomes the given catch and j
+-- gains the given conflict; `Unknown` says nothing
 abbrev pub PassAs : Catch → Catch → Passing → Type 0
 PassAs j k Passing.Aside = PassesGaining j k k []
 PassAs j k (Passing.Leaves k' l) = PassesGaining j k k' (l ∷ [])

@@ -27,8 +27,8 @@ pub record JoinedBehind (t s : List Named) (k : Conflictor) (l : ContextedPatch)
 abbrev pub JoinedBySeen : List Named → ContextedPatch → Conflictor → Conflictor → Type 0
 JoinedBySeen t i k made = (i' : ContextedPatch) × AddsAll t i i' × (made ≡ joined_by i' k)
 
--- (common rr, X, i) (s, Y, l): (common s', Z', l') and rr', where rr s <-> s' rr', Z is Y without the patch of the first
--- conflictor, and rr' added to Z and l gives Z' and l'
+-- from (common rr, X, i) and then (s, Y, l), where rr s <-> s' rr', come (common s', Z', l') and rr'; Z is Y without
+-- the patch of the first conflictor, and rr' added to Z and l gives Z' and l'
 pub record LeavesTheOthers (j k moved : Conflictor) (rr' : List Named) : Type 0 where
   pub effect : List Named
   pub effects : EffectsPass j.effect k.effect (remove k.conflicts (context_key j.identity)) effect rr'
@@ -40,6 +40,6 @@ pub record LeavesSet (key : Key) (s : List Named) (k made : Conflictor) : Type 0
   pub effect : Norm s s'
   pub is : made ≡ with_effect s' (without key k)
 
--- common s', where s' is s in normal order, in normal order too
+-- `common` followed by the normal order of s, and the whole in normal order
 abbrev pub JoinsInOrder : List Named → List Named → List Named → Type 0
 JoinsInOrder common s joined = (s' : List Named) × Norm s s' × Norm (common ++ s') joined

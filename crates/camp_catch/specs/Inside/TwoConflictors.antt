@@ -31,7 +31,7 @@ pub record TellsConflict (j k : Conflictor) (found : Bool) : Type 0 where
   pub sees : AddsAll k.effect k.identity y
   pub tells : IsTrue found ↔ Conflict x y
 
--- the identity of each of two conflictors joins the set of the other, if the two conflict
+-- each of two conflictors gains the identity of the other as a conflict, if the two conflict; else both stay
 pub record JoinEachOther (in_conflict : Bool) (moved own : Conflictor) (k' j' : Catch) : Type 0 where
   pub joined : Conflictor
   pub own_joined : Conflictor

@@ -19,7 +19,8 @@ use camp_ctx::Contexted;
 use camp_share::{Share, Shared};
 use std::alloc::{AllocError, Global};
 
-/// Merges one catch with a list to what it is after the list. Does not make what the list becomes.
+/// Merges one catch with a list of the same state; the catch becomes what it is after the list. What the list
+/// becomes is not made.
 pub(crate) fn merge_behind_all(
     alloc: Global,
     q: &[Gaining],
@@ -39,7 +40,7 @@ pub(crate) fn merge_behind_all(
     Ok(settled)
 }
 
-/// Merges `k` with the `j` of the same state to what it is after `j`.
+/// Merges `k` with `j` of the same state; `k` becomes what it is after `j`.
 pub(crate) fn merge_behind(
     alloc: Global,
     j: &Catch,

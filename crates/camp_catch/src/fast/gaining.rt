@@ -43,7 +43,8 @@ impl Model for Gaining {
 pub(crate) enum Meeting {
     /// Both stay unchanged.
     Aside,
-    /// The second gains the first value as a conflict, and the first the second value; nothing else changes.
+    /// Each gains a conflict: the second catch the first value, and the first catch the second value. Nothing
+    /// else changes.
     Conflict(Contexted, Contexted),
     /// The quick check does not decide.
     Unknown,
@@ -79,7 +80,8 @@ impl Gaining {
         Shared::new(alloc, catch)
     }
 
-    /// The same, and consumes the catch; it is not copied if it has gained nothing.
+    /// Returns the catch with the conflicts that it has gained, and consumes it; does not copy it if it has
+    /// gained nothing.
     fn into_settled(self) -> Result<Shared<Catch>, AllocError>
         ensures { IfOk result (λ catch. catch ≡ self) }
     {
@@ -126,7 +128,7 @@ impl Gaining {
         }
     }
 
-    /// Merges with the `j` of the same state, and becomes what it is after `j`. What `j` becomes is not made,
+    /// Merges with `j` of the same state, and becomes what it is after `j`. What `j` becomes is not made,
     /// since nobody reads it.
     pub(crate) fn go_behind(&mut self, j: &Gaining) -> Result<bool, AllocError>
         ensures exact { IfOk result (λ done. Changes (MergesBehind j.now) self.old done self.new) }
@@ -220,8 +222,8 @@ fn meeting_of(j: &Catch, k: &Catch) -> Result<Meeting, AllocError>
     }
 }
 
-/// Checks how two conflictors of the same state merge: without effects, each gains the other's identity if
-/// they conflict.
+/// Checks how two conflictors of the same state merge. If neither has an effect, each gains the identity of
+/// the other where they conflict, and both stay unchanged where they do not.
 fn meeting_of_two(j: &Conflictor, k: &Conflictor) -> Result<Meeting, AllocError>
     ensures { IfOk result (MeetAs (AnyCatch.Conflictor j.now) (AnyCatch.Conflictor k.now)) }
 {

@@ -52,8 +52,8 @@ fn passing_of_two(j: &Conflictor, k: &Conflictor) -> Result<Passing, AllocError>
     }
 }
 
-/// Checks the case `([], X, i) ([], Y, l) <-> ([], Y without j, l) ([], X and l, i)`, which needs more than
-/// `j` in `Y`.
+/// Checks the case `([], X, i) ([], Y, l) <-> ([], Y without j, l) ([], X and l, i)`, in which `Y` has more
+/// members than `j`.
 fn passing_out(j: &Conflictor, k: &Conflictor) -> Result<Passing, AllocError>
     requires first { j.now.effect ≡ [] }
     requires second { k.now.effect ≡ [] }
