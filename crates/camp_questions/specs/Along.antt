@@ -13,9 +13,8 @@ use Rattle.camp_questions.specs.Dependencies.{AreGrown, ComeToFront, StickOn}
 use Rattle.camp_questions.specs.declared.faults.Unanswered.{Unanswered}
 use Rattle.camp_questions.specs.declared.faults.Unanswered.TheVariants.{Refused, Memory}
 
--- the patches that have to be pulled from one branch into another for these names: of those that `to` lacks, which
--- come after the common patches; while they can't be moved to the front of these, the name of the patch that blocks
--- them is added; from <-> common behind
+-- the patches that a pull of these names has to list: those of the names that `to` lacks, and, while they cannot be
+-- moved to the front of what `from` has after the common patches, each patch that blocks them; from <-> common behind
 abbrev pub ComesAlong : List Catch → List Catch → List (List ℕ) → List (List ℕ) → Type 0
 ComesAlong from to names told =
     (common : List Catch) × (behind : List Catch) × Arrange (common_names from to) from common behind
@@ -32,18 +31,18 @@ AlongOr from to names answer =
     ((told : List (List ℕ)) × (answer ≡ Ok told) × ComesAlong from to names told)
     ⊎ ((name : List ℕ) × (answer ≡ Err (Diverged name)) × HaveDiverged from to name)
 
--- a question about two branches: refused if they are the same branch
+-- a question about two branches, which is refused if they are one branch
 abbrev pub OfTwo : {A : Type 0} → List ℕ → List ℕ → (AnswerOf A → Type 0) → AnswerOf A → Type 0
 OfTwo from to GoesOn answer = ((from ≡ to) × (answer ≡ Err (SameBranch to))) ⊎ ((from ≢ to) × GoesOn answer)
 
--- the question for the names that a pull of these has to list
+-- the question which names a pull of these has to list
 abbrev pub AreAlong : Contents → List ℕ → List ℕ → List (List ℕ) → AnswerOf (List (List ℕ)) → Type 0
 AreAlong state from to names =
     OfBranch state from (λ theirs. OfBranch state to (λ ours.
     OfTwo from to (OfPatches theirs names (AlongOr theirs ours names))))
 
--- there are two branches, and the first has the patches; only then does the question allocate, and it may run out of
--- memory, also if the branches have diverged
+-- the question may run out of memory: both branches exist, they differ, and the first has the patches. Before these
+-- tests it does not allocate; after them it may run out of memory even if the branches have diverged.
 pub record MayBeTried (state : Contents) (from to : List ℕ) (names : List (List ℕ)) : Type 0 where
   pub theirs : List Catch
   pub ours : List Catch

@@ -24,7 +24,7 @@ pub record Known : Type 0 where
   pub names : List (List ℕ)
   pub taken : FinMap key_cmp (List (List ℕ))
 
--- at first nothing is known
+-- the state before the first effect: nothing is known
 abbrev pub nothing_known : Known
 nothing_known = record { names = []; taken = empty }
 
@@ -62,13 +62,13 @@ behind_change path name key (Remove other) known = known
 behind_change path name key (Hunk hunk) known =
     if bytes_eq hunk.path path then behind_hunk name key hunk known else known
 
--- after an effect of a patch, one primitive after the other
+-- the state after an effect of a patch, primitive by primitive
 abbrev pub behind_all : List ℕ → List ℕ → List Named → Known → Known
 behind_all path name [] known = known
 behind_all path name (p ∷ s) known =
     behind_all path name s (behind_change path name (key_of (label_of p)) p.prim known)
 
--- after catches, one after the other
+-- the state after catches, one after the other
 abbrev pub behind_catches : List ℕ → List Catch → Known → Known
 behind_catches path [] known = known
 behind_catches path (k ∷ ks) known =
@@ -88,7 +88,7 @@ abbrev pub Annotates : List Catch → List ℕ → Annotated → Type 0
 Annotates branch path told =
     (tree : Files) × LeadsTo branch tree × (told ≡ annotated (get tree path) (names_of_lines path branch))
 
--- the question for the names of the lines of a path
+-- the question which patch added each line of a path
 abbrev pub AreAnnotated : Contents → List ℕ → List ℕ → AnswerOf Annotated → Type 0
 AreAnnotated state branch path =
     OfBranch state branch (λ catches answer. (told : Annotated) × (answer ≡ Ok told) × Annotates catches path told)

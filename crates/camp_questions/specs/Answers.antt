@@ -17,7 +17,7 @@ abbrev pub OfBranch : {A : Type 0} → Contents → List ℕ → (List Catch →
 OfBranch state branch GoesOn answer =
     MatchOption (catches_of state.branches branch) (answer ≡ Err (NoBranch branch)) (λ catches. GoesOn catches answer)
 
--- a question about patches of a branch: refused with the first of these names that it lacks
+-- a question about patches of a branch: refused with the first of these names of which the branch has no patch
 abbrev pub OfPatches : {A : Type 0} → List Catch → List (List ℕ) → (AnswerOf A → Type 0) → AnswerOf A → Type 0
 OfPatches catches names GoesOn answer =
     MatchOption (first_lacked catches names) (GoesOn answer) (λ name. answer ≡ Err (NoPatch name))
@@ -28,7 +28,7 @@ Tells ComesTo (Ok answer) = ComesTo (Ok answer)
 Tells ComesTo (Err (Refused refusal)) = ComesTo (Err refusal)
 Tells {A} ComesTo (Err Memory) = (answer : A) × ComesTo (Ok answer)
 
--- the same of a question that allocates before its answer is known: out of memory is reported only if the question is
+-- `Tells` for a question that allocates before its answer is known: out of memory is reported only if the question is
 -- not refused
 abbrev pub TellsOrWants : {A : Type 0} → (AnswerOf A → Type 0) → Result A Unanswered → Type 0
 TellsOrWants ComesTo (Ok answer) = ComesTo (Ok answer)

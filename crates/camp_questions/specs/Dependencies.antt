@@ -26,8 +26,7 @@ CanGo branch names = (left : List Catch) × ObliterateGives branch names (Ok lef
 abbrev pub AreHeldIn : List Catch → List (List ℕ) → List ℕ → Type 0
 AreHeldIn branch names name = (on : List ℕ) × ObliterateGives branch names (Err (Depends name on))
 
--- the names that are added one after the other: none if the names do, else the one that stops them, followed by those
--- that are added to the names with that one
+-- the names that are added one by one until `Done` holds: each next one stops the names there so far
 abbrev pub AreAdded :
     (List (List ℕ) → Type 0) → (List (List ℕ) → List ℕ → Type 0) → List (List ℕ) → List (List ℕ) → Type 0
 AreAdded Done Stops names [] = Done names
@@ -37,7 +36,7 @@ AreAdded Done Stops names (name ∷ added) = Stops names name × AreAdded Done S
 abbrev pub in_order : List Catch → List (List ℕ) → List (List ℕ)
 in_order branch names = filter (is_among names) (names_of branch)
 
--- the names and those that are added, in the order of a branch
+-- `grown` has the names and those that are added one by one, in the order of a branch
 abbrev pub AreGrown :
     List Catch → (List (List ℕ) → Type 0) → (List (List ℕ) → List ℕ → Type 0) → List (List ℕ) → List (List ℕ) → Type 0
 AreGrown branch Done Stops names grown =
@@ -53,7 +52,8 @@ Needs branch names needed = AreGrown branch (ComeToFront branch) (StickOn branch
 abbrev pub HeldBy : List Catch → List (List ℕ) → List (List ℕ) → Type 0
 HeldBy branch names held = AreGrown branch (CanGo branch) (AreHeldIn branch) names held
 
--- a question for names that have a relation to these in a branch, which has the patches of these
+-- a question about patches of a branch, answered by the names to which a relation leads; refused if the branch lacks
+-- one of the patches
 abbrev pub OfNames :
     (List Catch → List (List ℕ) → List (List ℕ) → Type 0) → Contents → List ℕ → List (List ℕ)
     → AnswerOf (List (List ℕ)) → Type 0

@@ -31,7 +31,8 @@ pub record IsAcceptedSo (call : Call) (next : Contents) (seen : Foreseen) : Type
   pub written : branch_written call ≡ Some standing.branch
   pub stands : StandsIn next standing
 
--- the foreseen result of a decision: that of a call that is accepted, or the reply alone
+-- the foreseen result of a call, given its decision: if it is accepted, its reply and the branch that it writes to;
+-- else the reply alone
 abbrev pub ForeseesOf : Call → Decision → Foreseen → Type 0
 ForeseesOf call (Next next) seen = IsAcceptedSo call next seen
 ForeseesOf call (Answer answer) seen = (seen.reply ≡ answer) × (seen.changed ≡ None)

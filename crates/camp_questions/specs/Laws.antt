@@ -64,12 +64,12 @@ pub record MissingIsPulled : Type 0 where
 abbrev pub AreAmong : List (List ℕ) → List (List ℕ) → Type 0
 AreAmong names others = (name : List ℕ) → is_among names name ≡ true → is_among others name ≡ true
 
--- a name was added on the way from some names to others: it stops some names between the two
+-- a name was added while names grew: it stops some set of names between the first ones and the grown ones
 abbrev pub WasMet : (List (List ℕ) → List ℕ → Type 0) → List (List ℕ) → List (List ℕ) → List ℕ → Type 0
 WasMet Stops names grown name =
     (between : List (List ℕ)) × AreAmong names between × AreAmong between grown × Stops between name
 
--- the grown names have all they started from, and each other one was added on the way
+-- the grown names have all that they grew from, and each further one was added on the way
 pub record GrewFrom (Stops : List (List ℕ) → List ℕ → Type 0) (names grown : List (List ℕ)) : Type 0 where
   pub has : AreAmong names grown
   pub met :
@@ -92,30 +92,29 @@ pub record IsPlain (branch : List Catch) : Type 0 where
   pub are : branch ≡ map Plain patches
   pub room : HasRoom patches
 
--- in a branch with plain catches only that have headroom, the dependencies of names are among all names that contain
--- these and can be moved to its front
+-- of plain catches with headroom: the dependencies of names are in every list that has these names and can be moved
+-- to the front of the branch
 abbrev pub NeedsAreLeast : Type 0
 NeedsAreLeast =
     (branch : List Catch) (names needed others : List (List ℕ)) → IsPlain branch → Needs branch names needed →
     AreAmong names others → ComeToFront branch others → AreAmong needed others
 
--- in a branch with plain catches only that have headroom, the dependents of names are among all names that contain
--- these and can be taken out
+-- of plain catches with headroom: the dependents of names are in every list that has these names and can be taken out
+-- of the branch
 abbrev pub HeldIsLeast : Type 0
 HeldIsLeast =
     (branch : List Catch) (names held others : List (List ℕ)) → IsPlain branch → HeldBy branch names held →
     AreAmong names others → CanGo branch others → AreAmong held others
 
--- in a branch with plain catches only that have headroom, the dependencies can be pulled into a branch that has none
--- of them: such a pull does not fail because one of its patches depends on another patch
+-- of plain catches with headroom: if the dependencies of patches are pulled into a branch that has none of them, the
+-- pull is not refused because one of its patches depends on another
 abbrev pub NeedsCanBePulled : Type 0
 NeedsCanBePulled =
     (from to : List Catch) (names needed : List (List ℕ)) → IsPlain from → first_lacked from names ≡ None →
     Needs from names needed → ((name : List ℕ) → is_among needed name ≡ true → has_patch to name ≡ false) →
     (patch on : List ℕ) → ¬ (PullGives from to needed (Err (blocked.Depends patch on)))
 
--- in a branch with plain catches only that have headroom, one patch depends on another exactly if it is a dependent
--- of the other
+-- of plain catches with headroom: one patch depends on another exactly if it is a dependent of the other
 abbrev pub NeedsAndHeldAreOne : Type 0
 NeedsAndHeldAreOne =
     (branch : List Catch) (name other : List ℕ) (needed held : List (List ℕ)) → IsPlain branch →
@@ -134,8 +133,8 @@ HeldCanGo =
 abbrev pub HeldIsDetermined : Type 0
 HeldIsDetermined = (branch : List Catch) (names : List (List ℕ)) → ExactlyOne (HeldBy branch names)
 
--- each line of a file has a name, and each name is that of a patch of the branch; when a hunk is undone, all lines
--- have the names that they had
+-- each line of a file has a name, and each name is that of a patch of the branch; undoing a hunk gives all lines the
+-- names that they had
 pub record LinesHaveNames : Type 0 where
   pub each :
       (branch : List Catch) (path : List ℕ) (tree : Files) (lines : Lines) → LeadsTo branch tree →
@@ -154,13 +153,14 @@ pub record IsBrought (branch : List Catch) (path name line : List ℕ) : Type 0 
   pub file : hunk.path ≡ path
   pub brings : Contains (brought_by hunk) line
 
--- a hunk of the file of another one restores the lines that this one removed
+-- if a primitive is a hunk of the same file, it restores the lines that this hunk removed
 abbrev pub PutsBack : Edit → Primitive → Type 0
 PutsBack hunk (Add path) = Unit {0}
 PutsBack hunk (Remove path) = Unit {0}
 PutsBack hunk (Hunk other) = other.path ≡ hunk.path → other.new ≡ hunk.old
 
--- whatever comes again under the absolute label of a hunk restores the lines that the hunk removed
+-- wherever the absolute label of a hunk occurs again in the list, the primitive restores the lines that the hunk
+-- removed
 abbrev pub ComeAgainAsInverses : List Named → Type 0
 ComeAgainAsInverses [] = Unit {0}
 ComeAgainAsInverses (p ∷ s) =
@@ -173,8 +173,8 @@ EachIsBrought branch path =
     (lines : Lines) (names : List (List ℕ)) → Annotates branch path (File lines names) →
     AllZip (IsBrought branch path) names lines
 
--- each line was added by its patch if the effects of a branch come again only as inverses, as those of a lawful
--- branch with plain catches only do
+-- each line was added by the patch whose name it has, if primitives that occur again in the effects of a branch only
+-- restore what was removed; in a lawful branch of plain catches they do
 pub record LinesAreBrought : Type 0 where
   pub come_again :
       (branch : List Catch) (path : List ℕ) → ComeAgainAsInverses (flat_map effect_of branch) → EachIsBrought branch path
@@ -186,8 +186,8 @@ abbrev pub AnnotateAlike : List Catch → List Catch → Type 0
 AnnotateAlike branch other =
     (path : List ℕ) (told : Annotated) → Annotates branch path told ↔ Annotates other path told
 
--- plain patches give the same answer in whatever order they are: after commutes of neighbours, and after reordering
--- by labels, as a pull does with common patches
+-- plain patches give the same answer in whatever order they are: after commutes of neighbours, and after a reordering
+-- by labels
 pub record OrderKeepsNames : Type 0 where
   pub swapped :
       (patches others : List Named) → patches ~ others → AnnotateAlike (map Plain patches) (map Plain others)
@@ -242,8 +242,8 @@ pub data IsReached : Drawn → List ℕ → List ℕ → Type 0 where
   itself : {graph : Drawn} {name : List ℕ} → IsReached graph name name
   along : {graph : Drawn} {name between other : List ℕ} → Arrow graph name between → IsReached graph between other → IsReached graph name other
 
--- in the graph of a lawful branch with plain catches only that have headroom, the dependencies of a patch are the
--- patches reached from it
+-- in the graph of a lawful branch of plain catches with headroom, the dependencies of a patch are the patches reached
+-- from it
 abbrev pub NeedsAreReached : Type 0
 NeedsAreReached =
     (branch : List Catch) (graph : Drawn) (name : List ℕ) (needed : List (List ℕ)) → IsLawfulBranch branch →
@@ -274,8 +274,8 @@ KeepFilesShort [] tree = Unit {0}
 KeepFilesShort (change ∷ changes) tree =
     (next : Files) → Applies change tree next → (has_long_file (path_of change) next ≡ false) × KeepFilesShort changes next
 
--- the changes of a side are accepted under a name that no branch has, if they are not too many for a patch or for the
--- branch, and no side of a hunk and no file gets too long; if they are refused, they are too large
+-- a record of the changes of a side, under a name that no branch has, is accepted if the patch and the branch do not
+-- get too many changes, and no side of a hunk and no file too many lines. If it is refused, it is too large.
 pub record SidesAreAccepted : Type 0 where
   pub within :
       (state : Contents) (branch name new_name : List ℕ) (catches : List Catch) (tree : Files) (side : List Named) →
@@ -296,8 +296,8 @@ AlongIsEnough =
     ((name : List ℕ) → ¬ (step state (call.Pull from to (Some told)) ≡ refused (NoPatch name)))
     × ((patch on : List ℕ) → ¬ (step state (call.Pull from to (Some told)) ≡ refused (Depends patch on)))
 
--- the foreseen result of a call is its result: it gets this reply; if no branch is given, nothing changes; and if one
--- is given, the questions for its tree and its conflicts, asked directly after the call, have these answers
+-- a call does what was foreseen: it gets the foreseen reply. If no branch was foreseen, nothing changes. If one was,
+-- the questions for its tree and its conflicts, asked directly after the call, have the foreseen answers.
 pub record ComesAsForeseen (state : Contents) (asked : Call) (seen : Foreseen) : Type 0 where
   pub replied : reply_of (step state asked) ≡ seen.reply
   pub stays : seen.changed ≡ None → state_behind state (step state asked) ≡ state
@@ -306,6 +306,6 @@ pub record ComesAsForeseen (state : Contents) (asked : Call) (seen : Foreseen) :
       replies_to state (asked ∷ call.Tree standing.branch ∷ call.Conflicts standing.branch ∷ [])
       ≡ seen.reply ∷ reply.Tree standing.tree ∷ reply.Conflicts standing.conflicts ∷ []
 
--- this holds of every call at every state
+-- every call at every state does what was foreseen
 abbrev pub ForeseenComes : Type 0
 ForeseenComes = (state : Contents) (asked : Call) (seen : Foreseen) → Foresees state asked seen → ComesAsForeseen state asked seen

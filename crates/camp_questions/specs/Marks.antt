@@ -23,7 +23,7 @@ abbrev pub Makes : ContextedPatches → Files → List ℕ → List ℕ → Opti
 Makes seen tree path name made =
     (side : List Named) × (next : Files) × IsSideAmong seen name side × AppliesAll side tree next × (made ≡ get next path)
 
--- versions, preceded by that of a patch if it makes a file that differs from the present one
+-- versions, after that of one more patch if it would make a file that differs from the present one
 abbrev pub with_made : Lines → List ℕ → Option Lines → List Version → List Version
 with_made lines name None versions = versions
 with_made lines name (Some made) versions =

@@ -27,7 +27,8 @@ is_free (Some x) = not (takes_back x)
 abbrev pub is_open : ContextedPatches → Key → Bool
 is_open seen key = is_free (get seen key)
 
--- a catch is a conflictor of the patch of one name with a member of the other, and both labels are unresolved
+-- a catch of the patch of one name is a conflictor with a member of the patch of the other in its set, and both
+-- labels are unresolved
 abbrev pub OpensWith : ContextedPatches → List ℕ → List ℕ → Catch → Type 0
 OpensWith seen first second (Plain a) = ⊥
 OpensWith seen first second (Catch.Conflictor k) =
@@ -39,7 +40,7 @@ abbrev pub AreInOpenConflict : List Catch → ContextedPatches → List ℕ → 
 AreInOpenConflict branch seen first second =
     (k : Catch) × Contains branch k × (OpensWith seen first second k ⊎ OpensWith seen second first k)
 
--- the unresolved conflicts among labels as seen from the end of a branch: each pair once, the lesser name first, in
+-- the unresolved conflicts of a branch, given its labels in conflict: each pair once, the lesser name first, in
 -- ascending order
 pub record AreOpenAmong (branch : List Catch) (seen : ContextedPatches) (pairs : List (List ℕ × List ℕ)) : Type 0 where
   pub ascending : AllPairs IsBefore pairs

@@ -15,7 +15,7 @@ pub record Picture : Type 0 where
   pub conflicts : List (List ℕ × List ℕ)
   pub unsettled : List (List ℕ × List ℕ)
 
--- names, and the direct dependencies of a patch if it is one of them
+-- names, with the direct dependencies of a patch added if it is one of them
 abbrev pub with_needs_of : Node → List (List ℕ) → List (List ℕ)
 with_needs_of node names = if is_among names node.name then names ++ node.needs else names
 
@@ -25,7 +25,7 @@ abbrev pub with_needs : List Node → List (List ℕ) → List (List ℕ)
 with_needs [] names = names
 with_needs (node ∷ nodes) names = with_needs_of node (with_needs nodes names)
 
--- names, and a patch if it depends directly on one of them
+-- names, with a patch added if it depends directly on one of them
 abbrev pub with_needing_one : List (List ℕ) → Node → List (List ℕ)
 with_needing_one names node = if list_any (is_among names) node.needs then names ++ node.name ∷ [] else names
 

@@ -40,8 +40,8 @@ is_within range place = nat_le place.from range.from && nat_le range.to place.to
 abbrev pub differs_within : Lines → Range → Version → Bool
 differs_within lines place version = is_within (range_of lines version.lines) place
 
--- the lines of a version for a range of the file: from the start of the range up to as many lines before its end as
--- the file has after the range
+-- what a version has in place of a range of the file: its lines without those before the range, and without as many
+-- at its end as the file has after the range
 abbrev pub at_place : Lines → Range → Version → Version
 at_place lines place version =
     record {
@@ -69,7 +69,7 @@ pub record File : Type 0 where
   pub places : List Place
   pub rest : Lines
 
--- a file from a line on
+-- the hunks of a file from a line on, and the lines after the last one
 abbrev pub file_from : Lines → List Version → ℕ → List Range → File
 file_from lines versions at [] = record { places = []; rest = drop at lines }
 file_from lines versions at (place ∷ places) =

@@ -17,18 +17,18 @@ use Rattle.camp_repo.specs.States.{Contents}
 use Rattle.camp_questions.specs.Answers.{AnswerOf, OfBranch, OfPatches}
 use Rattle.camp_questions.specs.Showing.{changes_in}
 
--- what a catch says of an absolute label in conflict there: its identity, or the member of its set
+-- the contexted patch that a conflictor has under an absolute label: its identity, or the member of its set
 abbrev pub told_by : Catch → Key → Option ContextedPatch
 told_by (Plain a) key = None
 told_by (Catch.Conflictor k) key =
     if eq_by_cmp key_cmp key (context_key k.identity) then Some k.identity else get k.conflicts key
 
--- no catch says anything of a label
+-- none of the catches has a contexted patch under an absolute label
 abbrev pub TellNothing : List Catch → Key → Type 0
 TellNothing catches key = AllByRecursion (λ k. told_by k key ≡ None) catches
 
--- a label in conflict as seen from the end of a branch: what the last catch says that has it, with the inverses of
--- the effects after that catch added; branch = before k behind
+-- a label in conflict as seen from the end of a branch: the contexted patch that the last catch k with this label
+-- has, with the inverses of the effects after k added; branch = before k behind
 pub record IsSeen (branch : List Catch) (key : Key) (seen : ContextedPatch) : Type 0 where
   pub before : List Catch
   pub k : Catch
@@ -47,14 +47,14 @@ AreSeen branch seen = (key : Key) → MatchOption (get seen key) (TellNothing br
 abbrev pub has_key : List Named → Key → Bool
 has_key s key = list_any (λ p. eq_by_cmp key_cmp key (key_of (label_of p))) s
 
--- a contexted patch is appended to changes: their inverses are added to it, and its context and patch come after
--- them; it is left out if its label is there already
+-- appends a contexted patch to changes: the inverses of the changes are added to it, and its context and patch come
+-- after them. True leaves the changes as they are.
 abbrev pub ComesUnless : Bool → List Named → ContextedPatch → List Named → Type 0
 ComesUnless true changes x next = next ≡ changes
 ComesUnless false changes x next =
     (y : ContextedPatch) × AddsAll (inverse_all changes) x y × (next ≡ changes ++ whole y)
 
--- it is there if its absolute label is
+-- appends a contexted patch to changes, unless they have its absolute label
 abbrev pub ComesBehind : List Named → ContextedPatch → List Named → Type 0
 ComesBehind changes x next = ComesUnless (has_key changes (context_key x)) changes x next
 
@@ -68,7 +68,7 @@ ComeBehind changes (x ∷ xs) side =
 abbrev pub labels_of_patch : List ℕ → ContextedPatches → List ContextedPatch
 labels_of_patch name seen = filter (λ x. bytes_eq name x.patch.name) (values seen)
 
--- the side of a patch among labels as seen from the end of a branch: its labels, appended one after the other
+-- the side of a patch, given the labels in conflict of its branch: those of the patch, appended one after the other
 abbrev pub IsSideAmong : ContextedPatches → List ℕ → List Named → Type 0
 IsSideAmong seen name side = ComeBehind [] (labels_of_patch name seen) side
 

@@ -36,7 +36,7 @@ pub fn annotate(state: &State, branch: &Name, path: &Path) -> Result<Annotated, 
     told(with_names(branch.catches(), branch.tree(), path))
 }
 
-/// The same for catches that lead to a tree.
+/// Makes the answer for a path, given the catches of a branch and the tree that they lead to.
 fn with_names(
     catches: &SharedList<Shared<Catch>>,
     tree: &Tree,

@@ -21,8 +21,8 @@ use camp_share::Shared;
 use std::alloc::{AllocError, Global};
 
 /// Returns the names that a pull of these from one branch into another has to list: those that `to` lacks,
-/// and each patch that blocks them on their way to the front after the common patches. In the order of
-/// `from`.
+/// and each patch that blocks them on their way to the front of what `from` has after the common patches. In
+/// the order of `from`.
 pub fn along(state: &State, from: &Name, to: &Name, names: &[Name]) -> Result<Names, Unanswered>
     ensures exact { TellsAlong state.now from.now to.now names.now result }
 {
@@ -38,7 +38,7 @@ pub fn along(state: &State, from: &Name, to: &Name, names: &[Name]) -> Result<Na
     told(brought(theirs, ours, &behind, names))
 }
 
-/// Returns the names to pull, given the catches after the common patches.
+/// Returns the names to pull, given the catches of `from` after the common patches.
 fn brought(
     from: &Branch,
     to: &Branch,

@@ -56,7 +56,7 @@ fn held_there(branch: &Branch, names: &[Name]) -> Result<Names, AllocError>
     in_order(branch, &held)
 }
 
-/// Returns the names, and those that are added until they can be moved to the front of the branch. If all its
+/// Returns the names, and those that are added until all can be moved to the front of the branch. If all its
 /// patches are plain and certainly have headroom, these are the dependents of the names in the inverted
 /// branch.
 pub(crate) fn grown_to_front(branch: &Branch, names: NameSet) -> Result<NameSet, AllocError>
@@ -73,8 +73,8 @@ pub(crate) fn grown_to_front(branch: &Branch, names: NameSet) -> Result<NameSet,
     }
 }
 
-/// Returns the names, and those that are added until they can be moved to the front of a list. Each added
-/// name costs one arranging, and one more finds that nothing is missing.
+/// Returns the names, and those that are added until all can be moved to the front of a list. Arranges the
+/// list once for each added name, and once more to find that none is missing.
 pub(crate) fn stuck_to_front(
     alloc: Global,
     list: &[Shared<Catch>],

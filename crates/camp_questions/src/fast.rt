@@ -1,11 +1,11 @@
-//! Faster ways to what the definitions say: each gives the result of growing name by name.
+//! Faster ways to what the definitions say: each gives the result of adding names one by one.
 //!
-//! - Dependents are found in one pass over the patches of a branch, from the first to the last: one that can
-//!   be moved in front of all that go stays, and any other goes too.
+//! - Dependents are found in one pass over the patches of a branch, from the first to the last: a patch that can be
+//!   moved in front of all that are to be taken out stays, and any other is to be taken out too.
 //! - The dependencies of plain patches are their dependents in the inverted branch, the last patch first and
-//!   each change inverted, if all have headroom, both ways. Otherwise the names grow one by one.
-//! - A patch of plain changes to other files than those of all that go is moved in front of them unchanged.
-//!   Files are compared by small hash numbers of their paths.
+//!   each change inverted, if all have headroom, both ways. Otherwise names are added one by one.
+//! - A patch of plain changes to other files than those of the patches to be taken out is moved in front of these
+//!   unchanged. Files are compared by small hash numbers of their paths.
 mod changed_files;
 mod going;
 mod patch_catches;

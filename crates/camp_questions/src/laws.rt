@@ -8,8 +8,8 @@ pub fn missing_is_pulled()
     ensures law { MissingIsPulled }
 {}
 
-/// The dependencies of patches can be moved to the front of their branch, contain the patches, and each other
-/// one of them blocks a part of them.
+/// The dependencies of patches have these patches and can be moved to the front of their branch; each further
+/// one blocks a part of them on the way.
 pub fn needs_come_first()
     ensures law { NeedsComeFirst }
 {}
@@ -27,7 +27,7 @@ pub fn needs_are_determined()
 {}
 
 /// Obliterating patches together with everything that depends on them is accepted; each of the dependents
-/// depends on a part of them.
+/// depends on one of the patches or of the other dependents.
 pub fn held_can_go()
     ensures law { HeldCanGo }
 {}
@@ -56,15 +56,16 @@ pub fn needs_and_held_are_one()
     ensures law { NeedsAndHeldAreOne }
 {}
 
-/// Each line of a file of a branch has a name, which is that of one of its patches; when a hunk is undone,
-/// all lines have the names that they had.
+/// Each line of a file of a branch has a name, which is that of one of its patches; undoing a hunk gives all
+/// lines the names that they had.
 #[tactic(auto, using(crate::proofs::AnnotationLaws::lines_have_names))]
 pub fn lines_have_names()
     ensures law { LinesHaveNames }
 {}
 
-/// Each line of a file was added by a hunk of the patch whose name it has, if what comes again under a label
-/// restores what was removed. In a lawful branch with plain catches only, no label comes again.
+/// Each line of a file was added by a hunk of the patch whose name it has, if a primitive that occurs again
+/// under its label only restores what was removed. In a lawful branch of plain catches, no label occurs
+/// again.
 #[tactic(auto, using(crate::proofs::BroughtLines::lines_are_brought))]
 pub fn lines_are_brought()
     ensures law { LinesAreBrought }

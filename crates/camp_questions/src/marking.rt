@@ -118,7 +118,7 @@ pub fn marks(state: &State, branch: &Name, path: &Path) -> Result<Marked, Unansw
     told(marks_at(branch, branch.tree(), path))
 }
 
-/// The same for a branch that leads to a tree.
+/// Makes the answer for a path, given a branch and its tree.
 fn marks_at(branch: &Branch, tree: &Tree, path: &Path) -> Result<Marked, AllocError>
     requires { LeadsTo branch.now tree.now }
     ensures { IfOk result (MarksAt branch.now tree.now path.now (get tree.now path.now)) }

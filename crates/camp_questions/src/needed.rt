@@ -1,4 +1,4 @@
-//! The dependencies of each patch of a branch, as marks.
+//! The dependencies of each patch of a branch, as one mark for each index of the branch.
 ghost use Rattle.std.specs.Prelude.{◌≡◌, map, IfOk};
 ghost use Rattle.camp_branch.specs.Branches.{is_among, names_of};
 ghost use Rattle.camp_branch.specs.Fields.{names_in};
@@ -35,7 +35,7 @@ pub(crate) fn all_needed(branch: &Branch, names: &[Name]) -> Result<Vec<Needed>,
     }
 }
 
-/// The same, by moving each patch to the front: what blocks it is a dependency.
+/// Returns the dependencies of each patch by moving it to the front: what blocks it is a dependency.
 fn all_stuck(
     alloc: Global,
     catches: &[Shared<Catch>],

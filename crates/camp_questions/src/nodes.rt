@@ -31,7 +31,7 @@ pub(crate) fn nodes(alloc: Global, names: &[Name], all: &[Needed]) -> Result<Vec
     Ok(nodes)
 }
 
-/// True if the marks of each patch end at its own index.
+/// True if no patch has a mark beyond its own index.
 fn end_in_place(all: &[Needed]) -> bool
     ensures { IsTrue result → EndInPlace all.now }
 {
@@ -44,8 +44,8 @@ fn end_in_place(all: &[Needed]) -> bool
 }
 
 /// Returns the direct dependencies of the patch at an index: all its dependencies without those of its other
-/// dependencies. The last ones are tried first, since they usually remove most of those before them. If the
-/// marks of each patch end at its own index, those before the first that is left remove none.
+/// dependencies. Tries the last ones first, since they usually remove most of those before them. If no patch
+/// has a mark beyond its own index, the patches before the first dependency that is left remove none.
 fn direct_needs(
     alloc: Global,
     names: &[Name],
@@ -76,7 +76,7 @@ fn direct_needs(
     Ok(Names::new(names))
 }
 
-/// Returns the index after the last dependency, among the first `n` patches, of the patch at an index.
+/// Returns the index after the last dependency of the patch at an index, of those below `count`.
 fn end_of_needed(marks: &[bool], at: usize, count: usize) -> usize
     ensures within { result ≤ count }
     ensures none { (place : ℕ) → result ≤ place → place < count → needs_place marks.now at place ≡ false }
@@ -91,8 +91,8 @@ fn end_of_needed(marks: &[bool], at: usize, count: usize) -> usize
     end
 }
 
-/// Returns an index before which no patch removes one of these: the first of them, if the marks of each patch
-/// end at its own index.
+/// Returns an index such that no patch before it depends on one at these indexes: the first of these, if no
+/// patch has a mark beyond its own index.
 fn settled_before(places: &[usize], in_place: bool) -> usize
     requires { AllByRecursion (λ place. get_or places.now 0 0 ≤ place) places.now }
     ensures { AreSettled in_place places.now result }
@@ -106,7 +106,7 @@ fn settled_before(places: &[usize], in_place: bool) -> usize
     0
 }
 
-/// Returns the indexes, among the first `n`, of the dependencies of the patch with these marks.
+/// Returns the dependencies of the patch at an index, given its marks: their indexes below `count`.
 fn needed_places(
     alloc: Global,
     marks: &[bool],

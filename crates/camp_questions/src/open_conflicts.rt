@@ -36,7 +36,7 @@ pub(crate) fn open_in(branch: &Branch) -> Result<Conflicts, AllocError>
     Ok(Conflicts::new(pairs))
 }
 
-/// Returns the unresolved conflicts among labels as seen from the end of a branch.
+/// Returns the unresolved conflicts of a branch, given its labels in conflict.
 pub(crate) fn open_among(
     catches: &SharedList<Shared<Catch>>,
     seen: &CtxSet,

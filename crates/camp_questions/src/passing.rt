@@ -1,5 +1,5 @@
-//! Labels as they are seen from before changes. Most changes leave a label as it is, or only move it to
-//! another line. Any other change is added by the definition.
+//! Moves labels in conflict from after changes to before them. Most changes leave a label as it is, or only
+//! move it to another line. Any other change is added by the definition.
 ghost use Rattle.std.specs.Prelude.{◌≡◌, ◌+◌, ◌<◌, ◌≤◌, ◌↔◌, [], drop, length, IfOk, IfSome, IsTrue};
 ghost use Rattle.camp_ctx.specs.Adding.{AddsAll};
 ghost use Rattle.camp_ctx.specs.Contexts.{bare};
@@ -40,7 +40,7 @@ pub(crate) fn seen_before(
     Ok(seen)
 }
 
-/// Returns how many changes are added at once: one after some that were passed quickly, else twice as many as
+/// Returns how many changes are added at once next: one if some were passed quickly, else twice as many as
 /// before.
 fn next_most(most: usize, none_passed: bool) -> usize
     requires { 1 ≤ most }
@@ -59,7 +59,7 @@ fn added(alloc: Global, changes: &[Named], x: &Contexted) -> Result<Contexted, A
     Contexted::add_given(join(alloc, changes, &[])?, x)
 }
 
-/// Returns how far a label passes changes quickly, from the last to the first, and the label there.
+/// Returns the index down to which a label passes changes quickly, from the last one on, and the label there.
 fn passed_by(
     alloc: Global,
     changes: &[Named],

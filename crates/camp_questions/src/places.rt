@@ -29,7 +29,7 @@ pub(crate) fn with_marks(
     file_with(lines, versions, &ranges, &found)
 }
 
-/// The same, given the range in which each version differs, and the hunks.
+/// Makes the file with marks, given the range in which each version differs, and the hunks.
 fn file_with(
     lines: &SharedList<Line>,
     versions: &[Version],
@@ -80,7 +80,7 @@ fn range_of(lines: &[Line], others: &[Line]) -> Range
     }
 }
 
-/// Joins ranges that overlap or touch.
+/// Returns the ranges with those joined that overlap or touch.
 fn places_of(alloc: Global, ranges: &[Range]) -> Result<Vec<Range>, AllocError>
     ensures { IfOk result (λ places. places.items ≡ fold with_range [] ranges.now) }
 {
@@ -156,7 +156,7 @@ fn place_from(
     })
 }
 
-/// Returns the lines for a hunk of those versions that differ within it.
+/// Returns the sides of a hunk: the lines there of those versions that differ from the file within it.
 fn sides_at(
     lines: &SharedList<Line>,
     versions: &[Version],
@@ -173,7 +173,8 @@ fn sides_at(
     Ok(sides)
 }
 
-/// Appends the lines of a version for a hunk to the sides, if it differs within it.
+/// Appends to the sides of a hunk the lines that a version has there, if the version differs from the file
+/// within the hunk.
 fn push_within(
     sides: &mut Vec<Version>,
     lines: &SharedList<Line>,
@@ -199,7 +200,7 @@ fn is_within(range: Range, place: Range) -> bool
     place.from <= range.from && range.to <= place.to
 }
 
-/// Returns the lines of a version for a hunk.
+/// Returns the lines that a version has in place of those of a hunk.
 fn at_place(
     lines: &SharedList<Line>,
     place: Range,

@@ -67,7 +67,7 @@ pub fn side(state: &State, branch: &Name, name: &Name) -> Result<Said, Unanswere
     told(said_in(branch, name))
 }
 
-/// The same for a patch of a branch that was found.
+/// Makes the side of a patch that the branch has.
 fn said_in(branch: &Branch, name: &Name) -> Result<Said, AllocError>
     ensures { IfOk result (λ changes. (side : List AnyNamed) × (changes ≡ changes_in side) × IsSideIn branch.now name.now side) }
 {
@@ -101,7 +101,7 @@ pub(crate) fn labels_seen(branch: &Branch) -> Result<CtxSet, AllocError>
     Ok(seen)
 }
 
-/// Returns the labels that were gathered, and those of one more catch.
+/// Returns the labels in conflict that were gathered so far, with those of one more catch.
 fn with_told(alloc: Global, seen: CtxSet, catch: &Catch, undone: &Seq) -> Result<CtxSet, AllocError>
     ensures { IfOk result (λ next. (key : AnyKey) →
         SeenToo undone.now (get seen key) (told_by catch.now key) (get next key)) }
@@ -130,7 +130,7 @@ fn with_conflictor(
     Ok(seen)
 }
 
-/// Returns the labels that were gathered, and one more unless it is among them.
+/// Returns the labels in conflict that were gathered so far, with one more unless it is among them.
 fn with_label(
     alloc: Global,
     seen: CtxSet,
@@ -162,7 +162,7 @@ fn append_inverse(list: &mut Seq, effect: &[Named]) -> Result<(), AllocError>
     Ok(())
 }
 
-/// Returns the side of a patch among labels as seen from the end of a branch.
+/// Makes the side of a patch, given the labels in conflict of its branch.
 pub(crate) fn side_among(alloc: Global, seen: &CtxSet, name: &Name) -> Result<Seq, AllocError>
     ensures { IfOk result (λ side. IsSideAmong seen.now name.now side) }
 {
@@ -175,7 +175,7 @@ pub(crate) fn side_among(alloc: Global, seen: &CtxSet, name: &Name) -> Result<Se
     Ok(side)
 }
 
-/// Appends a contexted patch to changes if it is of a name.
+/// Appends a contexted patch to changes if it belongs to the patch of a name.
 fn append_named(side: &mut Seq, name: &Name, x: &Contexted) -> Result<(), AllocError>
     ensures { OnOk result (ComesIfNamed side.old name.now x.now side.new) }
 {

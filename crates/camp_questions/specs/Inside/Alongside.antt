@@ -12,7 +12,7 @@ use Rattle.camp_questions.specs.declared.faults.Unanswered.TheVariants.{Refused,
 abbrev pub StandBehind : List Catch → List Catch → List Catch → Type 0
 StandBehind from to behind = (common : List Catch) × Arrange (common_names from to) from common behind
 
--- why there are none: the branches have diverged, or memory ran out
+-- the catches after the common patches cannot be found: the branches have diverged, or memory ran out
 abbrev pub DoNotStand : List Catch → List Catch → Unanswered → Type 0
 DoNotStand from to why =
     ((name : List ℕ) × HaveDiverged from to name × (why ≡ Refused (Diverged name))) ⊎ (why ≡ Memory)

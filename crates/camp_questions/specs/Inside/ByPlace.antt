@@ -14,16 +14,16 @@ up_to (suc n) = up_to n ++ n ∷ []
 abbrev pub name_at : List (List ℕ) → ℕ → List ℕ
 name_at names place = get_or names place []
 
--- the patch at an index, with these marks, depends on the one at another index
+-- the patch at the index `at`, whose dependencies have these marks, depends on the patch at the index `place`
 abbrev pub needs_place : List Bool → ℕ → ℕ → Bool
 needs_place marks at place = not (place == at) && get_or marks place false
 
--- the marks of each patch end at its own index
+-- no patch has a mark beyond its own index
 abbrev pub EndInPlace : List Needed → Type 0
 EndInPlace all = (k : ℕ) (d : Needed) → k < length all → length (get_or all k d).needs.items ≤ k + 1
 
--- no patch before the index `settled` has a mark at one of these indexes: `settled` is 0, or the marks of each patch
--- end at its own index and none of these is less than `settled`
+-- no patch before the index `settled` depends on one at these indexes: `settled` is 0, or no patch has a mark beyond
+-- its own index and `settled` is at most the least of these
 abbrev pub AreSettled : Bool → List ℕ → ℕ → Type 0
 AreSettled in_place places settled =
     (settled ≡ 0) ⊎ ((in_place ≡ true) × AllByRecursion (λ place. settled ≤ place) places)

@@ -13,7 +13,7 @@ use Rattle.camp_questions.specs.declared.fast.patch_catches.PatchCatches.{PatchC
 abbrev pub how_many : ℕ
 how_many = 4_093
 
--- the hash number of bytes that are appended to others with this one
+-- the hash number of bytes, continued from that of the bytes before them
 abbrev pub number_behind : ℕ → List ℕ → ℕ
 number_behind number [] = number
 number_behind number (byte ∷ bytes) = number_behind ((number * 31 + byte) % how_many) bytes
@@ -57,7 +57,7 @@ abbrev pub IsMarkedPlain : List Bool → Catch → Type 0
 IsMarkedPlain marks (Plain p) = InRange p.prim × (is_marked marks (file_number (path_of p.prim)) ≡ true)
 IsMarkedPlain marks (Catch.Conflictor k) = ⊥
 
--- these catches go, and their files are marked
+-- the catches that are to be taken out are plain and in range, and the hash numbers of their files are marked
 pub record GoMarked (going : Going) : Type 0 where
   pub long : length going.files.items ≡ how_many
   pub marked : AllByRecursion (IsMarkedPlain going.files.items) going.catches.items

@@ -18,7 +18,7 @@ marked [] marks = []
 marked (name ∷ names) [] = []
 marked (name ∷ names) (mark ∷ marks) = cond mark (name ∷ marked names marks) (marked names marks)
 
--- the indexes that are marked in one list or in the other, which is no longer
+-- the indexes that are marked in one list or in the other, which is not the longer one
 abbrev pub marked_in_both : List Bool → List Bool → List Bool
 marked_in_both [] more = []
 marked_in_both (mark ∷ marks) [] = mark ∷ marks
@@ -49,7 +49,7 @@ pub record AreKnown (branch : List Catch) (names : List (List ℕ)) (known : Lis
   pub needs : (k : ℕ) (d : Needed) → k < length known → NeedsThese branch (needing names (get_or known k d))
   pub long : (k : ℕ) (d : Needed) → k < length known → length (get_or known k d).needs.items ≡ k + 1
 
--- these are the marks of the dependencies of the patch at an index, up to its own index
+-- the marks of the dependencies of the patch at an index are known, up to that index
 pub record AreReached (branch : List Catch) (names : List (List ℕ)) (place : ℕ) (marks : List Bool) : Type 0 where
   pub long : length marks ≡ place + 1
   pub needs : (n : List ℕ) → NeedsThese branch (record { name = get_or names place n; needs = marked names marks })

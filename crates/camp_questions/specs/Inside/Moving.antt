@@ -10,11 +10,11 @@ abbrev pub hunk_at : Named → Edit → ℕ → Named
 hunk_at patch hunk line =
     record { name = patch.name; place = patch.place; inverse = patch.inverse; prim = Hunk (at_line line hunk) }
 
--- a change followed by a patch with a hunk at one line commute, and the patch moves to the other line
+-- a change and then a patch with a hunk at the first line commute, and the patch moves to the second line
 abbrev pub ComesBefore : Named → Named → Edit → ℕ → ℕ → Type 0
 ComesBefore change patch hunk line next = (behind : Named) × Commute change (hunk_at patch hunk line) (hunk_at patch hunk next) behind
 
--- a hunk followed by another of the same path at one line commute in range, and the second moves to the other line
+-- another hunk of the same file and then this hunk at `line` commute, all in range, and this hunk moves to `next`
 pub record Passes (other hunk : Edit) (line next : ℕ) : Type 0 where
   pub behind : Edit
   pub change : PrimitivesCommute (Hunk other) (Hunk (at_line line hunk)) (Hunk (at_line next hunk)) (Hunk behind)

@@ -9,7 +9,7 @@ use Rattle.camp_branch.specs.Branches.{name_of}
 use Rattle.camp_branch.specs.Inside.Collecting.{pair_of}
 use Rattle.camp_questions.specs.OpenConflicts.{is_open}
 
--- the pair of a name and that of a contexted patch whose label is unresolved
+-- the pair of a name and the name of a contexted patch, if the label of the latter is unresolved; else none
 abbrev pub open_with : ContextedPatches → List ℕ → ContextedPatch → List (List ℕ × List ℕ)
 open_with seen name x = if is_open seen (context_key x) then pair_of name x.patch.name else []
 

@@ -28,11 +28,11 @@ SeenToo undone (Some x) told seen = seen ≡ Some x
 abbrev pub AllSeenToo : List Named → List ContextedPatch → ContextedPatches → ContextedPatches → Type 0
 AllSeenToo undone told was seen = (key : Key) → SeenToo undone (get was key) (first_with key told) (get seen key)
 
--- a contexted patch is appended to changes, or they stay
+-- a contexted patch is appended to changes (true), or they stay as they are
 abbrev pub ComesIf : Bool → List Named → ContextedPatch → List Named → Type 0
 ComesIf true changes x next = ComesBehind changes x next
 ComesIf false changes x next = next ≡ changes
 
--- it is appended if it is of the given name
+-- a contexted patch is appended to changes if it belongs to the patch of a name
 abbrev pub ComesIfNamed : List Named → List ℕ → ContextedPatch → List Named → Type 0
 ComesIfNamed changes name x next = ComesIf (bytes_eq name x.patch.name) changes x next

@@ -1,23 +1,24 @@
--- Catches that are moved in front of those that go.
+-- Patches that are moved in front of catches that are to be taken out.
 use Rattle.std.specs.Prelude.{◌≡◌, ℕ, Bool, true, false, List, [], ◌∷◌}
 use Rattle.std.specs.List.{AllByRecursion}
 use Rattle.camp_prim.specs.declared.labels.Key.{Key}
 use Rattle.camp_catch.specs.Arranging.{ArrangesBehind, ComesBefore, SticksBehind}
 use Rattle.camp_catch.specs.declared.catches.Catch.{Catch}
 
--- the catches of a patch are moved in front of those that go, which then become these
+-- the catches of a patch are moved in front of those that are to be taken out, which then become `left`
 abbrev pub ComeBeforeAll : List ℕ → List Catch → List Catch → List Catch → Type 0
 ComeBeforeAll name going catches left = (first : List Catch) × ArrangesBehind (name ∷ []) going catches first left
 
--- one of the catches of a patch is blocked by those that go
+-- one of the catches of a patch is blocked by those that are to be taken out
 abbrev pub StickBehind : List ℕ → List Catch → List Catch → Type 0
 StickBehind name going catches = (patch : Key) × (on : Key) × SticksBehind (name ∷ []) going catches patch on
 
--- the result of the move: true with the catches after it, or false with those that go unchanged
+-- the result of moving a patch in front of those that are to be taken out: true with what these become, or false with
+-- these unchanged
 abbrev pub StandsAside : List ℕ → List Catch → List Catch → Bool → List Catch → Type 0
 StandsAside name going catches true left = ComeBeforeAll name going catches left
 StandsAside name going catches false left = (left ≡ going) × StickBehind name going catches
 
--- each catch is moved in front of a list, and all stay unchanged
+-- each catch can be moved in front of a list, and all stay unchanged
 abbrev pub AllStay : List Catch → List Catch → Type 0
 AllStay going catches = AllByRecursion (λ k. ComesBefore going k k going) catches

@@ -1,4 +1,4 @@
-//! Catches that go, and the patches before them.
+//! Catches that are to be taken out, and the patches before them.
 ghost use Rattle.std.specs.Prelude.{◌≡◌, ◌++◌, IfOk, OnOk};
 ghost use Rattle.camp_questions.specs.Inside.ByPatch.{AreApart, AreOfPatch};
 ghost use Rattle.camp_questions.specs.Inside.ChangedFiles.{GoMarked, HasFiles};
@@ -11,14 +11,15 @@ use camp_catch::Catch;
 use camp_share::Shared;
 use std::alloc::{AllocError, Global};
 
-/// Plain catches that go, and the files that they change: for each hash number, whether one of them has it.
+/// Plain catches that are to be taken out, and the files that they change: for each hash number, whether one
+/// of them has it.
 #[derive(Drop)]
 pub(crate) struct Going {
     pub catches: Vec<Shared<Catch>>,
     pub files: Vec<bool>,
 }
 
-/// Starts with the catches of a patch.
+/// Starts with the catches of the first patch that is to be taken out.
 pub(crate) fn going_first(
     alloc: Global,
     patch: &PatchCatches,
@@ -36,7 +37,7 @@ pub(crate) fn going_first(
     Ok(going)
 }
 
-/// Adds the catches of a patch.
+/// Adds the catches of one more patch that is to be taken out.
 pub(crate) fn go_too(
     going: &mut Going,
     patch: &PatchCatches,
@@ -52,9 +53,9 @@ pub(crate) fn go_too(
     Ok(())
 }
 
-/// Moves a patch, which comes after catches that go, in front of all of them; true if it can be moved. The
-/// catches that go are then what they become, else unchanged. A patch that changes none of their files is
-/// moved without a commute.
+/// Moves a patch, which comes after these catches, in front of all of them; true if it can be moved. They are
+/// then what they become, else unchanged. A patch that changes none of their files is moved without a
+/// commute.
 pub(crate) fn comes_before(
     alloc: Global,
     going: &mut Going,

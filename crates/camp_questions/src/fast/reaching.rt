@@ -1,4 +1,5 @@
-//! The dependencies of each patch, by a walk back from it that stops once all patches below are dependencies.
+//! The dependencies of each patch, by a walk back from it that stops once all earlier patches are
+//! dependencies.
 ghost use Rattle.std.specs.Prelude.{◌≡◌, ◌<◌, ◌≤◌, List, length, IfOk};
 ghost use Rattle.camp_catch.specs.declared.catches.Catch.{Catch as AnyCatch};
 ghost use Rattle.camp_questions.specs.Inside.ByPatch.{names_in_order};
@@ -67,7 +68,7 @@ fn reached(
     Ok(marks)
 }
 
-/// Returns the greatest index up to which, from `place` downwards, all are marked.
+/// Returns the first index from `from` on that is not marked. All below `from` are.
 fn first_unmarked(marks: &[bool], from: usize) -> usize
     requires { AreMarkedBelow marks.now from }
     ensures { AreMarkedBelow marks.now result }

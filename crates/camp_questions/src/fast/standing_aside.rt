@@ -1,5 +1,5 @@
-//! One pass over the patches of a list: those that can be moved in front of all that go stay, and the others
-//! go too.
+//! One pass over the patches of a list: a patch that can be moved in front of all that are to be taken out
+//! stays, and any other is to be taken out too.
 ghost use Rattle.std.specs.Prelude.{◌≡◌, ℕ, List, [], ◌∷◌, IfOk, IsTrue};
 ghost use Rattle.std.specs.Result.{MatchResult};
 ghost use Rattle.camp_branch.specs.Fields.{names_in};
@@ -18,8 +18,8 @@ use camp_share::Shared;
 use std::alloc::{AllocError, Global};
 use std::slice;
 
-/// Returns the names with their dependents: each patch that can't be moved in front of those that go is
-/// added.
+/// Returns the names with their dependents: each patch is added that can't be moved in front of those that
+/// are to be taken out.
 pub(crate) fn held_in(
     alloc: Global,
     patches: &[PatchCatches],
@@ -32,7 +32,8 @@ pub(crate) fn held_in(
     walk_over(alloc, patches, names, &mut going)
 }
 
-/// Returns these names with those of all patches that go with them. At first nothing goes.
+/// Returns these names with those of all patches that have to be taken out with them. Begins with nothing to
+/// take out.
 fn walk_over(
     alloc: Global,
     patches: &[PatchCatches],
@@ -56,9 +57,9 @@ fn walk_over(
     Ok(held)
 }
 
-/// Moves a patch, which comes after catches that go, in front of all of them; true if it can be moved. The
-/// catches that go are then what they become, else unchanged. Two quick checks come first: its catches
-/// commute unchanged, or its neighbour blocks it; otherwise its catches are arranged.
+/// Moves a patch, which comes after catches that are to be taken out, in front of all of them; true if it can
+/// be moved. They are then what they become, else unchanged. Two quick checks come first: its catches commute
+/// unchanged, or its neighbour blocks it; otherwise its catches are arranged.
 pub(crate) fn stand_aside(
     alloc: Global,
     going: &mut Vec<Shared<Catch>>,
@@ -84,8 +85,8 @@ pub(crate) fn stand_aside(
     }
 }
 
-/// Commutes the catches of a patch in front of those that go, and returns both. Blocked if one of them cannot
-/// be moved.
+/// Commutes the catches of a patch in front of those that are to be taken out, and returns both. Blocked if
+/// one of them cannot be moved.
 fn arranged_behind(
     alloc: Global,
     going: &[Shared<Catch>],
@@ -125,7 +126,8 @@ fn stays(going: &[Shared<Catch>], catch: &Catch) -> bool
     true
 }
 
-/// True only if the first catch of a patch is blocked by the last of those that go. False decides nothing.
+/// True only if the first catch of a patch is blocked by the last of those that are to be taken out. False
+/// decides nothing.
 fn is_stopped(going: &[Shared<Catch>], catches: &[Shared<Catch>]) -> bool
     ensures { IsTrue result → (name : List ℕ) → AreOfPatch name catches.now → StickBehind name going.now catches.now }
 {
