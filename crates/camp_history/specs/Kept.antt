@@ -8,6 +8,6 @@ pub record Keeping (Call : Type 0) : Type 0 where
   pub call : Call
   pub stored : Option (Where Call)
 
--- it lies in the store of this head
+-- a call is stored for this head: its token, if it has one, is of the head's store
 abbrev pub IsKeptBy : {State Call : Type 0} → HeadId State → Keeping Call → Type 0
 IsKeptBy head kept = IfSome kept.stored (λ stored. Shows head.store stored)

@@ -5,8 +5,8 @@ use Rattle.camp_object.specs.declared.faults.Fault.{Fault}
 use Rattle.camp_object.specs.declared.faults.Fault.TheVariants.{Memory}
 use Rattle.camp_history.specs.Seats.{Seated, history_of}
 
--- of what the two had seen one begins with the other; b is unchanged, and a sees more, but no new call of its own; if
--- the answer is Ok, a has seen all that b has seen, and of b's calls exactly those that b has
+-- What the two had seen are prefixes of one history. b is unchanged. a sees more, but no new call of its own. If the
+-- answer is Ok, a has seen all that b has seen, and no other call of b.
 pub record Meets {State Call : Type 0} (a b a' b' : Seated State Call) (answer : Result (Unit {0}) Fault) : Type 0 where
   pub a_number : a'.known.number ≡ a.known.number
   pub a_grows : IsBeginning (history_of a) (history_of a')

@@ -25,7 +25,7 @@ pub record IsInRange (seats per_seat tries every : ℕ) : Type 0 where
   pub some_tries : (1 ≤ tries) × (tries ≤ most_tries)
   pub versions : every ≤ farthest_version
 
--- the seat of a number, which has seen nothing
+-- the seat with this number before it has seen anything
 abbrev pub seat_at : {State Call : Type 0} → HeadId State → ℕ → Seated State Call
 seat_at head number = unseen head.first (newcomer head.row number)
 
@@ -40,7 +40,8 @@ pub record IsOpened {State Call : Type 0} (first : State) (seats per_seat tries 
   pub all : made ≡ map (seat_at head) (range_with_len 0 seats)
   pub are_seats : All (IsSeatOf head) made
 
--- a fault of the numbers comes exactly where one is out of its range
+-- making a head fails with `BadSize` exactly if one of the numbers is out of its range; else it succeeds, or memory
+-- runs out
 abbrev pub Opens : {Made State Call : Type 0} → State → (Made → HeadId State) → (Made → List (Seated State Call)) →
     (seats per_seat tries every : ℕ)
     → Result Made HeadFault → Type 0

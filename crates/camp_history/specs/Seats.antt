@@ -6,8 +6,8 @@ use Rattle.camp_row.specs.Known.{RowId, Known}
 use Rattle.camp_row.specs.declared.entries.Entry.{Entry}
 use Rattle.camp_history.specs.declared.marks.Mark.{Mark}
 
--- which head it is: its row of words, its store of calls, its slots for versions, how many exchanges a call loses at
--- most, and the state that its history begins with
+-- the identity of a head: its row of words, its store of calls, its slots for snapshots, how many exchanges a call
+-- may lose, and the state that its history begins with
 pub record HeadId (State : Type 0) : Type 0 where
   pub row : RowId
   pub store : Shelves
@@ -25,8 +25,8 @@ pub record Based (Call : Type 0) : Type 0 where
 abbrev pub IsBaseAt : {Call : Type 0} → List ℕ → Based Call → Type 0
 IsBaseAt ids base = base.id ≡ slice_index_or ids base.slot 0
 
--- a seat: the state that its history begins with, what its pass knows of the row, a mark for each call that it has seen,
--- in order, and versions with which these begin
+-- a seat: the state that its history begins with, what its pass knows of the row, a mark for each call that it has
+-- seen, in order, and the snapshots that it noted, with whose calls these begin
 pub record Seated (State Call : Type 0) : Type 0 where
   pub first : State
   pub known : Known
@@ -45,7 +45,7 @@ entry_of mark = record { seat = mark.seat; place = mark.call.index }
 abbrev pub told : {Call : Type 0} → Mark Call → Entry × Call
 told mark = (entry_of mark, mark.call.value)
 
--- the most calls of a list that copies share: no fewer than those of any head
+-- the most calls of a reference counted list; no history of a head has more
 abbrev pub most_listed : ℕ
 most_listed = 4_194_304
 
@@ -57,8 +57,8 @@ asked mark = (mark.seat, mark.call.value)
 abbrev pub history_of : {State Call : Type 0} → Seated State Call → List (ℕ × Call)
 history_of seat = map asked seat.marks
 
--- the seat is one of this head: its history begins with the head's state, its pass is to the head's row, its calls lie
--- in the head's store, and its versions in the head's slots
+-- the seat is one of this head: its history begins with the head's state, its pass is to the head's row, its calls
+-- are in the head's store, and its snapshots in the head's slots
 pub record IsSeatOf {State Call : Type 0} (head : HeadId State) (seat : Seated State Call) : Type 0 where
   pub first : seat.first ≡ head.first
   pub row : seat.known.row ≡ head.row
@@ -85,7 +85,7 @@ seats_beside seat = seat.known.row.seats
 abbrev pub most_calls_of : {State Call : Type 0} → Seated State Call → ℕ
 most_calls_of seat = seat.known.row.per_seat
 
--- who asks at a seat of a head, and under which bounds; others may add to the history
+-- the caller at a seat of a head: its number, and how many calls and tries it has; others may add to the history
 abbrev pub caller_at : {State Call : Type 0} → HeadId State → Seated State Call → Caller
 caller_at head seat =
     record { seat = number_of seat; tries = head.tries; per_seat = calls_per_seat head; alone = false }

@@ -25,7 +25,7 @@ ids_of slots = map (λ slot. slot.id) slots
 abbrev pub based : {State Call Reply : Type 0} → Base State Call Reply → Based Call
 based base = record { slot = base.slot; id = base.version.of; marks = base.version.value }
 
--- all parts of what a slot has are seen
+-- the noted snapshots, each as contracts see it
 abbrev pub bases_in : {State Call Reply : Type 0} → List (Base State Call Reply) → List (Based Call)
 bases_in bases = map based bases
 
@@ -33,7 +33,7 @@ bases_in bases = map based bases
 abbrev pub Begins : {Call : Type 0} → List (Mark Call) → List (Mark Call) → Type 0
 Begins beginning whole = IsBeginning (map told beginning) (map told whole)
 
--- a snapshot begins with the calls of its parent, and both are in slots with these numbers
+-- a snapshot begins with the calls of its parent, and both are in the slots with these numbers
 pub record IsMadeFrom {State Call Reply : Type 0} (ids : List ℕ) (origin : Origin State Call Reply) : Type 0 where
   pub version : IsBaseAt ids (based origin.version)
   pub from : IfSome origin.from (λ base. IsBaseAt ids (based base))
@@ -47,24 +47,24 @@ pub record IsFound {State Call Reply : Type 0} (ids : List ℕ) (seen reach : �
   pub beyond : seen < len
   pub within : len ≤ reach
 
--- a seat and a snapshot have the same first `count` calls
+-- the first `count` calls of a seat and of a snapshot are the same
 pub record Share {Call : Type 0} (seat version : List (Mark Call)) (count : ℕ) : Type 0 where
   pub same : take count (map told seat) ≡ take count (map told version)
   pub in_seat : count ≤ length seat
   pub in_version : count ≤ length version
 
--- the marks that a version has behind those of a seat
+-- the marks of a snapshot without as many at its start as a seat has seen
 abbrev pub news : {State Call : Type 0} → Seated State Call → List (Mark Call) → List (Mark Call)
 news seat version = drop (length seat.marks) version
 
--- a version goes on from what a seat has seen: it begins with the calls of the seat, and its other entries come next
--- in the chain that was found, each of a seat of the row
+-- a snapshot continues what a seat has seen: it begins with the calls of the seat, and its other entries come next in
+-- the chain that was found, each of a seat of the row
 pub record GoesOn {State Call : Type 0} (seat : Seated State Call) (version : List (Mark Call)) : Type 0 where
   pub begins : Begins seat.marks version
   pub ahead : chain.IsBeginning (seat.known.seen ++ map entry_of (news seat version)) seat.known.ahead
   pub below : All (λ mark. mark.seat < seat.known.row.seats) (news seat version)
 
--- a seat adopts a version
+-- a seat installs a snapshot
 pub record Adopts {State Call : Type 0} (old : Seated State Call) (version : List (Mark Call)) (new : Seated State Call) : Type 0 where
   pub first : new.first ≡ old.first
   pub marks : new.marks ≡ version

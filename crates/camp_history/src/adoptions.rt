@@ -92,7 +92,7 @@ impl<State: Object> Seat<State> {
 }
 
 impl<State: Object> camp_share::Share for Version<State> {
-    /// Copies the snapshot: increments the reference counts of its list and its state, and copies the last
+    /// Copies the snapshot: increments the reference counts of its list and its state, and copies its last
     /// few marks.
     fn share(&self) -> Result<Version<State>, AllocError> {
         let tail = share_all(*self.tail.allocator(), &self.tail)?;
@@ -319,7 +319,8 @@ impl<State: Object> Head<State> {
         longest
     }
 
-    /// The same, of the snapshots that are kept at positions.
+    /// Returns the longest snapshot that is kept for a position, of those with more than `seen` calls and at
+    /// most `reach`, and its length.
     fn longest_kept(&self, seen: u64, reach: u64) -> Option<(&Origin<State>, u64)>
         ensures { IfSome result (λ found. IsFound self.now.slots seen reach found.0.now found.1) }
     {
@@ -338,7 +339,8 @@ impl<State: Object> Head<State> {
         None
     }
 
-    /// The same, of all snapshots.
+    /// Returns the longest snapshot, published or kept for a position, with more than `seen` calls and at
+    /// most `reach`, and its length.
     fn longest(&self, seen: u64, reach: u64) -> Option<(&Origin<State>, u64)>
         ensures { IfSome result (λ found. IsFound self.now.slots seen reach found.0.now found.1) }
     {

@@ -29,7 +29,7 @@ impl<State: Object> Head<State> {
         self.ask_at(seat, kept, &NoGate)
     }
 
-    /// The same; the gate is notified of each compare-exchange.
+    /// Executes a stored call like `ask`; calls the gate before each compare-exchange.
     pub fn ask_at<G: Gate>(
         &self,
         seat: &mut Seat<State>,

@@ -29,8 +29,8 @@ pub struct Head<State: Object> {
     pub(crate) first: Shared<State>,
     pub(crate) tries: u32,
     pub(crate) every: u32,
-    /// A slot for each position at which a snapshot is kept, followed by one for each seat, by its number,
-    /// for the snapshot that it publishes.
+    /// The slots for snapshots: one for each position at which a snapshot is kept, and then one for each
+    /// seat, by its number, for the snapshot that it publishes.
     pub(crate) versions: Vec<Slot<State>>,
     /// The parents of these snapshots.
     pub(crate) origins: Vec<OriginSlot<State>>,
@@ -74,7 +74,8 @@ fn handing_count(seats: u32, every: u32) -> usize
     if every == 0 { 0 } else { seats as usize }
 }
 
-/// Makes a seat for each pass, which has seen nothing of a history that begins with a state.
+/// Makes the seats of a new head, one for each pass. Their history begins with this state, and they have seen
+/// nothing.
 fn seats_of<State: Object>(
     alloc: Global,
     first: &Shared<State>,

@@ -1,4 +1,4 @@
-//! Marks in order: a list that copies share, followed by a few of its own.
+//! Marks in order: a reference counted list, followed by a few marks of one owner.
 ghost use Rattle.std.specs.Prelude.{◌≡◌, ◌∷◌, ◌++◌, ◌+◌, ◌≤◌, [], length, drop, IfOk, MatchOption};
 
 use crate::marks::Mark;

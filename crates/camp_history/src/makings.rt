@@ -15,11 +15,12 @@ use camp_object::{Fault, Object};
 use camp_share::{Share, Shared, SharedList};
 use std::alloc::AllocError;
 
-/// Marks that a seat keeps for itself before a call at whose position it makes a snapshot; it moves more to
-/// the list that copies share. A snapshot copies the marks that it keeps.
+/// A seat with this many marks outside its reference counted list moves them there before a call at whose
+/// position it makes a snapshot, which copies those that are left outside.
 const FEW: usize = 40;
-/// Marks that a seat keeps for itself otherwise: those of a snapshot and of 64 calls after it. Moving marks
-/// takes longer the more calls there are, so a seat that installs a snapshot for each 64 calls moves none.
+/// A seat with this many marks outside its reference counted list moves them there before any other call. A
+/// snapshot and 64 calls after it have no more. Moving marks takes longer the more calls there are, so a seat
+/// that installs a snapshot for each 64 calls moves none.
 const MANY: usize = 104;
 
 impl<State: Object> Version<State> {
@@ -100,7 +101,7 @@ impl<State: Object> Head<State> {
     ghost use Rattle.camp_history.specs.Seats.{IsBaseAt, IsSeatOf, history_of};
     ghost use Rattle.camp_history.specs.Versions.{based};
 
-    /// Returns the number of slots of positions. Those of the seats come after them.
+    /// Returns the number of slots of positions. The slots of seats come after these.
     pub(crate) fn kept_count(&self) -> usize
         ensures { result ≤ 4194304 }
     {
@@ -169,7 +170,8 @@ impl<State: Object> Head<State> {
         Ok(())
     }
 
-    /// Returns the number of marks that a seat keeps for itself before its next call.
+    /// Returns how many marks outside its reference counted list make a seat move them there before its next
+    /// call.
     pub(crate) fn most_own(&self, seat: &Seat<State>) -> usize {
         if slot_of(seat.position().saturating_add(1), self.every).is_none() {
             return MANY;

@@ -11,7 +11,7 @@ impl<State: Object> SlotRule<Version<State>> for OfStore {
     ghost holds = { λ tag version. All (λ mark. IsIn tag mark.call) version };
 }
 
-/// The rule of parents: they are snapshots in the slots of the same head.
+/// The rule of slots of parents: a parent is a snapshot in a slot of the same head.
 pub struct OfSlots;
 
 impl<State: Object> SlotRule<Origin<State>> for OfSlots {

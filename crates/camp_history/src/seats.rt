@@ -12,7 +12,7 @@ use std::marker::Model;
 #[derive(Drop)]
 pub struct Seat<State: Object> {
     pub(crate) pass: Pass,
-    /// The calls that it has seen, except for the last few.
+    /// The calls that it has seen, except for the last few, as a reference counted list.
     pub(crate) earlier: Shared<SharedList<Mark<State::Call>>>,
     pub(crate) tail: Vec<Mark<State::Call>>,
     pub(crate) state: Shared<State>,

@@ -14,7 +14,7 @@ use std::marker::Model;
 /// mark for each call, in order.
 #[derive(Drop)]
 pub struct Version<State: Object> {
-    /// All calls except for the last few.
+    /// All calls except for the last few, as a reference counted list.
     pub(crate) earlier: Shared<SharedList<Mark<State::Call>>>,
     pub(crate) tail: Vec<Mark<State::Call>>,
     pub(crate) state: Shared<State>,
@@ -59,10 +59,10 @@ pub struct Origin<State: Object> {
     pub(crate) from: Option<Base<State>>,
 }
 
-/// The rule of slots: a snapshot is in a slot of the head whose store has its calls.
+/// The rule of slots of snapshots: the calls of a snapshot are in the store of the slot's head.
 pub struct OfStore;
 
-/// A store is identified by the numbers of its buckets.
+/// Stores are identified by the numbers of their buckets.
 pub struct StoreIds;
 
 impl<Call> Names<boxcar::Vec<Call>> for StoreIds {

@@ -14,7 +14,7 @@ use camp_row::{Next, Pass, Row, Trail};
 use camp_share::{Shared, SharedList};
 use std::alloc::AllocError;
 
-/// Calls of the longest history of any head.
+/// The most calls of a head's history: 64 seats with 65,536 each.
 const MOST_LISTED: usize = 4_194_304;
 
 /// Drafts the next cell with the place of a call, and publishes it by a compare-exchange.
@@ -88,7 +88,7 @@ impl<State: Object> Seat<State> {
         }
     }
 
-    /// Returns all that the seat has seen, as a list that copies share.
+    /// Returns all marks of the seat as a reference counted list.
     fn listed(&self) -> Result<Shared<SharedList<Mark<State::Call>>>, AllocError>
         ensures { IfOk result (λ list. list ≡ self.now.marks) }
     {
@@ -97,8 +97,8 @@ impl<State: Object> Seat<State> {
         Shared::new(*self.tail.allocator(), longer)
     }
 
-    /// Compacts the seat: moves the last calls to the list that copies share, once there are more than
-    /// `most`.
+    /// Compacts the seat: if `most` marks or more are outside its reference counted list, moves them there,
+    /// as far as the list may grow.
     fn settle(&mut self, most: usize) -> Result<(), AllocError>
         ensures { self.new ≡ self.old }
     {
@@ -151,7 +151,7 @@ impl<State: Object> Seat<State> {
         Shared::new(*self.tail.allocator(), next)
     }
 
-    /// Sees the next entry, with its call and the state after it.
+    /// Sees the next entry of the chain, whose call and next state are given.
     fn step(
         &mut self,
         row: &Row,

@@ -1,4 +1,4 @@
--- The representation of a head in its fields.
+-- A head in its fields, and its invariant.
 use Rattle.std.specs.Prelude.{◌≡◌, ◌==◌, ◌<◌, ℕ, ◌+◌, ◌*◌, ◌/◌, if◌then◌else◌, length, All}
 use Rattle.camp_history.specs.Seats.{HeadId}
 use Rattle.camp_history.specs.Versions.{ids, ids_of}
@@ -20,8 +20,8 @@ slots_handed_on seats every = if every == 0 then 0 else seats
 abbrev pub IsSlotFor : (position every number : ℕ) → Type 0
 IsSlotFor position every number = (0 < every) × ((number + 1) * every ≡ position)
 
--- a call is tried at least once; snapshots are in slots for the head's store, one for each position at which a
--- snapshot is kept and one for each seat; their parents are in as many slots
+-- the invariant of a head: it tries a call at least once. It has a slot for each position at which a snapshot is kept
+-- and one for each seat, all under its store, and as many slots for the parents of the snapshots.
 pub record IsHead {State Call Reply : Type 0} (head : Inside State Call Reply) : Type 0 where
   pub tries : 0 < head.tries
   pub slots : All (λ slot. slot.tag ≡ ids head.calls) head.versions.items

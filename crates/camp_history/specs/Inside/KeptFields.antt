@@ -1,4 +1,4 @@
--- The representation of a stored call in its fields.
+-- A stored call in its fields.
 use Rattle.std.specs.Prelude.{◌≡◌, false, None, Some}
 use Rattle.camp_object.specs.Objects.{Sequential}
 use Rattle.camp_history.specs.Kept.{Keeping}

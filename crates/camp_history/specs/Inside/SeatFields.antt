@@ -1,4 +1,4 @@
--- The representation of a seat in its fields.
+-- A seat in its fields: what contracts see of it, and its invariant.
 use Rattle.std.specs.Prelude.{◌≡◌, ◌<◌, ◌≤◌, ◌++◌, List, length, map, All, Some}
 use Rattle.camp_object.specs.Objects.{Sequential, IsFirst, begun}
 use Rattle.camp_object.specs.Histories.{replay}
@@ -11,7 +11,7 @@ use Rattle.camp_history.specs.declared.seats.Seat.TheInside.{Inside}
 abbrev pub marks_in : {State Call Reply : Type 0} → Inside State Call Reply → List (Mark Call)
 marks_in seat = seat.earlier ++ seat.tail.items
 
--- its history begins with what its state tells
+-- a seat as contracts see it; its state says with which state its history began
 abbrev pub seated : {State Call Reply : Type 0} → Sequential State Call Reply → Inside State Call Reply → Seated State Call
 seated object seat = record {
   first = object.first seat.state;
@@ -20,8 +20,8 @@ seated object seat = record {
   bases = bases_in seat.bases.items;
 }
 
--- the marks are of the entries that the pass has seen, each of a seat of the row, and the state is the replay of
--- their calls; they begin with those of each noted snapshot
+-- the invariant of a seat: it has a mark for each entry that its pass has seen, each of a seat of the row; its state
+-- is the replay of their calls; and the marks begin with those of each noted snapshot
 pub record IsSeat {State Call Reply : Type 0} (object : Sequential State Call Reply) (seat : Inside State Call Reply)
     : Type 0 where
   pub places : map entry_of (marks_in seat) ≡ seat.pass.seen

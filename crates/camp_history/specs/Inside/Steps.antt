@@ -24,8 +24,8 @@ pub record DecidesAt {State Call Reply : Type 0} (object : Sequential State Call
   pub replays : replay object history ≡ Some state
   pub decides : Decides object state call decided
 
--- what a head decides about a call, at what a seat has seen: the state after it, if it is accepted and there is room
--- for it, and else an answer
+-- what a head decides about a call after what a seat has seen: the next state, if the call is accepted and the seat
+-- has a cell for it; else an answer
 abbrev pub Decision : {State Call Reply : Type 0} → Sequential State Call Reply → HeadId State → Seated State Call → Call
     → Result (Decided State Reply) Fault → Type 0
 Decision object head seat call (Ok (Next next)) =
@@ -36,7 +36,7 @@ Decision object head seat call (Ok (Answer reply)) =
 Decision object head seat call (Err fault) =
     Ask object (caller_at head seat) (history_of seat) call (Err fault) (history_of seat)
 
--- a seat that has seen one call more
+-- a seat after it has seen one more call
 abbrev pub with_mark : {State Call : Type 0} → Seated State Call → Mark Call → Seated State Call
 with_mark seat mark = record {
   first = seat.first;
@@ -45,14 +45,15 @@ with_mark seat mark = record {
   bases = seat.bases;
 }
 
--- a seat sees more: its pass is to the same seat of the row, and no call that it sees newly is its own
+-- a seat sees more: its pass is still that of the same seat and row, and none of the calls that are new to it is its
+-- own
 pub record SeesMore {State Call : Type 0} (old new : Seated State Call) : Type 0 where
   pub number : new.known.number ≡ old.known.number
   pub row : new.known.row ≡ old.known.row
   pub more : IsBeginning (history_of old) (history_of new)
   pub own_stays : own old.known.number (history_of new) ≡ own old.known.number (history_of old)
 
--- a seat of a head sees more of the chain that was found
+-- a seat of a head sees more of the chain that it found
 pub record GetsOn {State Call : Type 0} (head : HeadId State) (old new : Seated State Call) : Type 0 where
   pub of : IsSeatOf head new
   pub more : SeesMore old new
@@ -66,7 +67,7 @@ pub record Publishes {State Call : Type 0} (old : Seated State Call) (call : Whe
   pub marks : new.marks ≡ old.marks ++ record { seat = old.known.number; call = call } ∷ []
   pub bases : new.bases ≡ old.bases
 
--- the chain was longer than what the seat has seen, and was found
+-- an exchange was lost: the chain was longer than what the seat has seen, and the seat finds it
 pub record FindsMore {State Call : Type 0} (old new : Seated State Call) : Type 0 where
   pub first : new.first ≡ old.first
   pub number : new.known.number ≡ old.known.number
@@ -82,7 +83,7 @@ pub record LosesOne {State Call Reply : Type 0} (object : Sequential State Call 
   pub accepted : IsAccepted object (history_of old) call
   pub finds : FindsMore old new
 
--- one attempt: an answer, or none where the exchange was lost
+-- one attempt at a call: an answer, or none if the exchange was lost
 abbrev pub Attempts : {State Call Reply : Type 0} → Sequential State Call Reply → HeadId State → Seated State Call → Call
     → Result (Option Reply) Fault → Seated State Call → Type 0
 Attempts object head old call (Ok (Some reply)) new =
