@@ -13,11 +13,11 @@ pub record IsShorter {A : Type 0} (beginning whole : List A) : Type 0 where
   pub rest : List A
   pub is : beginning ++ next ∷ rest ≡ whole
 
--- the entries that a seat has in a chain
+-- the entries of a chain that one seat published
 abbrev pub own : ℕ → List Entry → List Entry
 own seat chain = filter (λ entry. entry.seat == seat) chain
 
--- their number
+-- the number of entries of a chain that one seat published
 abbrev pub turns : ℕ → List Entry → ℕ
 turns seat chain = length (own seat chain)
 
@@ -34,7 +34,7 @@ head_after seats before word (entry ∷ later) =
 abbrev pub head_word : ℕ → List Entry → ℕ
 head_word seats chain = head_after seats [] 0 chain
 
--- each entry is of a seat of the row that has a cell for it
+-- each entry is by a seat of the row, and no seat has more entries than cells
 abbrev pub Fits : ℕ → ℕ → List Entry → Type 0
 Fits seats per_seat chain = (before : List Entry) (entry : Entry) (after : List Entry) → before ++ entry ∷ after ≡ chain
     → (entry.seat < seats) × (turns entry.seat before < per_seat)

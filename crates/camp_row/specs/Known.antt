@@ -5,11 +5,11 @@ use Rattle.camp_row.specs.declared.entries.Entry.{Entry}
 use Rattle.camp_row.specs.declared.trails.Next.{Next}
 use Rattle.camp_row.specs.Chains.{IsBeginning, IsShorter, own, cell_of, head_word}
 
--- seats of a row
+-- the most seats of a row
 abbrev pub most_seats : ℕ
 most_seats = 64
 
--- cells of a seat
+-- the most cells of a seat
 abbrev pub most_cells : ℕ
 most_cells = 65_536
 
@@ -33,18 +33,19 @@ pub record Known : Type 0 where
 abbrev pub newcomer : RowId → ℕ → Known
 newcomer row number = record { row = row; number = number; seen = []; ahead = []; parent = 0; place = 0 }
 
--- what was seen begins the chain that was found, in which the seat has no entry that its pass has not seen
+-- what was seen is a prefix of the chain that was found, in which the seat has no entry that its pass has not seen
 pub record IsSound (known : Known) : Type 0 where
   pub front : IsBeginning known.seen known.ahead
   pub own_seen : own known.number known.ahead ≡ own known.number known.seen
 
--- the chain was found: it has only grown, it begins with what was seen, and the seat has no new entry in it
+-- the pass finds the chain as it is now: it has only grown, it begins with what was seen, and the seat has no new
+-- entry in it
 pub record FindsChain (old new : Known) : Type 0 where
   pub is : new ≡ record old { ahead = new.ahead }
   pub grows : IsBeginning old.ahead new.ahead
   pub sound : IsSound new
 
--- the cells from `before` on, newest first
+-- the cells of the entries after the prefix `before` of a chain, newest first
 abbrev pub cells_back : ℕ → List Entry → List Entry → List ℕ
 cells_back seats before [] = []
 cells_back seats before (entry ∷ later) =
@@ -57,7 +58,7 @@ pub record Leads (known : Known) (seen : List Entry) (trail : List ℕ) : Type 0
   pub is : seen ++ left ≡ known.ahead
   pub cells : trail ≡ cells_back known.row.seats seen left
 
--- a cell has an entry of the chain that was found
+-- the cell is that of an entry of the chain that was found
 pub record Stands (known : Known) (cell : ℕ) : Type 0 where
   pub before : List Entry
   pub entry : Entry
@@ -77,11 +78,11 @@ pub record ComesNext (known : Known) (next : Next) : Type 0 where
 abbrev pub IsDrafted : Known → Type 0
 IsDrafted known = known.parent ≡ head_word known.row.seats known.seen
 
--- the next cell is drafted, with this place
+-- the pass after its seat's next cell was drafted with this place
 abbrev pub with_draft : Known → ℕ → Known
 with_draft known place = record known { parent = head_word known.row.seats known.seen; place = place }
 
--- the seat's entry with the drafted place
+-- the entry that the seat's drafted cell makes
 abbrev pub drafted : Known → Entry
 drafted known = record { seat = known.number; place = known.place }
 
@@ -91,12 +92,12 @@ won known =
     let entries = known.seen ++ drafted known ∷ [] in
     record known { seen = entries; ahead = entries; parent = 0; place = 0 }
 
--- the chain was exactly what was seen; the drafted cell is now its last, and was seen
+-- a compare-exchange succeeded: the chain was exactly what was seen; the drafted cell is now its last, and is seen
 pub record Won (old new : Known) : Type 0 where
   pub whole : old.ahead ≡ old.seen
   pub is : new ≡ won old
 
--- the chain was longer than what was seen, and was found
+-- a compare-exchange failed: the chain was longer than what was seen, and the pass finds it
 pub record Lost (old new : Known) : Type 0 where
   pub is : new ≡ record old { ahead = new.ahead }
   pub grows : IsBeginning old.ahead new.ahead

@@ -11,7 +11,7 @@ use std::marker::Model;
 pub struct Pass {
     pub(crate) seat: Seat<(), Knowledge>,
     pub(crate) number: u32,
-    /// Entries that the seat has published.
+    /// The number of entries that the seat has published.
     pub(crate) turn: u32,
     /// The word that names the last cell that was seen.
     pub(crate) last: u64,

@@ -107,7 +107,7 @@ impl Row {
         self.per_seat
     }
 
-    /// Loads the head: finds the chain.
+    /// Loads the head word, and so finds the chain as it is now.
     pub fn look(&self, pass: &mut Pass)
         requires { pass.old.row ≡ self.now }
         ensures finds { FindsChain pass.old pass.new }
@@ -146,7 +146,7 @@ impl Row {
         Some(Next { entry, cell })
     }
 
-    /// Returns the entry at an index of the trail, counted from the next one. The pass sees no more by it.
+    /// Returns the entry at an index of the trail, counted from the next one. The pass does not see it.
     pub fn entry_at(&self, pass: &mut Pass, trail: &Trail, index: usize) -> Entry
         requires row { pass.old.row ≡ self.now }
         requires leads { Leads pass.old pass.old.seen trail.now }
@@ -174,7 +174,7 @@ impl Row {
         Entry { seat, place }
     }
 
-    /// Sees one more entry.
+    /// Marks the next entry as seen by the pass.
     pub fn advance(&self, pass: &mut Pass, next: Next)
         requires row { pass.old.row ≡ self.now }
         requires next { ComesNext pass.old next }
@@ -185,7 +185,7 @@ impl Row {
         pass.last = next.cell as u64 + 1;
     }
 
-    /// Sees `count` more entries.
+    /// Marks the next `count` entries as seen by the pass.
     pub fn advance_by(&self, pass: &mut Pass, trail: &mut Trail, count: usize)
         requires row { pass.old.row ≡ self.now }
         requires leads { Leads pass.old pass.old.seen trail.old }

@@ -22,19 +22,19 @@ abbrev pub fresh : ℕ → ℕ → ℕ → Part
 fresh seats per_seat number =
     record { seats = seats; per_seat = per_seat; number = number; seen = []; ahead = []; parent = 0; place = 0 }
 
--- all seats, before one is dealt out
+-- the parts of all seats of a new row
 abbrev pub all_fresh : ℕ → ℕ → List Part
 all_fresh seats per_seat = map (fresh seats per_seat) (range_with_len 0 seats)
 
--- the only part of a view
+-- the part of a view that has only one
 abbrev pub part_of : List Part → Part
 part_of parts = slice_index_or parts 0 (fresh 0 0 0)
 
--- the number of parts of a list that are of a seat
+-- how many parts of a list belong to the seat of a number
 abbrev pub parts_of : ℕ → List Part → ℕ
 parts_of number parts = count_by (λ (part : Part). part.number == number) parts
 
--- a part as a pass to that table
+-- what a pass with this part knows of the row in this table
 abbrev pub known_of : TableId → Part → Known
 known_of table part = record {
   row = record { table = table; seats = part.seats; per_seat = part.per_seat };
@@ -45,11 +45,12 @@ known_of table part = record {
   place = part.place;
 }
 
--- the part after the chain was found
+-- the part after it found this chain
 abbrev pub finds : List Entry → Part → Part
 finds chain part = record part { ahead = chain }
 
--- what was seen begins the chain that was found, which has no other entry of this seat and fits the row
+-- what was seen is a prefix of the chain that was found, in which this seat has no other entry; and the chain fits
+-- the row
 pub record IsSoundPart (part : Part) : Type 0 where
   pub front : IsBeginning part.seen part.ahead
   pub own_seen : own part.number part.ahead ≡ own part.number part.seen

@@ -6,27 +6,27 @@ use Rattle.camp_row.specs.Chains.{IsBeginning, IsShorter, cell_of, head_word}
 use Rattle.camp_row.specs.Inside.Parts.{Part, part_of, parts_of, finds, IsSoundPart}
 use Rattle.camp_row.specs.Inside.Rule.{parent_word, place_word}
 
--- the chain was found: its last cell is the one that the head names, it has only grown, and a part stays sound
+-- the part finds the chain: the head names its last cell, it has only grown, and the part stays sound
 pub record Sees (found : ℕ) (chain : List Entry) (part : Part) : Type 0 where
   pub named : found ≡ head_word part.seats chain
   pub grows : IsBeginning part.ahead chain
   pub sound : IsSoundPart (finds chain part)
 
--- a load of the head: the chain ahead of each part becomes known. No two parts are of one seat
+-- a load of the head: each part finds the chain. No two parts are of one seat
 pub record Looked (found : ℕ) (old new : List Part) : Type 0 where
   pub chain : List Entry
   pub one_each : (number : ℕ) → parts_of number old ≤ 1
   pub each : All (Sees found chain) old
   pub is : new ≡ map (finds chain) old
 
--- the word of a cell that is ahead is the one that the chain says
+-- a word of a cell that is ahead was loaded: it is the one that the chain gives
 abbrev pub Reads : ℕ → ℕ → Part → Type 0
 Reads word found part =
     (before : List Entry) (entry : Entry) (after : List Entry) → before ++ entry ∷ after ≡ part.ahead
     → (word ≡ parent_word (cell_of part.seats before entry) → found ≡ head_word part.seats before)
     × (word ≡ place_word (cell_of part.seats before entry) → found ≡ entry.place)
 
--- a load of a parent or place word: nothing changes
+-- a load of a parent or place word that changes nothing
 abbrev pub Walked : ℕ → ℕ → List Part → List Part → Type 0
 Walked word found old new = (new ≡ old) × Reads word found (part_of old)
 
@@ -40,11 +40,11 @@ pub record Advanced (found : ℕ) (old new : List Part) : Type 0 where
 abbrev pub StoredParent : ℕ → List Part → List Part → Type 0
 StoredParent stored old new = new ≡ (record (part_of old) { parent = stored }) ∷ []
 
--- a store to its place word
+-- a store to the place word of the seat's next cell
 abbrev pub StoredPlace : ℕ → List Part → List Part → Type 0
 StoredPlace stored old new = new ≡ (record (part_of old) { place = stored }) ∷ []
 
--- the seat's entry with the drafted place
+-- the entry that the seat's drafted cell makes
 abbrev pub drafted_part : Part → Entry
 drafted_part part = record { seat = part.number; place = part.place }
 
@@ -54,12 +54,12 @@ won_part part =
     let entries = part.seen ++ drafted_part part ∷ [] in
     record part { seen = entries; ahead = entries; parent = 0; place = 0 }
 
--- the chain was exactly what the part had seen
+-- a compare-exchange succeeded: the chain was exactly what the part had seen
 pub record WonPart (part : Part) (new : List Part) : Type 0 where
   pub whole : part.ahead ≡ part.seen
   pub is : new ≡ won_part part ∷ []
 
--- the chain was longer than what the part had seen, and was found
+-- a compare-exchange failed: the chain was longer than what the part had seen, and the part finds it
 pub record LostPart (found : ℕ) (part : Part) (new : List Part) : Type 0 where
   pub chain : List Entry
   pub longer : IsShorter part.seen chain
