@@ -111,7 +111,7 @@ still_met head least h more grows before after met =
       since = begins_through was.since grows;
     }) before after met
 
--- one seat more was met, of which the first tells how many calls the history has at least
+-- one more seat was met; the first one gives how many calls the history has at least
 pub one_met : {State Call : Type 0} (head : HeadId State) (least now : ℕ) (h more : List (ℕ × Call)) (before after : List (Seated State Call)) (b a : Seated State Call)
     → IsBeginning h more → AllZip (WasMet head least h) before after → (length after ≡ 0) ⊎ (now ≡ least) → WasMet head now more b a
     → AllZip (WasMet head now more) (before ++ b ∷ []) (after ++ a ∷ [])

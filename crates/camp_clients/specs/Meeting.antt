@@ -22,7 +22,7 @@ module _ {State Call : Type 0} (head : HeadId State) where
     pub own_stays : own (number_of before) (history_of after) ≡ own (number_of before) (history_of before)
     pub knows : IsBeginning known (history_of after)
 
-  -- a seat stays as it was, and all of it was known when the history had at least so many calls
+  -- a seat stays as it was, and all that it has seen was known when the history had at least `least` calls
   pub record WasMet (least : ℕ) (history : List (ℕ × Call)) (before after : Seated State Call) : Type 0 where
     pub is_seat : IsSeatOf head after
     pub number : number_of after ≡ number_of before

@@ -26,7 +26,7 @@ module _ {State Call Reply : Type 0} (object : Sequential State Call Reply) wher
       ask_done object lawful (caller_at head old) (history_of old) (history_of old) (history_of new) call.value at reply
       (begins_self (history_of old)) refl accepted (λ _. room) (λ _. refl) (history_more old.marks new.marks (record { seat = old.known.number; call = call }) publishes.marks) position is
 
--- an attempt that fails for want of memory
+-- an attempt that fails because memory runs out
 pub attempts_nothing : {State Call Reply : Type 0} (object : Sequential State Call Reply) (head : HeadId State) (old new : Seated State Call) (call : Call) (answer : Result (Option Reply) Fault)
     → IsErrAnd answer (λ fault. fault ≡ Memory) → IsLegal object (history_of old) → new ≡ old → Attempts object head old call answer new
 attempts_nothing object head old new call (Ok reply) memory legal same = absurd memory

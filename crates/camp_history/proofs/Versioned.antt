@@ -1,4 +1,4 @@
--- Lemmas on versions: how they are tied to a store, and how one goes on from what a seat has seen.
+-- Lemmas on snapshots: how they are tied to a store, and how one continues what a seat has seen.
 use Rattle.camp_history.proofs.Words.{Entry, GetsOn, HeadId, IsBeginning, IsIn, IsSeatOf, IsSound, Known, Leads, Seated, asked, entry_of, entries_of, begins_shorter, history_of, ids, ids_of, length-beginning, own, told, news, based, bases_in, Begins, Based, IsBaseAt, Share, GoesOn, Adopts, Mark, SeesMore, ◌≡◌, ℕ, zero, suc, ◌+◌, ◌-◌, ◌<◌, ◌≤◌, List, [], ◌∷◌, ◌++◌, length, map, take, drop, splice, get_or, slice_get, slice_index_or, All, Option, None, Some, IfSome, MatchOption, refl, sym, ◌∙◌, ap, subst, arith, append-nil, append_assoc, length-append, length-map, map-append, take-append-drop, take_at, take_more, take_rest, drop_at, drop_more, drop-map, length-drop, length-take-le, map_push, same_Some, take_all, drop_all, begins_self, Bool, true, false, if◌then◌else◌, All-append, All-drop, All-map, All-push, All-same, All-weaker, Shelves, Shows, turns}
 use Rattle.std.proofs.lemmas.List.{get_or-map}
 use Rattle.std.proofs.Math.Seq.{drop-append-add}
@@ -224,7 +224,7 @@ adopted_on head old new version true of places sound goes stored took = record {
 }
 adopted_on head old new version false of places sound goes stored same = subst (GetsOn head old) (sym same) (gets_on_self head old of)
 
--- the list that copies share, once the few behind it were moved into it
+-- the reference counted list once the few marks after it were moved into it
 pub spliced_behind : {X : Type 0} (front tail longer : List X) (len : ℕ) → len ≡ length front → longer ≡ splice front len len tail → longer ≡ front ++ tail
 spliced_behind front tail longer len len_is spliced =
     spliced ∙ ap (λ n. splice front n n tail) len_is

@@ -40,8 +40,8 @@ is_within range place = nat_le place.from range.from && nat_le range.to place.to
 abbrev pub differs_within : Lines → Range → Version → Bool
 differs_within lines place version = is_within (range_of lines version.lines) place
 
--- what a version has in place of a range of the file: its lines without those before the range, and without as many
--- at its end as the file has after the range
+-- the lines of a version at a range of the file: without those before the range, and without as many at its end as
+-- the file has after the range
 abbrev pub at_place : Lines → Range → Version → Version
 at_place lines place version =
     record {

@@ -200,7 +200,7 @@ fn is_within(range: Range, place: Range) -> bool
     place.from <= range.from && range.to <= place.to
 }
 
-/// Returns the lines that a version has in place of those of a hunk.
+/// Returns the lines of a version at a hunk.
 fn at_place(
     lines: &SharedList<Line>,
     place: Range,

@@ -31,8 +31,9 @@ impl Wants {
     }
 }
 
-/// Makes and frees so many allocations that the refused one, whose number is the second argument, is the one
-/// of the table with the number of the first argument. Without a second argument it makes none.
+/// Makes and frees as many allocations as are needed for the refused one, whose number is the second
+/// argument, to be the one of the table with the number of the first argument. Without a second argument it
+/// makes none.
 pub(crate) fn allocate_before(rt: &impl Env, alloc: Global) -> io::Result<()> {
     match (number_at(rt, 1)?, number_at(rt, 2)?) {
         (Some(number), Some(refused)) => {
