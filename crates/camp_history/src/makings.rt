@@ -170,8 +170,8 @@ impl<State: Object> Head<State> {
         Ok(())
     }
 
-    /// Returns how many marks outside its reference counted list make a seat move them there before its next
-    /// call.
+    /// Returns the number of marks outside its reference counted list at which a seat moves them there before
+    /// its next call.
     pub(crate) fn most_own(&self, seat: &Seat<State>) -> usize {
         if slot_of(seat.position().saturating_add(1), self.every).is_none() {
             return MANY;
