@@ -1,4 +1,4 @@
--- A pass and its fields: it is the only part of its seat of the table.
+-- A pass in its fields, and its invariant.
 use Rattle.std.specs.Prelude.{◌≡◌, ◌<◌, ◌≤◌, [], ◌∷◌}
 use Rattle.camp_row.specs.Chains.{turns, head_word}
 use Rattle.camp_row.specs.Known.{Known}
