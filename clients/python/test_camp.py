@@ -191,16 +191,19 @@ class Errors(unittest.TestCase):
         del other
         gc.collect()
 
-    def test_an_import_without_the_library_says_what_to_run(self):
+    def test_a_repository_without_the_library_says_what_to_run(self):
         with tempfile.TemporaryDirectory() as folder:
-            def imported():
+            def said(program):
                 environment = {**os.environ, "CAMP_LIB_DIR": folder}
-                return subprocess.run([sys.executable, "-c", "import camp"], cwd=FOLDER, env=environment, stderr=subprocess.PIPE, text=True).stderr
+                return subprocess.run([sys.executable, "-c", program], cwd=FOLDER, env=environment, stderr=subprocess.PIPE, text=True).stderr
 
-            self.assertRegex(imported(), "ImportError: libcamp.so is not in .*: run clients/build .* or set CAMP_LIB_DIR")
+            self.assertEqual(said("import camp; camp.diff('f', None, 'x')"), "")
+            missing = said("import camp; camp.Repository()")
+            self.assertRegex(missing, "ImportError: libcamp.so is not in .*: run clients/build .* or set CAMP_LIB_DIR")
+            self.assertNotIn("Exception ignored", missing)
             with open(os.path.join(folder, "libcamp.so"), "wb") as file:
                 file.write(b"no library")
-            self.assertRegex(imported(), "ImportError: .*libcamp.so can't be loaded")
+            self.assertRegex(said("import camp; camp.Repository()"), "ImportError: .*libcamp.so can't be loaded")
 
 
 class Views(unittest.TestCase):

@@ -12,7 +12,7 @@ A view shows a repository as it was at one moment, and answers questions while t
     with repository.view() as view: ...
 
 The library is libcamp.so: in the folder that CAMP_LIB_DIR names, else in this package, where clients/build puts it, or
-where the system's loader looks.
+where the system's loader looks. `python3 -m camp shell`, camp at a terminal, works without it.
 
 A line is bytes without its line feed. Wherever lines or texts are given, a string may stand, too: it is encoded as UTF-8.
 """

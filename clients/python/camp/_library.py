@@ -66,4 +66,14 @@ def _load() -> ctypes.CDLL:
     return library
 
 
-LIBRARY = _load()
+class _Library:
+    """The exports of libcamp.so, which is loaded before the first of them is used: `python3 -m camp shell` uses none."""
+
+    def __getattr__(self, name: str) -> Any:
+        if "_loaded" not in self.__dict__:
+            self._loaded = _load()
+        found = self.__dict__[name] = getattr(self._loaded, name)
+        return found
+
+
+LIBRARY = _Library()

@@ -38,6 +38,8 @@ class Questions:
     _at_memory: Type[Error] = OutOfMemory
 
     def __init__(self) -> None:
+        # Where there is no library, this raises what to do before there is anything to close.
+        self._function("close")
         self._handle = Handle()
         self._lock = threading.Lock()
 
@@ -172,8 +174,11 @@ class Questions:
         """Why a command is refused or has a fault. A view is not asked that."""
         return ""
 
+    def _function(self, name: str) -> Any:
+        return getattr(LIBRARY, "{}_{}".format(self._kind, name))
+
     def _call(self, function: str, *rest: Any) -> Any:
-        return getattr(LIBRARY, "{}_{}".format(self._kind, function))(self._handle, *rest)
+        return self._function(function)(self._handle, *rest)
 
     def _respond(self, text: bytes) -> bytes:
         """The responses to a text. The lock is held."""

@@ -1,0 +1,95 @@
+"""The words of commands: which there are, what kinds of words follow each, and which one a wrong word may have meant."""
+
+from __future__ import annotations
+
+import difflib
+import re
+from typing import Dict, Iterable, List, NamedTuple, Optional, Sequence
+
+# The words of each command of the language and of each question, by kind. `NAME ..` are names of patches to the end.
+SHAPES: Dict[str, Sequence[str]] = {
+    "branch": ("NEW", "FROM"),
+    "record": ("BRANCH", "NEW", "CHANGE", "PATH", "LINE"),
+    "pull": ("FROM", "TO", "MISSING .."),
+    "obliterate": ("BRANCH", "NAME .."),
+    "tree": ("BRANCH",),
+    "conflicts": ("BRANCH",),
+    "names": ("BRANCH",),
+    "branches": (),
+    "file": ("BRANCH", "PATH"),
+    "needs": ("BRANCH", "NAME .."),
+    "held": ("BRANCH", "NAME .."),
+    "missing": ("FROM", "TO"),
+    "along": ("FROM", "TO", "MISSING .."),
+    "show": ("BRANCH", "NAME"),
+    "annotate": ("BRANCH", "PATH"),
+    "open": ("BRANCH",),
+    "side": ("BRANCH", "NAME"),
+    "marks": ("BRANCH", "PATH"),
+    "graph": ("BRANCH", "NAME .."),
+    "whatif": ("COMMAND",),
+    "why": (),
+    "history": (),
+    "keep": (),
+    "help": ("TOPIC",),
+}
+# The words of the conversation at a terminal alone.
+OWN: Dict[str, Sequence[str]] = {"save": ("FILE",), "read": ("FILE",), "quit": (), "exit": (), "?": ("TOPIC",)}
+CHANGES = ("add", "remove", "edit", "group")
+ENDINGS = ("end", "done", "cancel")
+NAME = re.compile(r"[a-z0-9][a-z0-9-]{0,39}\Z")
+
+
+class Call(NamedTuple):
+    """A call that writes: the branch that it changes, and the one that it copies or pulls from."""
+    kind: str
+    branch: str
+    origin: Optional[str]
+
+
+def words_of(line: bytes) -> List[str]:
+    """The words of a line, cut as the language cuts them: at spaces and tabs alone."""
+    return [it for it in re.split(r"[ \t]+", line.decode("utf-8", "surrogateescape")) if it]
+
+
+def call_of(words: Sequence[str]) -> Optional[Call]:
+    """The call that a line is; None for a question, or what is too short to be a call."""
+    if len(words) < 3:
+        return None
+    kind, first, second = words[:3]
+    if kind in ("record", "obliterate"):
+        return Call(kind, first, None)
+    if kind == "branch":
+        return Call(kind, first, second)
+    return Call(kind, second, first) if kind == "pull" else None
+
+
+def begins_body(words: Sequence[str]) -> Optional[str]:
+    """`edit` or `group` where a line looks like the first one of such a record, even if a word of it is wrong."""
+    rest = words[1:] if words[:1] == ["whatif"] else words
+    if len(rest) >= 4 and rest[3] in ("edit", "group"):
+        return rest[3]
+    return None
+
+
+def is_command(word: str) -> bool:
+    return word in SHAPES or word in OWN
+
+
+def is_name(word: str) -> bool:
+    """Whether a branch or a patch may have this name."""
+    return bool(NAME.match(word))
+
+
+def nearest(word: str, choices: Iterable[str]) -> Optional[str]:
+    """The choice that the word may have meant."""
+    found = difflib.get_close_matches(word.lower(), list(choices), 1, 0.6)
+    return found[0] if found else None
+
+
+def no_command(word: str) -> str:
+    """What is said of a word that is no command."""
+    found = nearest(word, [*SHAPES, *(it for it in OWN if it != "?")])
+    if word in ENDINGS or word in CHANGES:
+        return "{} stands only in a record: help {} tells more".format(word, word)
+    return "no command {}: {}".format(word, "did you mean {}?".format(found) if found else "help lists the commands")

@@ -1,0 +1,63 @@
+"""save, read and open: the file that is named, and how it is written whole or not at all."""
+
+from __future__ import annotations
+
+import os
+import shlex
+import tempfile
+from typing import List
+
+
+class BadFile(Exception):
+    """A file that can't be named, written or read so; the text says why."""
+
+
+def named_file(rest: str, command: str) -> str:
+    """The file that a command names: one word, in quotation marks if it has blanks; ~ is the home folder."""
+    try:
+        words = shlex.split(rest)
+    except ValueError:
+        raise BadFile("a quotation mark is not closed") from None
+    if len(words) != 1 or not words[0]:
+        raise BadFile('{} FILE names one file; write one with blanks as "a file"'.format(command))
+    return os.path.expanduser(words[0])
+
+
+def write_whole(path: str, text: bytes) -> None:
+    """Writes a file that has all of the text or is as it was before. A file that exists keeps its mode."""
+    path = os.path.realpath(path)
+    if os.path.exists(path) and not os.path.isfile(path):
+        raise BadFile("{} is no regular file".format(path))
+    made = None
+    try:
+        handle, made = tempfile.mkstemp(prefix=".camp-", dir=os.path.dirname(path))
+        with os.fdopen(handle, "wb") as file:
+            os.fchmod(handle, mode_of(path))
+            file.write(text)
+            file.flush()
+            os.fsync(handle)
+        os.replace(made, path)
+    except OSError as error:
+        if made and os.path.exists(made):
+            os.remove(made)
+        raise BadFile("{}: {}; nothing is saved".format(path, error.strerror)) from None
+
+
+def mode_of(path: str) -> int:
+    """The mode of a file; of one that does not exist, that of a new one."""
+    if os.path.exists(path):
+        return os.stat(path).st_mode & 0o7777
+    mask = os.umask(0)
+    os.umask(mask)
+    return 0o666 & ~mask
+
+
+def lines_of(path: str) -> List[bytes]:
+    """The lines of a file of commands."""
+    try:
+        with open(path, "rb") as file:
+            text = file.read()
+    except OSError as error:
+        raise BadFile("{}: {}".format(path, error.strerror)) from None
+    lines = text.split(b"\n")
+    return lines if lines[-1] else lines[:-1]

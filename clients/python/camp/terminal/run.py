@@ -1,0 +1,81 @@
+"""Runs a conversation from its banner to its end."""
+
+from __future__ import annotations
+
+import sys
+from typing import Sequence, Union
+
+from . import interrupts
+from .backend import Ended, Program, open_store
+from .completion import Completion
+from .keyboard import EndOfInput, Interrupted, Keyboard, Pipe
+from .own import Conversation, counted
+from .screen import ALARM, standard_screen
+
+FAILED = 3
+
+
+def run(version: str, store: str, loads: Sequence[str]) -> int:
+    """Holds a conversation with a repository, which a store keeps if one is named. Returns the exit status."""
+    options = ["--load", *loads] if loads else []
+    try:
+        backend = open_store(store, options) if store else Program(options)
+    except Ended as error:
+        print("camp: {}".format(error), file=sys.stderr)
+        return FAILED
+    screen = standard_screen()
+    is_terminal = sys.stdin.isatty() and screen.is_terminal
+    session = Conversation(backend, screen, is_terminal, open_store)
+    keyboard: Union[Keyboard, Pipe] = Keyboard(Completion(session).complete) if is_terminal else Pipe()
+    if is_terminal:
+        greet(session, version)
+    try:
+        while not session.is_over:
+            step(session, keyboard)
+    except BrokenPipeError:
+        return 141
+    finally:
+        keyboard.close()
+    session.backend.close()
+    return session.status
+
+
+def greet(session: Conversation, version: str) -> None:
+    """The first lines: what this is, and where it is kept."""
+    session.screen.say("camp {}: help lists the commands, quit ends.".format(version))
+    if session.backend.kept_in:
+        session.screen.say("Each accepted call is kept in {}.".format(session.backend.kept_in))
+    else:
+        session.screen.say("Nothing is kept: save FILE writes the history, open FILE goes on with one that FILE keeps.")
+    notice = getattr(session.backend, "notice", "")
+    if notice:
+        session.screen.say(notice)
+
+
+def step(session: Conversation, keyboard: Union[Keyboard, Pipe]) -> None:
+    """Reads a line and does what it says. What ends the backend ends the conversation."""
+    try:
+        line = keyboard.read(session.prompt())
+        interrupts.take_noted()
+        session.take(line)
+    except Interrupted as error:
+        session.interrupt(error.had_text)
+    except KeyboardInterrupt:
+        session.is_over, session.status = True, 130
+    except EndOfInput:
+        session.end_of_input()
+    except Ended as error:
+        session.is_over, session.status = True, FAILED
+        say_ended(session, str(error))
+
+
+def say_ended(session: Conversation, why: str) -> None:
+    """Says that the backend has ended, what was not answered, and what is lost."""
+    session.screen.say(why, ALARM)
+    first = session.pending.split(b"\n")[0]
+    if first:
+        session.screen.say("Not answered: {}".format(first.decode("utf-8", "surrogateescape")))
+    if session.backend.kept_in:
+        session.screen.say("Every call that was answered ok is kept in {}.".format(session.backend.kept_in))
+    elif session.unsaved:
+        session.screen.say("Lost with it, since nothing was kept: {}.".format(counted(session.unsaved, "call")))

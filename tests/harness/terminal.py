@@ -1,0 +1,124 @@
+"""Types at programs in a terminal of their own, and gives back what it shows: transcripts, as data and in documents, are run so.
+
+A transcript is what a person sees. A line `$ COMMAND` is run by bash, in a terminal and one after the other. A line that begins
+with a prompt of camp is typed after it; the lines below are what is shown up to the next prompt, where `...` stands for any lines.
+In typed text `<C-c>`, `<C-d>`, `<Tab>` and `<Up>` are keys. Enter follows, unless the last key is Ctrl-C or Ctrl-D.
+"""
+
+import contextlib
+import fcntl
+import os
+import pty
+import re
+import select
+import signal
+import struct
+import termios
+import time
+
+from tests.harness.golden import is_match
+
+PROMPTS = ("camp> ", "....> ")
+KEYS = {"<C-c>": "\x03", "<C-d>": "\x04", "<Tab>": "\t", "<Up>": "\x1b[A"}
+COLUMNS = 130
+# Seconds without a prompt after which a program counts as hanging.
+TIMEOUT = 120
+
+
+class Terminal:
+    """A command of bash in a terminal."""
+
+    def __init__(self, command, environment, folder):
+        self.process, self.end = pty.fork()
+        if self.process == 0:
+            with contextlib.suppress(BaseException):
+                os.chdir(folder)
+                # The width is set before anything asks for it.
+                fcntl.ioctl(0, termios.TIOCSWINSZ, struct.pack("HHHH", 40, COLUMNS, 0, 0))
+                os.execvpe("bash", ["bash", "-c", command], environment)
+            os._exit(127)
+
+    def read_until(self, is_enough):
+        """What is shown until the end of the command, or until it is enough."""
+        shown, last = b"", time.time()
+        while not is_enough(shown):
+            if time.time() - last > TIMEOUT:
+                return shown + b"\r\n(the program hangs)\r\n"
+            if select.select([self.end], [], [], 1)[0]:
+                try:
+                    more = os.read(self.end, 65536)
+                except OSError:
+                    more = b""
+                if not more:
+                    break
+                shown, last = shown + more, time.time()
+        return shown
+
+    def type(self, text):
+        """Types a line, and returns what is shown after it."""
+        keys = re.sub("<[A-Z][-a-z]+>", lambda it: KEYS.get(it[0], it[0]), text)
+        if keys[-1:] in ("\x03", "\x04"):
+            before, keys = keys[:-1].encode(), keys[-1:]
+            os.write(self.end, before)
+            # Ctrl-C drops what the terminal has not handed on yet.
+            self.read_until(lambda it: it.endswith(before))
+        else:
+            keys += "\r"
+        os.write(self.end, keys.encode())
+        shown = self.read_until(is_prompt)
+        return shown.partition(b"\n")[2]
+
+    def close(self):
+        os.close(self.end)
+        with contextlib.suppress(ProcessLookupError):
+            os.kill(self.process, signal.SIGKILL)
+        os.waitpid(self.process, 0)
+
+
+def is_prompt(shown):
+    """Whether a program waits for a line."""
+    return shown.rpartition(b"\n")[2].decode(errors="replace") in PROMPTS
+
+
+def lines_of(shown):
+    """The lines that are shown, the prompt at their end among them."""
+    return shown.decode("utf-8", "backslashreplace").replace("\r\n", "\n").split("\n")
+
+
+def is_typed(line):
+    return line.startswith(PROMPTS)
+
+
+def commands_of(transcript):
+    """The commands of a transcript, each with its other lines."""
+    found = []
+    for line in transcript.splitlines():
+        if line.startswith("$ "):
+            found.append((line[2:], []))
+        else:
+            found[-1][1].append(line)
+    return found
+
+
+def run_command(command, wanted, environment, folder):
+    """Runs a command and types the lines of its transcript. Returns the transcript that came of it, in which `...` stands where it
+    stood for what came; it is the wanted one exactly if all is as it should be."""
+    terminal = Terminal(command, environment, folder)
+    found, rest = [], list(wanted)
+    try:
+        shown = lines_of(terminal.read_until(is_prompt))
+        while True:
+            prompt = shown.pop()
+            at = next((at for at, it in enumerate(rest) if is_typed(it)), len(rest))
+            found += rest[:at] if is_match(rest[:at], shown) else shown
+            if prompt not in PROMPTS:
+                return found + ([prompt] if prompt else []) + (["(it has ended here)"] if rest[at:] else [])
+            if at == len(rest):
+                return found + [prompt + "(it waits here)"]
+            if not rest[at].startswith(prompt):
+                return found + [prompt + "(this is its prompt)"]
+            found.append(rest[at])
+            text, rest = rest[at][len(prompt) :], rest[at + 1 :]
+            shown = lines_of(terminal.type(text))
+    finally:
+        terminal.close()
