@@ -21,7 +21,6 @@ import sys
 import tempfile
 
 from tests.harness import programs
-from tests.harness.golden import is_match
 from tests.harness.paths import TOP, read_text
 
 SECONDS, GATE = 20, "after camp camp_shell"
@@ -50,6 +49,15 @@ def commands_of(block):
                 break
         found.append((command, []))
     return found
+
+
+def is_match(wanted, lines):
+    """Whether lines are those that are wanted, where `...` stands for any lines."""
+    if not wanted:
+        return not lines
+    if wanted[0] == "...":
+        return any(is_match(wanted[1:], lines[at:]) for at in range(len(lines) + 1))
+    return bool(lines) and lines[0] == wanted[0] and is_match(wanted[1:], lines[1:])
 
 
 def run_console(commands, path):

@@ -57,12 +57,3 @@ def beside(path, ending, otherwise=b""):
         return read(path + ending)
     except FileNotFoundError:
         return otherwise
-
-
-def is_match(wanted, lines):
-    """Whether lines are those that are wanted, where `...` stands for any lines."""
-    if not wanted:
-        return not lines
-    if wanted[0] == "...":
-        return any(is_match(wanted[1:], lines[at:]) for at in range(len(lines) + 1))
-    return bool(lines) and lines[0] == wanted[0] and is_match(wanted[1:], lines[1:])

@@ -1,7 +1,8 @@
 """Types at programs in a terminal of their own, and gives back what it shows: transcripts, as data and in documents, are run so.
 
 A transcript is what a person sees. A line `$ COMMAND` is run by bash, in a terminal and one after the other. A line that begins
-with a prompt of camp is typed after it; the lines below are what is shown up to the next prompt, where `...` stands for any lines.
+with a prompt of camp is typed after it; the lines below are what is shown up to the next prompt, where a line `...` stands for any
+lines, and `...` at the end of a line for the rest of it.
 In typed text `<C-c>`, `<C-d>`, `<Tab>` and `<Up>` are keys. Enter follows, unless the last key is Ctrl-C or Ctrl-D.
 """
 
@@ -16,13 +17,13 @@ import struct
 import termios
 import time
 
-from tests.harness.golden import is_match
-
 PROMPTS = ("camp> ", "....> ")
 KEYS = {"<C-c>": "\x03", "<C-d>": "\x04", "<Tab>": "\t", "<Up>": "\x1b[A"}
 COLUMNS = 130
 # Seconds without a prompt after which a program counts as hanging.
 TIMEOUT = 120
+# Seconds after which Ctrl-C is typed once more: Python does not see one that comes between a key and its wait for the next.
+REPEAT = 3
 
 
 class Terminal:
@@ -38,12 +39,15 @@ class Terminal:
                 os.execvpe("bash", ["bash", "-c", command], environment)
             os._exit(127)
 
-    def read_until(self, is_enough):
+    def read_until(self, is_enough, repeated=b""):
         """What is shown until the end of the command, or until it is enough."""
         shown, last = b"", time.time()
         while not is_enough(shown):
             if time.time() - last > TIMEOUT:
                 return shown + b"\r\n(the program hangs)\r\n"
+            if repeated and not shown and time.time() - last > REPEAT:
+                os.write(self.end, repeated)
+                repeated = b""
             if select.select([self.end], [], [], 1)[0]:
                 try:
                     more = os.read(self.end, 65536)
@@ -62,10 +66,11 @@ class Terminal:
             os.write(self.end, before)
             # Ctrl-C drops what the terminal has not handed on yet.
             self.read_until(lambda it: it.endswith(before))
+            time.sleep(0.1 if before else 0)
         else:
             keys += "\r"
         os.write(self.end, keys.encode())
-        shown = self.read_until(is_prompt)
+        shown = self.read_until(is_prompt, keys.encode() if keys == "\x03" else b"")
         return shown.partition(b"\n")[2]
 
     def close(self):
@@ -87,6 +92,16 @@ def lines_of(shown):
 
 def is_typed(line):
     return line.startswith(PROMPTS)
+
+
+def is_match(wanted, lines):
+    """Whether lines are those that are wanted."""
+    if not wanted:
+        return not lines
+    if wanted[0] == "...":
+        return any(is_match(wanted[1:], lines[at:]) for at in range(len(lines) + 1))
+    is_first = bool(lines) and (lines[0].startswith(wanted[0][:-3]) if wanted[0].endswith("...") else lines[0] == wanted[0])
+    return is_first and is_match(wanted[1:], lines[1:])
 
 
 def commands_of(transcript):

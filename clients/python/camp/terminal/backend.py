@@ -9,11 +9,13 @@ import subprocess
 import tempfile
 from typing import Optional, Protocol, Sequence
 
-from . import interrupts
-
 NOT_FOUND = """camp_shell is not on your PATH. At the top of camp's repository run ./build, which makes the proved program in
 out/bin, or ./play, which makes a slow one in out/unproved in two minutes; then put that folder on your PATH, or set CAMP_SHELL
 to the program."""
+
+
+# Seconds after the end of its input in which the program has to end.
+PATIENCE = 3
 
 
 class Backend(Protocol):
@@ -60,24 +62,28 @@ class Program:
 
     def ask(self, request: bytes) -> bytes:
         assert self._process.stdin and self._process.stdout
-        with interrupts.noted():
-            try:
-                self._process.stdin.write(b"%d\n%b" % (len(request), request))
-                self._process.stdin.flush()
-            except OSError:
-                raise self._ended() from None
-            length = self._process.stdout.readline()
-            answer = self._process.stdout.read(int(length)) if length.endswith(b"\n") else b""
-            if not length.endswith(b"\n") or len(answer) < int(length):
-                raise self._ended()
-            return answer
+        try:
+            self._process.stdin.write(b"%d\n%b" % (len(request), request))
+            self._process.stdin.flush()
+        except OSError:
+            raise self._ended() from None
+        length = self._process.stdout.readline()
+        answer = self._process.stdout.read(int(length)) if length.endswith(b"\n") else b""
+        if not length.endswith(b"\n") or len(answer) < int(length):
+            raise self._ended()
+        return answer
 
     def close(self) -> None:
         for stream in (self._process.stdin, self._process.stdout):
             with contextlib.suppress(OSError):
                 if stream:
                     stream.close()
-        self._process.wait()
+        try:
+            self._process.wait(timeout=PATIENCE)
+        except subprocess.TimeoutExpired:
+            # It is at work on what nobody waits for any more. What a store keeps survives that.
+            self._process.kill()
+            self._process.wait()
         self._error.close()
 
     def _ended(self) -> Ended:
@@ -88,7 +94,7 @@ class Program:
     def _said(self) -> str:
         """What the program has written to standard error."""
         self._error.seek(0)
-        return self._error.read().decode(errors="backslashreplace").strip()
+        return self._error.read().decode(errors="backslashreplace").strip().replace("camp_shell: ", "", 1)
 
 
 def find_program() -> str:

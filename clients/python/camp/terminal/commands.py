@@ -83,7 +83,7 @@ def is_name(word: str) -> bool:
 
 def nearest(word: str, choices: Iterable[str]) -> Optional[str]:
     """The choice that the word may have meant."""
-    found = difflib.get_close_matches(word.lower(), list(choices), 1, 0.6)
+    found = difflib.get_close_matches(word.lower(), list(choices), 1, 0.7)
     return found[0] if found else None
 
 

@@ -79,7 +79,7 @@ class Completion:
 
     def _list(self, *question: str) -> List[str]:
         key = " ".join(question).encode("utf-8", "surrogateescape")
-        state = (self._session.backend, self._session.unsaved)
+        state = (self._session.backend, self._session.accepted)
         if state != self._state:
             self._found, self._state = {}, state
         if key not in self._found:

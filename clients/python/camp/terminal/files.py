@@ -25,18 +25,17 @@ def named_file(rest: str, command: str) -> str:
 
 def write_whole(path: str, text: bytes) -> None:
     """Writes a file that has all of the text or is as it was before. A file that exists keeps its mode."""
-    path = os.path.realpath(path)
-    if os.path.exists(path) and not os.path.isfile(path):
-        raise BadFile("{} is no regular file".format(path))
-    made = None
+    target, made = os.path.realpath(path), None
+    if os.path.exists(target) and not os.path.isfile(target):
+        raise BadFile("{} is no regular file; nothing is saved".format(path))
     try:
-        handle, made = tempfile.mkstemp(prefix=".camp-", dir=os.path.dirname(path))
+        handle, made = tempfile.mkstemp(prefix=".camp-", dir=os.path.dirname(target))
         with os.fdopen(handle, "wb") as file:
-            os.fchmod(handle, mode_of(path))
+            os.fchmod(handle, mode_of(target))
             file.write(text)
             file.flush()
             os.fsync(handle)
-        os.replace(made, path)
+        os.replace(made, target)
     except OSError as error:
         if made and os.path.exists(made):
             os.remove(made)

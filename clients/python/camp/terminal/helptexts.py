@@ -55,9 +55,11 @@ def grouped(lines: Sequence[str]) -> List[Tuple[str, List[str]]]:
     return found
 
 
-def usage_of(word: str, lines: Sequence[str]) -> List[str]:
-    """The lines of `help` about a command."""
-    return [it for it in lines if first_word(it) == word]
+def usage_of(words: Sequence[str], lines: Sequence[str]) -> List[str]:
+    """The lines of `help` about the command that a line begins; of a record those with its kind of change."""
+    found = [it for it in [*lines, *OWN_LINES["keep"]] if first_word(it) == words[0]]
+    kind = " {}".format(words[3]) if words[0] == "record" and len(words) > 3 else ""
+    return [it for it in found if kind in it.partition(":")[0]]
 
 
 def first_word(line: str) -> str:

@@ -1,42 +1,41 @@
-"""Ctrl-C while an answer is awaited: the first one is noted, so that the answer is not lost; the second one is raised."""
+"""Ctrl-C while a command is at work: the first one is noted, so that no answer is lost; the second one is raised."""
 
 from __future__ import annotations
 
 import contextlib
 import os
 import signal
-import threading
 from typing import Iterator
 
-WORDS = b"\nStill waiting for the answer. Ctrl-C again ends the conversation.\n"
-_noted = threading.Event()
+WORDS = b"\nCtrl-C again ends the conversation.\n"
+_count = 0
+
+
+def install() -> None:
+    """Notes Ctrl-C from now on, but in blocks of `raised`."""
+    signal.signal(signal.SIGINT, _note)
+
+
+def take_noted() -> bool:
+    """Whether there was a Ctrl-C since the last time that this was asked."""
+    global _count
+    was_noted, _count = _count > 0, 0
+    return was_noted
 
 
 @contextlib.contextmanager
-def noted() -> Iterator[None]:
-    """Notes Ctrl-C while its block runs."""
-    if threading.current_thread() is not threading.main_thread():
-        yield
-        return
-    count = 0
-
-    def note(*_: object) -> None:
-        nonlocal count
-        count += 1
-        if count > 1:
-            raise KeyboardInterrupt
-        _noted.set()
-        os.write(2, WORDS)
-
-    before = signal.signal(signal.SIGINT, note)
+def raised() -> Iterator[None]:
+    """Raises KeyboardInterrupt at once, for the time in which a line is typed."""
+    before = signal.signal(signal.SIGINT, signal.default_int_handler)
     try:
         yield
     finally:
         signal.signal(signal.SIGINT, before)
 
 
-def take_noted() -> bool:
-    """Whether there was a Ctrl-C since the last time that this was asked."""
-    was_noted = _noted.is_set()
-    _noted.clear()
-    return was_noted
+def _note(*_: object) -> None:
+    global _count
+    _count += 1
+    if _count > 1:
+        raise KeyboardInterrupt
+    os.write(2, WORDS)

@@ -6,6 +6,8 @@ import os
 import sys
 from typing import Callable, List, Optional, Protocol
 
+from . import interrupts
+
 try:
     import readline
 except ImportError:  # a Python built without it
@@ -31,28 +33,29 @@ class Interrupted(Exception):
 class Lines(Protocol):
     """Where lines come from."""
 
-    is_terminal: bool
-
     def read(self, prompt: str) -> bytes:
-        """The next line, without its end."""
+        """The next line, without its end. Raises `EndOfInput` or `Interrupted` where there is none."""
+
+    def close(self) -> None:
+        """Keeps what is to be kept of the lines."""
 
 
 class Pipe:
     """Standard input that is no terminal: no prompts, no questions."""
 
-    is_terminal = False
-
     def read(self, prompt: str) -> bytes:
-        line = sys.stdin.buffer.readline()
+        with interrupts.raised():
+            line = sys.stdin.buffer.readline()
         if not line:
             raise EndOfInput
         return line[:-1] if line.endswith(b"\n") else line
 
+    def close(self) -> None:
+        pass
+
 
 class Keyboard:
     """A terminal. `complete` gives the words that may stand where the cursor is, for the text before it and its last word."""
-
-    is_terminal = True
 
     def __init__(self, complete: Completer) -> None:
         reconfigure = getattr(sys.stdin, "reconfigure", None)
@@ -66,7 +69,8 @@ class Keyboard:
 
     def read(self, prompt: str) -> bytes:
         try:
-            text = input(prompt)
+            with interrupts.raised():
+                text = input(prompt)
         except EOFError:
             print()
             raise EndOfInput from None

@@ -37,17 +37,17 @@ class Conversation(Session):
 
     def read(self, path: str) -> None:
         """Runs the commands of a file, up to the first that is refused or wrong."""
-        before, errors = self.unsaved, self.errors
+        before, errors = self.accepted, self.errors
         lines, at = lines_of(path), 0
         self.reading = path
         try:
             for at, line in enumerate(lines, 1):
                 self.take(line)
                 if self.errors > errors or interrupts.take_noted():
-                    return self.screen.say("{} line {}: the rest is not read; {} accepted".format(path, at, counted(self.unsaved - before, "call")))
+                    return self.screen.say("{} line {}: the rest is not read; {} accepted".format(path, at, counted(self.accepted - before, "call")))
             if self.body:
-                self.fail(["{} ends inside a record: nothing of it is recorded".format(path)])
-            self.screen.say("read {}: {} accepted".format(path, counted(self.unsaved - before, "call")))
+                return self.fail(["{} ends inside a record: nothing of it is recorded".format(path)])
+            self.screen.say("read {}: {} accepted".format(path, counted(self.accepted - before, "call")))
         finally:
             self.reading, self.body = None, None
 
@@ -59,7 +59,8 @@ class Conversation(Session):
         try:
             other = self._opener(path)
         except Ended as error:
-            raise BadFile("{}; the conversation goes on as before".format(error)) from None
+            hint = "; read runs a file of commands" if "no store" in str(error) else ""
+            raise BadFile("{}{}; the conversation goes on as before".format(error, hint)) from None
         self.backend.close()
         self.use(other)
         self.screen.say("opened {}: each accepted call is kept in it".format(path))

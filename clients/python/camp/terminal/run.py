@@ -2,17 +2,19 @@
 
 from __future__ import annotations
 
+import os
 import sys
-from typing import Sequence, Union
+from typing import Sequence
 
+from ..errors import Unexpected
 from . import interrupts
 from .backend import Ended, Program, open_store
 from .completion import Completion
-from .keyboard import EndOfInput, Interrupted, Keyboard, Pipe
+from .keyboard import EndOfInput, Interrupted, Keyboard, Lines, Pipe
 from .own import Conversation, counted
 from .screen import ALARM, standard_screen
 
-FAILED = 3
+FAILED, INTERRUPTED, UNREAD = 3, 130, 141
 
 
 def run(version: str, store: str, loads: Sequence[str]) -> int:
@@ -26,16 +28,18 @@ def run(version: str, store: str, loads: Sequence[str]) -> int:
     screen = standard_screen()
     is_terminal = sys.stdin.isatty() and screen.is_terminal
     session = Conversation(backend, screen, is_terminal, open_store)
-    keyboard: Union[Keyboard, Pipe] = Keyboard(Completion(session).complete) if is_terminal else Pipe()
-    if is_terminal:
-        greet(session, version)
+    lines: Lines = Keyboard(Completion(session).complete) if is_terminal else Pipe()
+    interrupts.install()
     try:
+        if is_terminal:
+            greet(session, version)
         while not session.is_over:
-            step(session, keyboard)
+            step(session, lines)
     except BrokenPipeError:
-        return 141
-    finally:
-        keyboard.close()
+        # Nothing is left to be written when Python ends.
+        os.dup2(os.open(os.devnull, os.O_WRONLY), sys.stdout.fileno())
+        session.status = UNREAD
+    lines.close()
     session.backend.close()
     return session.status
 
@@ -52,21 +56,23 @@ def greet(session: Conversation, version: str) -> None:
         session.screen.say(notice)
 
 
-def step(session: Conversation, keyboard: Union[Keyboard, Pipe]) -> None:
+def step(session: Conversation, lines: Lines) -> None:
     """Reads a line and does what it says. What ends the backend ends the conversation."""
     try:
-        line = keyboard.read(session.prompt())
-        interrupts.take_noted()
+        line = lines.read(session.prompt())
         session.take(line)
+        interrupts.take_noted()
     except Interrupted as error:
         session.interrupt(error.had_text)
     except KeyboardInterrupt:
-        session.is_over, session.status = True, 130
+        session.is_over, session.status = True, INTERRUPTED
     except EndOfInput:
         session.end_of_input()
     except Ended as error:
         session.is_over, session.status = True, FAILED
         say_ended(session, str(error))
+    except Unexpected as error:
+        session.fail(["camp_shell is of another version: it answered {}".format(error)])
 
 
 def say_ended(session: Conversation, why: str) -> None:

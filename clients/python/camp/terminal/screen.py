@@ -9,6 +9,8 @@ import textwrap
 import unicodedata
 from typing import Iterable, Mapping, TextIO
 
+from . import interrupts
+
 PLAIN, ALARM, GOOD, HEAD = "", "31", "32", "1"
 # A narrower terminal breaks lines itself.
 LEAST_WIDTH = 20
@@ -31,19 +33,25 @@ class Screen:
             self._out.buffer.write(text)
             self._out.buffer.flush()
             return
-        for line in text.split(b"\n")[:-1] if text.endswith(b"\n") else text.split(b"\n"):
+        for line in text.split(b"\n")[:-1]:
+            if interrupts.take_noted():
+                self._write("the rest is not shown", PLAIN)
+                break
             self._write(visible(line, self._encoding()), style)
+        self._out.flush()
 
     def say(self, text: str, style: str = PLAIN, indent: str = "") -> None:
         """Shows a line of words, wrapped; later lines of it have the indent."""
         text = visible(text.encode(errors="surrogateescape"), self._encoding())
         width = shutil.get_terminal_size().columns - 1
-        if not self.is_terminal or width + 1 < LEAST_WIDTH or len(text) <= width:
-            return self._write(text, style)
-        first = text[: len(text) - len(text.lstrip(" "))]
-        for line in textwrap.wrap(text, width, initial_indent=first, subsequent_indent=indent or first, break_long_words=False,
-                                  break_on_hyphens=False):
+        lines = [text]
+        if self.is_terminal and width + 1 >= LEAST_WIDTH and len(text) > width:
+            first = text[: len(text) - len(text.lstrip(" "))]
+            lines = textwrap.wrap(text, width, initial_indent=first, subsequent_indent=indent or first, break_long_words=False,
+                                  break_on_hyphens=False)
+        for line in lines:
             self._write(line, style)
+        self._out.flush()
 
     def say_all(self, lines: Iterable[str], style: str = PLAIN) -> None:
         for line in lines:
@@ -55,7 +63,6 @@ class Screen:
     def _write(self, line: str, style: str) -> None:
         has_colour = self._has_colour and style and line
         self._out.write("\x1b[{}m{}\x1b[0m\n".format(style, line) if has_colour else line + "\n")
-        self._out.flush()
 
 
 def visible(line: bytes, encoding: str = "utf-8") -> str:

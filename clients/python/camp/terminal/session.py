@@ -10,7 +10,7 @@ from .bodies import Body
 from .causes import NONE_YET, Cause, split_cause
 from .commands import CHANGES, SHAPES, begins_body, call_of, is_command, is_name, nearest, no_command, words_of
 from .screen import ALARM, HEAD, PLAIN, Screen
-from .unresolved import Watch, listed
+from .unresolved import Line, Watch, listed
 
 MAIN_PROMPT, BODY_PROMPT = "camp> ", "....> "
 CANCELLED = "cancelled: nothing is recorded"
@@ -26,14 +26,15 @@ class Session:
         self.cause: Optional[Cause] = None
         # Of a file that is read: its path, while its lines are taken.
         self.reading: Optional[str] = None
-        # How many lines were refused or wrong, and the command that is not answered yet.
-        self.errors, self.pending = 0, b""
+        # How many lines were refused or wrong, how many calls were accepted, and the command that is not answered yet.
+        self.errors, self.accepted, self.pending = 0, 0, b""
         # The kind of a body whose first line is wrong, and how many lines of it were skipped.
         self._skipped_kind, self._skipped = "", 0
         # What the last thing said was a warning of, and what that was before the line that is taken.
         self._warns_of, self._warned_of = "", ""
-        self.own: Dict[str, Callable[[str], None]] = {"quit": lambda _: self.leave(), "exit": lambda _: self.leave(), "help": self.help,
-                                                      "?": self.help, "why": lambda _: self.why()}
+        self.own: Dict[str, Callable[[str], None]] = {
+            "quit": lambda _: self.leave("quit"), "exit": lambda _: self.leave("exit"), "help": self.help, "?": self.help,
+            "why": lambda _: self.why()}
         self.use(backend)
 
     def use(self, backend: Backend) -> None:
@@ -71,13 +72,13 @@ class Session:
         self._begin()
         if self.body and not self.is_terminal:
             self.fail(["the input ends inside a record: nothing of it is recorded"])
-        self.leave()
+        self.leave("Ctrl-D")
 
-    def leave(self) -> None:
+    def leave(self, how: str) -> None:
         """Ends; where something would be lost, only the second time in a row."""
         loss = self.loss()
         if self.is_terminal and loss and not self.was_warned("end"):
-            self.warn("end", "{}quit again ends.".format(loss))
+            self.warn("end", "{}{} again ends.".format(loss, how))
         else:
             self.is_over = True
 
@@ -105,7 +106,7 @@ class Session:
             answer, why = split_cause(self.backend.ask("help {}\nwhy\n".format(topic).encode("utf-8", "surrogateescape")))
             if why:
                 return self.fail([no_command(topic.split(" ")[0])])
-            self.screen.show(answer.partition(b"\n")[2])
+            self.screen.say_all(answer.decode("utf-8", "surrogateescape").split("\n")[1:-1])
 
     def why(self) -> None:
         """The whole cause of what was refused or wrong last."""
@@ -192,9 +193,23 @@ class Session:
         if not (self.reading and answer.startswith(b"ok ")):
             self.screen.show(answer)
         if call and answer.startswith(b"ok "):
-            self.unsaved += 1
-            for line, style in self.watch.after(call):
-                self.screen.say(line, style, "  ")
+            self.unsaved, self.accepted = self.unsaved + 1, self.accepted + 1
+            self._say_changes(self.watch.after(call))
+        if words[0] == "whatif":
+            self._foresee(answer, words[1:])
+
+    def _say_changes(self, lines: Sequence[Line]) -> None:
+        for line, style in lines:
+            self.screen.say(line, style, "  ")
+
+    def _foresee(self, answer: bytes, words: Sequence[str]) -> None:
+        """Says what the answer of `whatif` means for conflicts, or why it is a refusal."""
+        call, first = call_of(words), answer.split(b"\n")[1].decode("utf-8", "replace")
+        if call and first.startswith("ok "):
+            self._say_changes(self.watch.foresee(call, answer))
+        elif first.startswith("refused "):
+            meaning = listed(self.backend.ask, "help", *first.split(" ")[:2]) or []
+            self.screen.say_all(Cause(first, [it.decode("utf-8", "replace") for it in meaning]).in_words())
 
     def _refuse(self, cause: Cause, words: Sequence[str]) -> None:
         self.cause = cause
@@ -210,17 +225,20 @@ class Session:
                 found = nearest(rest[3], CHANGES)
                 return ["a record has add, remove, edit or group after its name, not {}{}".format(
                     rest[3], ": did you mean {}?".format(found) if found else "")]
-            if rest[0] not in SHAPES:
+            if rest[0] not in SHAPES and rest[0][:1] not in ("+", "-"):
                 return [no_command(rest[0])]
         if cause.kind == "wrong number of words" or rest == ["whatif"]:
-            return helptexts.usage_of(rest[0], self.usage()) or cause.in_words()
+            return helptexts.usage_of(rest, self.usage()) or cause.in_words()
+        if cause.kind == "unknown command" and rest[0] not in SHAPES:
+            return cause.in_words()[:1]
         return cause.in_words()
 
     def _is_skipped(self, line: bytes, words: Sequence[str]) -> bool:
         """Whether a line belongs to a body whose first line was wrong."""
         if not self._skipped_kind:
             return False
-        if is_command(words[0]) and line[:1] not in (b"+", b"-"):
+        is_change = self._skipped_kind == "group" and words[0] in ("add", "remove", "edit")
+        if line[:1] not in (b"+", b"-") and words[0] not in ("end", "done") and not is_change:
             self._skipped_kind = ""
             return False
         self._skipped += 1

@@ -46,6 +46,17 @@ class Watch:
         after = self._known[call.branch] = self._pairs(call.branch)
         return self._differences(call.branch, before, after)
 
+    def foresee(self, call: Call, answer: bytes) -> List[Line]:
+        """What the answer of `whatif` to an accepted call says that would change. What it says of unresolved pairs counts, if it
+        says that; else the pairs in conflict."""
+        parts = parts_of(answer)
+        now = NO_PAIRS if call.kind == "branch" else self._pairs(call.branch)
+        is_known = "open" in parts
+        after, before = (parts["open"], now.unresolved) if is_known else (parts.get("conflicts", frozenset()), now.in_conflict)
+        began = "{} and {} would be in conflict" + (", unresolved" if is_known else "")
+        ended = "{} and {} would be resolved" if is_known else "{} and {} would no longer be in conflict"
+        return capped(after - before, began, ALARM) + capped(before - after, ended, GOOD)
+
     def forget(self, branch: str) -> None:
         """Forgets what a call was to change that was not accepted."""
         self._known.pop(branch, None)
@@ -74,6 +85,25 @@ class Watch:
         if len(ended) > MOST_PAIRS:
             found.append(("and resolves {} pairs more".format(len(ended) - MOST_PAIRS), PLAIN))
         return found
+
+
+def capped(pairs: FrozenSet[Pair], words: str, style: str) -> List[Line]:
+    """A line for each of some pairs, and how many there are more."""
+    found = [(words.format(*pair), style) for pair in sorted(pairs)[:MOST_PAIRS]]
+    return found + [("and {} pairs more".format(len(pairs) - MOST_PAIRS), PLAIN)] * (len(pairs) > MOST_PAIRS)
+
+
+def parts_of(answer: bytes) -> Dict[str, FrozenSet[Pair]]:
+    """The pairs in each part before the tree of an answer of `whatif`."""
+    lines = iter(answer.split(b"\n")[2:])
+    found: Dict[str, FrozenSet[Pair]] = {}
+    for line in lines:
+        word, _, count = line.decode("utf-8", "replace").partition(" ")
+        if word == "tree" or not count.isdigit():
+            break
+        pairs = [next(lines).decode().split(" ") for _ in range(int(count))]
+        found[word] = frozenset((it[0], it[1]) for it in pairs if len(it) == 2)
+    return found
 
 
 class Places:
