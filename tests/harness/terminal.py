@@ -3,7 +3,7 @@ r"""Types at programs in a terminal of their own, and gives back what it shows: 
 A transcript is what a person sees. A line `$ COMMAND` is run by bash, in a terminal and one after the other. A line that begins
 with a prompt of camp is typed after it; the lines below are what is shown up to the next prompt, where a line `...` stands for any
 lines, and `...` at the end of a line for the rest of it.
-An escape character is `\e`. In typed text `<C-c>`, `<C-d>`, `<Tab>` and `<Up>` are keys. Enter follows, unless the last key is Ctrl-C or Ctrl-D.
+An escape character is `\e`, a carriage return inside a line `\r`. In typed text `<C-c>`, `<C-d>`, `<Tab>` and `<Up>` are keys. Enter follows, unless the last key is Ctrl-C or Ctrl-D.
 """
 
 import contextlib
@@ -86,8 +86,8 @@ def is_prompt(shown):
 
 
 def lines_of(shown):
-    """The lines that are shown, the prompt at their end among them. An escape character stands there as \\e."""
-    return shown.decode("utf-8", "backslashreplace").replace("\r\n", "\n").replace("\x1b", "\\e").split("\n")
+    """The lines that are shown, the prompt at their end among them. Escape characters, and carriage returns inside a line, stand there as \\e and \\r."""
+    return shown.decode("utf-8", "backslashreplace").replace("\r\n", "\n").replace("\x1b", "\\e").replace("\r", "\\r").split("\n")
 
 
 def is_typed(line):

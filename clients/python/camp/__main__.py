@@ -39,7 +39,7 @@ def main(words: Optional[List[str]] = None) -> int:
         parser().print_help()
         return 2
     from .terminal.run import run
-    return run(__version__, given.store, given.load)
+    return run(given.store, given.load)
 
 
 if __name__ == "__main__":

@@ -7,5 +7,5 @@
 | bodies | the lines of a record while they are typed |
 | causes, unresolved | what is said of a refusal, and of a call that changes what is unresolved |
 | commands, helptexts, completion | the words of commands, what `help` shows, what Tab offers |
-| keyboard, screen, interrupts, files | the terminal, Ctrl-C, and files |
+| keyboard, screen, progress, interrupts, files | the terminal, how long something takes, Ctrl-C, and files |
 """

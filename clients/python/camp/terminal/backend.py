@@ -4,10 +4,13 @@ from __future__ import annotations
 
 import contextlib
 import os
+import select
 import shutil
 import subprocess
 import tempfile
 from typing import Optional, Protocol, Sequence
+
+from .progress import PAUSE, Progress
 
 NOT_FOUND = """camp_shell is not on your PATH. At the top of camp's repository run ./build, which makes the proved program in
 out/bin, or ./play, which makes a slow one in out/unproved in two minutes; then put that folder on your PATH, or set CAMP_SHELL
@@ -44,7 +47,7 @@ class Program:
     is_shared = False
 
     def __init__(self, options: Sequence[str] = (), kept_in: Optional[str] = None) -> None:
-        self.kept_in = kept_in
+        self.kept_in, self._progress = kept_in, Progress()
         self._error = tempfile.TemporaryFile()
         words = [find_program(), "--frames", *options]
         try:
@@ -67,6 +70,7 @@ class Program:
             self._process.stdin.flush()
         except OSError:
             raise self._ended() from None
+        self._wait()
         length = self._process.stdout.readline()
         answer = self._process.stdout.read(int(length)) if length.endswith(b"\n") else b""
         if not length.endswith(b"\n") or len(answer) < int(length):
@@ -85,6 +89,13 @@ class Program:
             self._process.kill()
             self._process.wait()
         self._error.close()
+
+    def _wait(self) -> None:
+        """Waits until there is an answer, or the end of the program's output."""
+        self._progress.begin()
+        while not select.select([self._process.stdout], [], [], PAUSE)[0]:
+            self._progress.tick()
+        self._progress.end()
 
     def _ended(self) -> Ended:
         status = self._process.wait()

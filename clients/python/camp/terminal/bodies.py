@@ -51,6 +51,11 @@ class Body:
             return GROUP + b"done\nwhy\n" if not self._changes else b"why\n"
         return GROUP + line + b"\ndone\nwhy\n"
 
+    def lacks_sign(self, line: bytes) -> bool:
+        """Whether what is wrong in a line of an edit is that it has no sign, and nothing else."""
+        text = line.strip(b" \t")
+        return self._is_in_edit and text[:1] not in (b"", b"+", b"-") and text.lower() != b"end" and len(line) <= MOST_BYTES
+
     def is_full(self) -> bool:
         """Whether a group has all changes that it may have."""
         return self.is_group and not self._is_in_edit and self._changes == MOST_CHANGES

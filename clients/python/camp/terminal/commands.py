@@ -37,6 +37,8 @@ SHAPES: Dict[str, Sequence[str]] = {
 OWN: Dict[str, Sequence[str]] = {"save": ("FILE",), "read": ("FILE",), "quit": (), "exit": (), "?": ("TOPIC",)}
 CHANGES = ("add", "remove", "edit", "group")
 ENDINGS = ("end", "done", "cancel")
+# Characters of a line that are said again in words about it.
+MOST_SHOWN = 30
 NAME = re.compile(r"[a-z0-9][a-z0-9-]{0,39}\Z")
 
 
@@ -85,6 +87,12 @@ def nearest(word: str, choices: Iterable[str]) -> Optional[str]:
     """The choice that the word may have meant."""
     found = difflib.get_close_matches(word.lower(), list(choices), 1, 0.7)
     return found[0] if found else None
+
+
+def no_sign(text: str) -> str:
+    """What is said of a line of an edit that has no sign."""
+    shown = text if len(text) <= MOST_SHOWN else "LINE"
+    return "this line has no sign: write +{0} to put it in, -{0} to take it away, or end".format(shown)
 
 
 def no_command(word: str) -> str:

@@ -106,7 +106,10 @@ class Keyboard:
         """What readline calls with 0, 1, 2 and so on until there is no more."""
         if state == 0:
             before = readline.get_line_buffer()[: readline.get_begidx()]
-            self._found = self._complete(before, word)
+            try:
+                self._found = self._complete(before, word)
+            except Exception:  # what has ended says so when a line is taken
+                self._found = []
         return self._found[state] if state < len(self._found) else None
 
 

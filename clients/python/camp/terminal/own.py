@@ -3,11 +3,12 @@
 from __future__ import annotations
 
 import os
-from typing import Callable
+from typing import Callable, Sequence
 
 from . import interrupts
 from .backend import Backend, Ended
 from .files import BadFile, lines_of, named_file, write_whole
+from .progress import Progress
 from .screen import Screen
 from .session import Session
 from .unresolved import listed
@@ -37,19 +38,28 @@ class Conversation(Session):
 
     def read(self, path: str) -> None:
         """Runs the commands of a file, up to the first that is refused or wrong."""
-        before, errors = self.accepted, self.errors
-        lines, at = lines_of(path), 0
-        self.reading = path
+        lines, before, self.reading = lines_of(path), self.accepted, path
         try:
-            for at, line in enumerate(lines, 1):
-                self.take(line)
-                if self.errors > errors or interrupts.take_noted():
-                    return self.screen.say("{} line {}: the rest is not read; {} accepted".format(path, at, counted(self.accepted - before, "call")))
-            if self.body:
-                return self.fail(["{} ends inside a record: nothing of it is recorded".format(path)])
-            self.screen.say("read {}: {} accepted".format(path, counted(self.accepted - before, "call")))
+            end = self._read_lines(lines)
+            if not end and self.body:
+                self.fail(["{} ends inside a record: nothing of it is recorded".format(path)])
         finally:
             self.reading, self.body = None, None
+        calls = counted(self.accepted - before, "call")
+        self.screen.say("{} line {}: the rest is not read; {} accepted".format(path, end, calls) if end else "read {}: {} accepted".format(path, calls))
+        self.say_changed()
+
+    def _read_lines(self, lines: Sequence[bytes]) -> int:
+        """Takes lines, and returns the number of the one at which it stopped; 0 at the end."""
+        errors, progress = self.errors, Progress()
+        for at, line in enumerate(lines, 1):
+            self.take(line)
+            progress.tick(", line {} of {}".format(at, len(lines)))
+            if self.errors > errors or interrupts.take_noted():
+                progress.end()
+                return at
+        progress.end()
+        return 0
 
     def open(self, path: str) -> None:
         """Goes on with the repository that a store keeps."""

@@ -17,7 +17,7 @@ from .screen import ALARM, standard_screen
 FAILED, INTERRUPTED, UNREAD = 3, 130, 141
 
 
-def run(version: str, store: str, loads: Sequence[str]) -> int:
+def run(store: str, loads: Sequence[str]) -> int:
     """Holds a conversation with a repository, which a store keeps if one is named. Returns the exit status."""
     options = ["--load", *loads] if loads else []
     try:
@@ -32,7 +32,7 @@ def run(version: str, store: str, loads: Sequence[str]) -> int:
     interrupts.install()
     try:
         if is_terminal:
-            greet(session, version)
+            greet(session)
         while not session.is_over:
             step(session, lines)
     except BrokenPipeError:
@@ -44,13 +44,13 @@ def run(version: str, store: str, loads: Sequence[str]) -> int:
     return session.status
 
 
-def greet(session: Conversation, version: str) -> None:
+def greet(session: Conversation) -> None:
     """The first lines: what this is, and where it is kept."""
-    session.screen.say("camp {}: help lists the commands, quit ends.".format(version))
+    session.screen.say("camp: help lists the commands, quit ends.")
     if session.backend.kept_in:
         session.screen.say("Each accepted call is kept in {}.".format(session.backend.kept_in))
     else:
-        session.screen.say("Nothing is kept: save FILE writes the history, open FILE goes on with one that FILE keeps.")
+        session.screen.say("Nothing is kept: save FILE writes the history, open FILE opens a store.")
     notice = getattr(session.backend, "notice", "")
     if notice:
         session.screen.say(notice)

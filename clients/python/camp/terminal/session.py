@@ -8,7 +8,7 @@ from . import helptexts
 from .backend import Backend
 from .bodies import Body
 from .causes import NONE_YET, Cause, split_cause
-from .commands import CHANGES, SHAPES, begins_body, call_of, is_command, is_name, nearest, no_command, words_of
+from .commands import CHANGES, SHAPES, begins_body, call_of, is_command, is_name, nearest, no_command, no_sign, words_of
 from .screen import ALARM, HEAD, PLAIN, Screen
 from .unresolved import Line, Watch, listed
 
@@ -26,6 +26,7 @@ class Session:
         self.cause: Optional[Cause] = None
         # Of a file that is read: its path, while its lines are taken.
         self.reading: Optional[str] = None
+        self._changed: Dict[str, None] = {}
         # How many lines were refused or wrong, how many calls were accepted, and the command that is not answered yet.
         self.errors, self.accepted, self.pending = 0, 0, b""
         # The kind of a body whose first line is wrong, and how many lines of it were skipped.
@@ -171,7 +172,8 @@ class Session:
             answer, why = split_cause(self.backend.ask(body.check(line)))
             if why and answer.startswith(b"fault "):
                 self.cause = Cause(answer.decode().rstrip("\n"), why)
-                return self.fail([*self.cause.in_words(), "The line is left out; the record goes on to {}.".format(body.ending)])
+                told = [no_sign(word)] if body.lacks_sign(line) else self.cause.in_words()
+                return self.fail([*told, "The line is left out; the record goes on to {}.".format(body.ending)])
         if body.put(line):
             self.body = None
             self.execute(body.text(), words_of(body.first))
@@ -186,7 +188,7 @@ class Session:
         self.pending = b""
         if why:
             if call:
-                self.watch.forget(call.branch)
+                self.watch.forget(call)
             return self._refuse(Cause(answer.decode("utf-8", "replace").rstrip("\n"), why), words)
         if answer == b"memory\n":
             return self.fail(["out of memory: nothing has changed, and you can ask again"])
@@ -194,9 +196,18 @@ class Session:
             self.screen.show(answer)
         if call and answer.startswith(b"ok "):
             self.unsaved, self.accepted = self.unsaved + 1, self.accepted + 1
-            self._say_changes(self.watch.after(call))
+            if self.reading:
+                self._changed[call.branch] = None
+            else:
+                self._say_changes(self.watch.after(call))
         if words[0] == "whatif":
             self._foresee(answer, words[1:])
+
+    def say_changed(self) -> None:
+        """Says what the calls of a file that was read have changed, all in all."""
+        for branch in self._changed:
+            self._say_changes(self.watch.changes(branch))
+        self._changed = {}
 
     def _say_changes(self, lines: Sequence[Line]) -> None:
         for line, style in lines:

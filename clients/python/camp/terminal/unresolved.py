@@ -43,8 +43,13 @@ class Watch:
         before = self._known.get(call.branch, NO_PAIRS)
         if call.kind == "record" and not before.in_conflict and not self._is_shared:
             return []
-        after = self._known[call.branch] = self._pairs(call.branch)
-        return self._differences(call.branch, before, after)
+        return self.changes(call.branch)
+
+    def changes(self, branch: str) -> List[Line]:
+        """What has changed in a branch since it was looked at last."""
+        before = self._known.get(branch, NO_PAIRS)
+        after = self._known[branch] = self._pairs(branch)
+        return self._differences(branch, before, after)
 
     def foresee(self, call: Call, answer: bytes) -> List[Line]:
         """What the answer of `whatif` to an accepted call says that would change. What it says of unresolved pairs counts, if it
@@ -57,9 +62,10 @@ class Watch:
         ended = "{} and {} would be resolved" if is_known else "{} and {} would no longer be in conflict"
         return capped(after - before, began, ALARM) + capped(before - after, ended, GOOD)
 
-    def forget(self, branch: str) -> None:
-        """Forgets what a call was to change that was not accepted."""
-        self._known.pop(branch, None)
+    def forget(self, call: Call) -> None:
+        """Forgets the branch that a call was to make, if it was not accepted: it may exist."""
+        if call.kind == "branch":
+            self._known.pop(call.branch, None)
 
     def _pairs(self, branch: str) -> Pairs:
         """The pairs of a branch; none where it does not exist."""
