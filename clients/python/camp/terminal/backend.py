@@ -57,7 +57,7 @@ class Program:
             raise Ended("{} can't be run: {}".format(words[0], error.strerror)) from error
         try:
             self.ask(b"")
-        except Ended:
+        except BaseException:
             self.close()
             raise
         # What the program says of a store that it has opened.
@@ -93,9 +93,11 @@ class Program:
     def _wait(self) -> None:
         """Waits until there is an answer, or the end of the program's output."""
         self._progress.begin()
-        while not select.select([self._process.stdout], [], [], PAUSE)[0]:
-            self._progress.tick()
-        self._progress.end()
+        try:
+            while not select.select([self._process.stdout], [], [], PAUSE)[0]:
+                self._progress.tick()
+        finally:
+            self._progress.end()
 
     def _ended(self) -> Ended:
         status = self._process.wait()

@@ -23,11 +23,15 @@ def named_file(rest: str, command: str) -> str:
     return os.path.expanduser(words[0])
 
 
+def check_regular(path: str) -> None:
+    """Refuses to write over a folder, a device and the like."""
+    if os.path.exists(path) and not os.path.isfile(path):
+        raise BadFile("{} is no regular file; nothing is saved".format(path))
+
+
 def write_whole(path: str, text: bytes) -> None:
     """Writes a file that has all of the text or is as it was before. A file that exists keeps its mode."""
     target, made = os.path.realpath(path), None
-    if os.path.exists(target) and not os.path.isfile(target):
-        raise BadFile("{} is no regular file; nothing is saved".format(path))
     try:
         handle, made = tempfile.mkstemp(prefix=".camp-", dir=os.path.dirname(target))
         with os.fdopen(handle, "wb") as file:

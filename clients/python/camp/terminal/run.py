@@ -25,6 +25,8 @@ def run(store: str, loads: Sequence[str]) -> int:
     except Ended as error:
         print("camp: {}".format(error), file=sys.stderr)
         return FAILED
+    except KeyboardInterrupt:
+        return INTERRUPTED
     screen = standard_screen()
     is_terminal = sys.stdin.isatty() and screen.is_terminal
     session = Conversation(backend, screen, is_terminal, open_store)

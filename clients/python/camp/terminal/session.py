@@ -2,6 +2,7 @@
 
 from __future__ import annotations
 
+import os
 from typing import Callable, Dict, List, Optional, Sequence
 
 from . import helptexts
@@ -225,6 +226,8 @@ class Session:
     def _refuse(self, cause: Cause, words: Sequence[str]) -> None:
         self.cause = cause
         self.fail(self._fault(cause, words) if cause.is_fault else cause.in_words())
+        if words[0] == "open" and os.path.exists(words[-1]):
+            self.screen.say("open ./{0} opens the file {0}".format(words[-1]))
         if cause.is_fault and begins_body(words):
             self._skipped_kind, self._skipped = begins_body(words) or "", 0
 
