@@ -6,6 +6,7 @@ Words: names of cases, or parts of them; none: all. The form of a session stands
 
 import os
 import re
+import sys
 import tempfile
 
 from tests.harness import programs
@@ -34,8 +35,26 @@ def environment_of(folder, shell):
     return {**kept, **client, "HOME": f"{folder}/home", "TERM": "xterm", "NO_COLOR": "1", "LC_ALL": "C.UTF-8"}
 
 
+def foresight(report):
+    """An answer of `whatif` that has the unresolved pairs is compared with those of now, and one that has not by its conflicts."""
+    sys.path.insert(0, f"{TOP}/clients/python")
+    from camp.terminal.commands import Call
+    from camp.terminal.unresolved import Watch
+
+    now = {b"conflicts main\n": b"conflicts 2\na b\nc d\n", b"open main\n": b"open 1\na b\n"}
+    rows = [(b"open 2\nc d\ne f\n", ["c and d would be in conflict, unresolved", "e and f would be in conflict, unresolved", "a and b would be resolved"])]
+    rows.append((b"", ["e and f would be in conflict"]))
+    for part, wanted in rows:
+        answer = b"whatif 8\nok 9\nconflicts 3\na b\nc d\ne f\n%btree 0\n" % part
+        lines = Watch(now.__getitem__, False).foresee(Call("pull", "main", "work"), answer)
+        report.expect(f"whatif with the part {part!r}", [line for line, _ in lines], wanted)
+        report.count("answers of whatif")
+
+
 def run(report, words):
     shell = programs.path("camp_shell")
+    if not words:
+        foresight(report)
     for title, transcript in cases():
         if words and not any(it in title for it in words):
             continue

@@ -68,7 +68,7 @@ def split_cause(response: bytes) -> Tuple[bytes, List[str]]:
     first, _, rest = response.partition(b"\n")
     if first.startswith((b"fault ", b"refused ")):
         lines = [it.decode("utf-8", "surrogateescape") for it in rest.split(b"\n")[:-1]]
-        return first + b"\n", lines[2:]
+        return first + b"\n", lines[2:] or [first.decode("utf-8", "replace")]
     at = response.rfind(b"why ")
     while at > 0 and response[at:].split(b"\n")[0] != b"why %d" % (response.count(b"\n", at) - 1):
         at = response.rfind(b"why ", 0, at)

@@ -9,7 +9,7 @@ from . import interrupts
 from .backend import Backend, Ended
 from .files import BadFile, check_regular, lines_of, named_file, write_whole
 from .progress import Progress
-from .screen import Screen
+from .screen import Screen, counted
 from .session import Session
 from .unresolved import listed
 
@@ -83,7 +83,3 @@ class Conversation(Session):
             except BadFile as error:
                 self.fail([str(error)])
         return run
-
-
-def counted(count: int, what: str) -> str:
-    return "1 {}".format(what) if count == 1 else "{} {}s".format(count, what)

@@ -11,8 +11,8 @@ from . import interrupts
 from .backend import Ended, Program, open_store
 from .completion import Completion
 from .keyboard import EndOfInput, Interrupted, Keyboard, Lines, Pipe
-from .own import Conversation, counted
-from .screen import ALARM, standard_screen
+from .own import Conversation
+from .screen import ALARM, counted, standard_screen
 
 FAILED, INTERRUPTED, UNREAD = 3, 130, 141
 
@@ -61,8 +61,9 @@ def greet(session: Conversation) -> None:
 def step(session: Conversation, lines: Lines) -> None:
     """Reads a line and does what it says. What ends the backend ends the conversation."""
     try:
-        line = lines.read(session.prompt())
-        session.take(line)
+        # A line feed can be typed inside a line.
+        for line in lines.read(session.prompt()).split(b"\n"):
+            session.take(line)
         interrupts.take_noted()
     except Interrupted as error:
         session.interrupt(error.had_text)

@@ -83,5 +83,10 @@ def escape_of(letter: str) -> str:
     return "\\x{:02x}".format(code) if code < 256 else "\\u{:04x}".format(code)
 
 
+def counted(count: int, what: str) -> str:
+    """A number of things, in words."""
+    return "1 {}".format(what) if count == 1 else "{} {}s".format(count, what)
+
+
 def standard_screen() -> Screen:
     return Screen(sys.stdout)

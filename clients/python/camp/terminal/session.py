@@ -10,11 +10,12 @@ from .backend import Backend
 from .bodies import Body
 from .causes import NONE_YET, Cause, split_cause
 from .commands import CHANGES, SHAPES, begins_body, call_of, is_command, is_name, nearest, no_command, no_sign, words_of
-from .screen import ALARM, HEAD, PLAIN, Screen
+from .screen import ALARM, HEAD, PLAIN, Screen, counted
 from .unresolved import Line, Watch, listed
 
 MAIN_PROMPT, BODY_PROMPT = "camp> ", "....> "
 CANCELLED = "cancelled: nothing is recorded"
+MEMORY, OUT_OF_MEMORY = b"memory\n", "out of memory: nothing has changed, and you can ask again"
 
 
 class Session:
@@ -136,8 +137,7 @@ class Session:
         body = "The record that is not ended would be lost. " if self.body else ""
         if not self.unsaved or self.backend.kept_in:
             return body
-        calls = "1 call" if self.unsaved == 1 else "{} calls".format(self.unsaved)
-        return body + "{} would be lost, since nothing is kept: save FILE writes the history. ".format(calls)
+        return body + "{} would be lost, since nothing is kept: save FILE writes the history. ".format(counted(self.unsaved, "call"))
 
     def _begin(self) -> None:
         self._warned_of, self._warns_of = self._warns_of, ""
@@ -155,6 +155,8 @@ class Session:
             if answer in (b"fault 1 edit not ended\n", b"fault 1 group not ended\n"):
                 self.body = Body(line, answer == b"fault 1 group not ended\n")
                 return
+            if answer == MEMORY:
+                return self.fail([OUT_OF_MEMORY])
         self.execute(line + b"\n", words)
 
     def _take_in_body(self, body: Body, line: bytes) -> None:
@@ -191,8 +193,8 @@ class Session:
             if call:
                 self.watch.forget(call)
             return self._refuse(Cause(answer.decode("utf-8", "replace").rstrip("\n"), why), words)
-        if answer == b"memory\n":
-            return self.fail(["out of memory: nothing has changed, and you can ask again"])
+        if answer == MEMORY:
+            return self.fail([OUT_OF_MEMORY])
         if not (self.reading and answer.startswith(b"ok ")):
             self.screen.show(answer)
         if call and answer.startswith(b"ok "):
@@ -258,5 +260,5 @@ class Session:
         self._skipped += 1
         if line.strip(b" \t") == (b"done" if self._skipped_kind == "group" else b"end"):
             self._skipped_kind = ""
-            self.screen.say("its body is skipped: {} lines".format(self._skipped))
+            self.screen.say("its body is skipped: {}".format(counted(self._skipped, "line")))
         return True
