@@ -10,8 +10,8 @@ import sys
 import tempfile
 
 from tests.harness import programs
-from tests.harness.paths import DATA, TOP, read_text
-from tests.harness.terminal import commands_of, run_command
+from tests.harness.paths import DATA, TOP, read_text, write_text
+from tests.harness.terminal import Terminal, commands_of, is_prompt, lines_of, run_command
 
 SECONDS, GATE = 30, "after camp_shell"
 TUTORIAL = f"{TOP}/docs/tutorial.md"
@@ -51,10 +51,32 @@ def foresight(report):
         report.count("answers of whatif")
 
 
+def interrupted(report, environment, folder):
+    """Ctrl-C while an answer is awaited is noted, and the second one ends with words about what is lost."""
+    # A program that gets the first 60 bytes of what it is sent, and then waits for the rest of a request.
+    write_text(f"{folder}/stuck", '#!/bin/bash\n(dd bs=1 count=60 2>/dev/null; exec sleep 60) | camp_shell "$@"\n')
+    os.chmod(f"{folder}/stuck", 0o755)
+    terminal = Terminal('CAMP_SHELL=./stuck python3 -m camp shell; echo "status $?"', environment, folder)
+    terminal.read_until(is_prompt)
+    terminal.type("record main start add f")
+    os.write(terminal.end, b"tree main\r")
+    terminal.read_until(lambda shown: b"working" in shown)
+    os.write(terminal.end, b"\x03")
+    terminal.read_until(lambda shown: b"again ends the conversation." in shown)
+    os.write(terminal.end, b"\x03")
+    lines = [it.rpartition("\\r")[2] for it in lines_of(terminal.read_until(lambda shown: False))]
+    terminal.close()
+    wanted = ["ended by Ctrl-C", "Not answered: tree main", "Lost with it, since nothing was kept: 1 call.", "status 130"]
+    report.expect("Ctrl-C twice while an answer is awaited", [it for it in lines if it in wanted], wanted)
+    report.count("interrupted requests")
+
+
 def run(report, words):
     shell = programs.path("camp_shell")
     if not words:
         foresight(report)
+        with tempfile.TemporaryDirectory(prefix="terminal-") as folder:
+            interrupted(report, environment_of(folder, shell), folder)
     for title, transcript in cases():
         if words and not any(it in title for it in words):
             continue

@@ -68,7 +68,9 @@ def step(session: Conversation, lines: Lines) -> None:
     except Interrupted as error:
         session.interrupt(error.had_text)
     except KeyboardInterrupt:
+        interrupts.take_noted()
         session.is_over, session.status = True, INTERRUPTED
+        say_ended(session, "ended by Ctrl-C")
     except EndOfInput:
         session.end_of_input()
     except Ended as error:
