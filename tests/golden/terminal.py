@@ -64,7 +64,8 @@ def interrupted(report, environment, folder):
     os.write(terminal.end, b"\x03")
     terminal.read_until(lambda shown: b"again ends the conversation." in shown)
     os.write(terminal.end, b"\x03")
-    lines = [it.rpartition("\\r")[2] for it in lines_of(terminal.read_until(lambda shown: False))]
+    shown = lines_of(terminal.read_until(lambda shown: False))
+    lines = [it.rpartition("\\r")[2] for it in shown]
     terminal.close()
     wanted = ["ended by Ctrl-C", "Not answered: tree main", "Lost with it, since nothing was kept: 1 call.", "status 130"]
     report.expect("Ctrl-C twice while an answer is awaited", [it for it in lines if it in wanted], wanted)

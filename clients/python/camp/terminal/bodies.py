@@ -22,9 +22,9 @@ class Body:
         self._is_in_edit, self._old, self._new = not is_group, 0, 0
 
     @property
-    def ending(self) -> str:
-        """The line that ends what is typed now."""
-        return "end" if self._is_in_edit else "done"
+    def is_in_edit(self) -> bool:
+        """Whether the next line belongs to an edit, which `end` ends."""
+        return self._is_in_edit
 
     def is_skipped(self, line: bytes) -> bool:
         """Whether a line of a group is blank or a comment."""

@@ -27,7 +27,7 @@ class Completion:
         """The words that begin with `word` and may stand after the text before it."""
         words = words_of(before.encode("utf-8", "surrogateescape"))
         body = self._session.body
-        if body and body.ending == "end":
+        if body and body.is_in_edit:
             # In a line of a file a tab is a tab.
             if before or word[:1] in ("", "+", "-"):
                 return [word + "\t"]

@@ -47,7 +47,7 @@ class Conversation(Session):
         finally:
             self.reading, self.body = None, None
         calls = counted(self.accepted - before, "call")
-        self.screen.say("{} line {}: the rest is not read; {} accepted".format(path, end, calls) if end else "read {}: {} accepted".format(path, calls))
+        self.screen.say("{}, line {}: the rest is not read; {} accepted".format(path, end, calls) if end else "read {}: {} accepted".format(path, calls))
         self.say_changed()
 
     def _read_lines(self, lines: Sequence[bytes]) -> int:

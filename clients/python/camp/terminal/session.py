@@ -14,6 +14,7 @@ from .screen import ALARM, HEAD, PLAIN, Screen, counted
 from .unresolved import Line, Watch, listed
 
 MAIN_PROMPT, BODY_PROMPT = "camp> ", "....> "
+LEFT_OUT = "The line is left out, and the body goes on."
 CANCELLED = "cancelled: nothing is recorded"
 MEMORY, OUT_OF_MEMORY = b"memory\n", "out of memory: nothing has changed, and you can ask again"
 
@@ -103,12 +104,13 @@ class Session:
                 for line in lines:
                     self.screen.say("  " + line, indent="      ")
             return
-        for line in helptexts.TOPICS.get(topic, ()):
-            self.screen.say(line)
-        if topic not in helptexts.TOPICS or topic in SHAPES:
-            answer, why = split_cause(self.backend.ask("help {}\nwhy\n".format(topic).encode("utf-8", "surrogateescape")))
+        words = topic.split()
+        self.screen.say_all(helptexts.TOPICS.get(words[0], ()))
+        if words[0] not in helptexts.TOPICS or words[0] in SHAPES:
+            asked = topic if words[0] == "refused" else words[0]
+            answer, why = split_cause(self.backend.ask("help {}\nwhy\n".format(asked).encode("utf-8", "surrogateescape")))
             if why:
-                return self.fail([no_command(topic.split(" ")[0])])
+                return self.fail(Cause(answer.decode().rstrip("\n"), why).in_words() if words[0] == "refused" else [no_command(words[0])])
             self.screen.say_all(answer.decode("utf-8", "surrogateescape").split("\n")[1:-1])
 
     def why(self) -> None:
@@ -148,7 +150,9 @@ class Session:
             return
         word = words[0][1:] if words[0][:1] == "." and words[0][1:] in self.own else words[0]
         asks_open = words[0] == "open" and (len(words) == 1 or len(words) == 2 and is_name(words[1]))
-        if word in self.own and not self.reading and not asks_open:
+        if word in self.own and not asks_open:
+            if self.reading:
+                return self.fail(["{} is for the terminal: a file has calls and questions".format(word)])
             return self.own[word](line.decode("utf-8", "surrogateescape").strip(" \t")[len(words[0]):].strip(" \t"))
         if begins_body(words) and is_command(word):
             answer = self.backend.ask(line + b"\n")
@@ -171,12 +175,12 @@ class Session:
             return
         if not body.is_right(line):
             if body.is_full() and word != "done":
-                return self.fail(["A group has 64 changes at most: write done.", "The line is left out."])
+                return self.fail(["a group has 64 changes at most: write done", LEFT_OUT])
             answer, why = split_cause(self.backend.ask(body.check(line)))
             if why and answer.startswith(b"fault "):
                 self.cause = Cause(answer.decode().rstrip("\n"), why)
                 told = [no_sign(word)] if body.lacks_sign(line) else self.cause.in_words()
-                return self.fail([*told, "The line is left out; the record goes on to {}.".format(body.ending)])
+                return self.fail([*told, LEFT_OUT])
         if body.put(line):
             self.body = None
             self.execute(body.text(), words_of(body.first))
