@@ -10,7 +10,7 @@ import sys
 import tempfile
 
 from tests.harness import programs
-from tests.harness.paths import DATA, TOP, read_text, write_text
+from tests.harness.paths import DATA, EXAMPLES, TOP, read, read_text, write_text
 from tests.harness.terminal import Terminal, commands_of, is_prompt, lines_of, run_command
 
 SECONDS, GATE = 30, "after camp_shell"
@@ -72,12 +72,26 @@ def interrupted(report, environment, folder):
     report.count("interrupted requests")
 
 
+def piped(report, environment, name):
+    """A conversation of examples/ without faults is answered through a pipe as by camp_shell, with words of conflicts between."""
+    done = programs.run([sys.executable, "-m", "camp", "shell"], read(f"{EXAMPLES}/{name}.talk"), env=environment)
+    lines, rest = done.stdout.splitlines(), iter(done.stdout.splitlines())
+    answers = [it for it in read(f"{EXAMPLES}/{name}.talk.stdout").splitlines() if not it.startswith(b"refused ")]
+    report.expect(f"lines of {name} that are not answered", [it for it in answers if it not in rest], [])
+    told = [it for it in lines if b"(unresolved)" in it or it.startswith(b"resolves ") or it.endswith(b" is unresolved again")]
+    report.expect(f"{name}: words of conflicts, standard error, status", (bool(told), done.stderr, done.returncode), (True, b"", 0))
+    report.count("piped conversations")
+
+
 def run(report, words):
     shell = programs.path("camp_shell")
     if not words:
         foresight(report)
         with tempfile.TemporaryDirectory(prefix="terminal-") as folder:
-            interrupted(report, environment_of(folder, shell), folder)
+            environment = environment_of(folder, shell)
+            interrupted(report, environment, folder)
+            for name in ("questions", "conflicts"):
+                piped(report, environment, name)
     for title, transcript in cases():
         if words and not any(it in title for it in words):
             continue

@@ -15,6 +15,7 @@ from .unresolved import Line, Watch, listed
 
 MAIN_PROMPT, BODY_PROMPT = "camp> ", "....> "
 LEFT_OUT = "The line is left out, and the body goes on."
+NOT_RECORDED = "Nothing of the record is recorded."
 CANCELLED = "cancelled: nothing is recorded"
 MEMORY, OUT_OF_MEMORY = b"memory\n", "out of memory: nothing has changed, and you can ask again"
 
@@ -175,15 +176,20 @@ class Session:
             return
         if not body.is_right(line):
             if body.is_full() and word != "done":
-                return self.fail(["a group has 64 changes at most: write done", LEFT_OUT])
+                return self._leave_out(body, ["a group has 64 changes at most: write done"])
             answer, why = split_cause(self.backend.ask(body.check(line)))
             if why and answer.startswith(b"fault "):
                 self.cause = Cause(answer.decode().rstrip("\n"), why)
-                told = [no_sign(word)] if body.lacks_sign(line) else self.cause.in_words()
-                return self.fail([*told, LEFT_OUT])
+                return self._leave_out(body, [no_sign(word)] if body.lacks_sign(line) else self.cause.in_words())
         if body.put(line):
             self.body = None
             self.execute(body.text(), words_of(body.first))
+
+    def _leave_out(self, body: Body, lines: Sequence[str]) -> None:
+        """Says what is wrong in a line of a body. Where nobody reads that, nothing of the record is recorded."""
+        self.fail([*lines, LEFT_OUT if self.is_terminal else NOT_RECORDED])
+        if not self.is_terminal:
+            self.body, self._skipped_kind, self._skipped = None, "group" if body.is_group else "edit", 0
 
     def execute(self, text: bytes, words: Sequence[str]) -> None:
         """Asks a whole command, and shows its answer and what it changed."""
