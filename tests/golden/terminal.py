@@ -56,19 +56,19 @@ def interrupted(report, environment, folder):
     # A program that gets the first 60 bytes of what it is sent, and then waits for the rest of a request.
     write_text(f"{folder}/stuck", '#!/bin/bash\n(dd bs=1 count=60 2>/dev/null; exec sleep 60) | camp_shell "$@"\n')
     os.chmod(f"{folder}/stuck", 0o755)
-    terminal = Terminal('CAMP_SHELL=./stuck python3 -m camp shell; echo "status $?"', environment, folder)
+    terminal = Terminal("CAMP_SHELL=./stuck exec python3 -m camp shell", environment, folder)
     terminal.read_until(is_prompt)
     terminal.type("record main start add f")
     os.write(terminal.end, b"tree main\r")
     terminal.read_until(lambda shown: b"working" in shown)
-    os.write(terminal.end, b"\x03")
+    terminal.interrupt()
     terminal.read_until(lambda shown: b"again ends the conversation." in shown)
-    os.write(terminal.end, b"\x03")
-    shown = lines_of(terminal.read_until(lambda shown: False))
-    lines = [it.rpartition("\\r")[2] for it in shown]
-    terminal.close()
-    wanted = ["ended by Ctrl-C", "Not answered: tree main", "Lost with it, since nothing was kept: 1 call.", "status 130"]
-    report.expect("Ctrl-C twice while an answer is awaited", [it for it in lines if it in wanted], wanted)
+    terminal.interrupt()
+    lines = [it.rpartition("\\r")[2] for it in lines_of(terminal.read_until(lambda shown: False))]
+    status = os.WEXITSTATUS(os.waitpid(terminal.process, 0)[1])
+    os.close(terminal.end)
+    wanted = ["ended by Ctrl-C", "Not answered: tree main", "Lost with it, since nothing was kept: 1 call."]
+    report.expect("Ctrl-C twice while an answer is awaited", ([it for it in lines if it in wanted], status), (wanted, 130))
     report.count("interrupted requests")
 
 

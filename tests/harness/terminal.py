@@ -39,15 +39,15 @@ class Terminal:
                 os.execvpe("bash", ["bash", "-c", command], environment)
             os._exit(127)
 
-    def read_until(self, is_enough, repeated=b""):
+    def read_until(self, is_enough, is_interrupted=False):
         """What is shown until the end of the command, or until it is enough."""
         shown, last = b"", time.time()
         while not is_enough(shown):
             if time.time() - last > TIMEOUT:
                 return shown + b"\r\n(the program hangs)\r\n"
-            if repeated and not shown and time.time() - last > REPEAT:
-                os.write(self.end, repeated)
-                repeated = b""
+            if is_interrupted and not shown and time.time() - last > REPEAT:
+                self.interrupt()
+                is_interrupted = False
             if select.select([self.end], [], [], 1)[0]:
                 try:
                     more = os.read(self.end, 65536)
@@ -61,17 +61,20 @@ class Terminal:
     def type(self, text):
         """Types a line, and returns what is shown after it."""
         keys = re.sub("<[A-Z][-a-z]+>", lambda it: KEYS.get(it[0], it[0]), text)
-        if keys[-1:] in ("\x03", "\x04"):
-            before, keys = keys[:-1].encode(), keys[-1:]
+        is_interrupted = keys.endswith("\x03")
+        if is_interrupted:
+            before = keys[:-1].encode()
             os.write(self.end, before)
-            # Ctrl-C drops what the terminal has not handed on yet.
             self.read_until(lambda it: it.endswith(before))
-            time.sleep(0.1 if before else 0)
+            time.sleep(0.1)
+            self.interrupt()
         else:
-            keys += "\r"
-        os.write(self.end, keys.encode())
-        shown = self.read_until(is_prompt, keys.encode() if keys == "\x03" else b"")
-        return shown.partition(b"\n")[2]
+            os.write(self.end, (keys if keys.endswith("\x04") else keys + "\r").encode())
+        return self.read_until(is_prompt, is_interrupted).partition(b"\n")[2]
+
+    def interrupt(self):
+        """Does what Ctrl-C does, but that the key also drops what is not read or shown yet."""
+        os.killpg(os.tcgetpgrp(self.end), signal.SIGINT)
 
     def close(self):
         os.close(self.end)
