@@ -8,6 +8,9 @@ import tempfile
 from typing import List
 
 
+STORE = b"camp store "
+
+
 class BadFile(Exception):
     """A file that can't be named, written or read so; the text says why."""
 
@@ -23,10 +26,21 @@ def named_file(rest: str, command: str) -> str:
     return os.path.expanduser(words[0])
 
 
-def check_regular(path: str) -> None:
-    """Refuses to write over a folder, a device and the like."""
+def check_target(path: str) -> None:
+    """Refuses to write over a folder, a device and the like, and over a store, which some process may have open."""
     if os.path.exists(path) and not os.path.isfile(path):
         raise BadFile("{} is no regular file; nothing is saved".format(path))
+    if is_store(path):
+        raise BadFile("{} is a store; nothing is saved".format(path))
+
+
+def is_store(path: str) -> bool:
+    """Whether a file begins as a store does, whose first text follows a line of 27 bytes."""
+    try:
+        with open(path, "rb") as file:
+            return file.read(len(STORE) + 27)[27:] == STORE
+    except OSError:
+        return False
 
 
 def write_whole(path: str, text: bytes) -> None:
@@ -57,6 +71,8 @@ def mode_of(path: str) -> int:
 
 def lines_of(path: str) -> List[bytes]:
     """The lines of a file of commands."""
+    if is_store(path):
+        raise BadFile("{} is a store: open goes on with it".format(path))
     try:
         with open(path, "rb") as file:
             text = file.read()

@@ -7,7 +7,7 @@ from typing import Callable, Sequence
 
 from . import interrupts
 from .backend import Backend, Ended
-from .files import BadFile, check_regular, lines_of, named_file, write_whole
+from .files import BadFile, check_target, lines_of, named_file, write_whole
 from .progress import Progress
 from .screen import Screen, counted
 from .session import Session
@@ -27,7 +27,7 @@ class Conversation(Session):
 
     def save(self, path: str) -> None:
         """Writes the history as a script. A file that exists is replaced by the second save in a row."""
-        check_regular(path)
+        check_target(path)
         if os.path.lexists(path) and not self.was_warned("save " + path):
             return self.warn("save " + path, "{} exists: the same save again replaces it".format(path))
         lines = listed(self.backend.ask, "keep")
