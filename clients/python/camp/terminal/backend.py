@@ -10,6 +10,7 @@ import subprocess
 import tempfile
 from typing import Optional, Protocol, Sequence
 
+from . import interrupts
 from .progress import PAUSE, Progress
 
 NOT_FOUND = """camp_shell is not on your PATH. At the top of camp's repository run ./build, which makes the proved program in
@@ -48,6 +49,8 @@ class Program:
 
     def __init__(self, options: Sequence[str] = (), kept_in: Optional[str] = None) -> None:
         self.kept_in, self._progress = kept_in, Progress()
+        # Why there are no more answers.
+        self._failure = ""
         self._error = tempfile.TemporaryFile()
         words = [find_program(), "--frames", *options]
         try:
@@ -56,7 +59,8 @@ class Program:
         except OSError as error:
             raise Ended("{} can't be run: {}".format(words[0], error.strerror)) from error
         try:
-            self.ask(b"")
+            with interrupts.raised():
+                self._exchange(b"")
         except BaseException:
             self.close()
             raise
@@ -64,6 +68,19 @@ class Program:
         self.notice = self._said()
 
     def ask(self, request: bytes) -> bytes:
+        if self._failure:
+            raise Ended(self._failure)
+        self._failure = "an answer was not awaited, so that no other one is known"
+        try:
+            with interrupts.noted():
+                answer = self._exchange(request)
+        except Ended as error:
+            self._failure = str(error)
+            raise
+        self._failure = ""
+        return answer
+
+    def _exchange(self, request: bytes) -> bytes:
         assert self._process.stdin and self._process.stdout
         try:
             self._process.stdin.write(b"%d\n%b" % (len(request), request))

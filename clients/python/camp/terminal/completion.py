@@ -4,11 +4,11 @@ from __future__ import annotations
 
 import glob
 import os
-from typing import Dict, List, Sequence
+from typing import Callable, Dict, List, Sequence, Tuple
 
 from .commands import CHANGES, ENDINGS, OWN, SHAPES, words_of
 from .session import Session
-from .unresolved import listed
+from .unresolved import Ask, listed
 
 FILES = {"save", "read", "open", ".save", ".read", ".open"}
 IN_BODY = ("end", "cancel", "help", "why", "quit")
@@ -20,8 +20,8 @@ class Completion:
 
     def __init__(self, session: Session) -> None:
         self._session = session
-        self._found: Dict[bytes, List[str]] = {}
-        self._state = (object(), 0)
+        self._found: Dict[str, List[str]] = {}
+        self._state: Tuple[object, int] = (None, 0)
 
     def complete(self, before: str, word: str) -> List[str]:
         """The words that begin with `word` and may stand after the text before it."""
@@ -73,18 +73,27 @@ class Completion:
         words = words[1:] if words[:1] == ["whatif"] else words
         if len(words) < 2:
             return []
-        answer = self._session.backend.ask(b"tree " + words[1].encode("utf-8", "surrogateescape") + b"\n")
-        heads = (line.split(b" ") for line in answer.split(b"\n") if line.startswith(b"file "))
-        return [it[1].decode("ascii", "replace") for it in heads]
+        return self._once("tree " + words[1], lambda: paths_of(self._session.backend.ask, words[1]))
 
     def _list(self, *question: str) -> List[str]:
-        key = " ".join(question).encode("utf-8", "surrogateescape")
+        """The names that a question is answered."""
+        lines = lambda: [it.decode("ascii", "replace") for it in listed(self._session.backend.ask, *question) or []]
+        return self._once(" ".join(question), lines)
+
+    def _once(self, question: str, answer: Callable[[], List[str]]) -> List[str]:
+        """The answer to a question, which is asked once until a call is accepted."""
         state = (self._session.backend, self._session.accepted)
         if state != self._state:
             self._found, self._state = {}, state
-        if key not in self._found:
-            self._found[key] = [it.decode("ascii", "replace") for it in listed(self._session.backend.ask, *question) or []]
-        return self._found[key]
+        if question not in self._found:
+            self._found[question] = answer()
+        return self._found[question]
+
+
+def paths_of(ask: Ask, branch: str) -> List[str]:
+    """The files of a branch."""
+    lines = ask("tree {}\n".format(branch).encode("utf-8", "surrogateescape")).split(b"\n")
+    return [it.split(b" ")[1].decode("ascii", "replace") for it in lines if it.startswith(b"file ")]
 
 
 def files(word: str) -> List[str]:

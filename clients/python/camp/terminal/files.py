@@ -23,7 +23,8 @@ def named_file(rest: str, command: str) -> str:
         raise BadFile("a quotation mark is not closed") from None
     if len(words) != 1 or not words[0]:
         raise BadFile('{} FILE names one file; write one with blanks as "a file"'.format(command))
-    return os.path.expanduser(words[0])
+    # A line is UTF-8, whatever the names of files are.
+    return os.path.expanduser(os.fsdecode(words[0].encode("utf-8", "surrogateescape")))
 
 
 def check_target(path: str) -> None:

@@ -5,7 +5,9 @@ from __future__ import annotations
 import contextlib
 import os
 import signal
-from typing import Iterator
+import threading
+from types import FrameType
+from typing import Callable, ContextManager, Iterator, Optional
 
 WORDS = b"\nCtrl-C again ends the conversation.\n"
 _count = 0
@@ -23,17 +25,30 @@ def take_noted() -> bool:
     return was_noted
 
 
-@contextlib.contextmanager
-def raised() -> Iterator[None]:
+def raised() -> ContextManager[None]:
     """Raises KeyboardInterrupt at once, for the time in which a line is typed."""
-    before = signal.signal(signal.SIGINT, signal.default_int_handler)
+    return _handled(signal.default_int_handler)
+
+
+def noted() -> ContextManager[None]:
+    """Notes Ctrl-C, for the time in which an answer is awaited."""
+    return _handled(_note)
+
+
+@contextlib.contextmanager
+def _handled(handler: Callable[[int, Optional[FrameType]], None]) -> Iterator[None]:
+    """Calls a handler at Ctrl-C; in a thread, which gets no signals, nothing is changed."""
+    if threading.current_thread() is not threading.main_thread():
+        yield
+        return
+    before = signal.signal(signal.SIGINT, handler)
     try:
         yield
     finally:
         signal.signal(signal.SIGINT, before)
 
 
-def _note(*_: object) -> None:
+def _note(signal_number: int, frame: Optional[FrameType]) -> None:
     global _count
     _count += 1
     if _count > 1:

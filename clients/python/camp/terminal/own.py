@@ -45,7 +45,7 @@ class Conversation(Session):
             if not end and self.body:
                 self.fail(["{} ends inside a record: nothing of it is recorded".format(path)])
         finally:
-            self.reading, self.body = None, None
+            self.end_reading()
         calls = counted(self.accepted - before, "call")
         self.screen.say("{}, line {}: the rest is not read; {} accepted".format(path, end, calls) if end else "read {}: {} accepted".format(path, calls))
         self.say_changed()
@@ -72,6 +72,8 @@ class Conversation(Session):
         except Ended as error:
             hint = "; read runs a file of commands" if "no store" in str(error) else ""
             raise BadFile("{}{}; the conversation goes on as before".format(error, hint)) from None
+        except KeyboardInterrupt:
+            raise BadFile("cancelled; the conversation goes on as before") from None
         self.backend.close()
         self.use(other)
         self.screen.say("opened {}: each accepted call is kept in it".format(path))

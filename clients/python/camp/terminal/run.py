@@ -61,10 +61,11 @@ def greet(session: Conversation) -> None:
 def step(session: Conversation, lines: Lines) -> None:
     """Reads a line and does what it says. What ends the backend ends the conversation."""
     try:
-        # A line feed can be typed inside a line.
-        for line in lines.read(session.prompt()).split(b"\n"):
-            session.take(line)
+        text = lines.read(session.prompt())
         interrupts.take_noted()
+        # A line feed can be typed inside a line.
+        for line in text.split(b"\n"):
+            session.take(line)
     except Interrupted as error:
         session.interrupt(error.had_text)
     except KeyboardInterrupt:

@@ -187,15 +187,16 @@ class Session:
 
     def _leave_out(self, body: Body, lines: Sequence[str]) -> None:
         """Says what is wrong in a line of a body. Where nobody reads that, nothing of the record is recorded."""
-        self.fail([*lines, LEFT_OUT if self.is_terminal else NOT_RECORDED])
-        if not self.is_terminal:
+        is_read = self.is_terminal and not self.reading
+        self.fail([*lines, LEFT_OUT if is_read else NOT_RECORDED])
+        if not is_read:
             self.body, self._skipped_kind, self._skipped = None, "group" if body.is_group else "edit", 0
 
     def execute(self, text: bytes, words: Sequence[str]) -> None:
         """Asks a whole command, and shows its answer and what it changed."""
         call = call_of(words)
         self.pending = text
-        if call:
+        if call and call.branch not in self._changed:
             self.watch.before(call)
         answer, why = split_cause(self.backend.ask(text + b"why\n"))
         self.pending = b""
@@ -215,6 +216,10 @@ class Session:
                 self._say_changes(self.watch.after(call))
         if words[0] == "whatif":
             self._foresee(answer, words[1:])
+
+    def end_reading(self) -> None:
+        """Goes on with what is typed."""
+        self.reading, self.body, self._skipped_kind = None, None, ""
 
     def say_changed(self) -> None:
         """Says what the calls of a file that was read have changed, all in all."""
