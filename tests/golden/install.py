@@ -25,6 +25,8 @@ PAGES = {"docs/embedding.md": b"ok 1\nok 2\ntree 1\nfile notes 1\n=hello\n", "cl
 COMPLETED = {"--st": "--store", "--store no": "notes", "--export x": ""}
 PYTHON = """
 import camp, sys
+from camp._library import LIBRARY
+assert LIBRARY.camp_open
 print(camp.__version__, camp.__file__.startswith(sys.prefix))
 if sys.argv[1:] == ["run"]:
     with camp.Repository() as repository:
@@ -178,4 +180,5 @@ def imports(report, wheel, folder, is_real):
     wanted = f"{version()} True\n" + "{'notes': [b'hello']}\n" * is_real
     done = call([python, "-c", PYTHON, *(["run"] if is_real else [])], cwd=folder, env=environment)
     report.expect_run("the wheel", done, wanted.encode())
+    report.expect_run("python3 -m camp", call([python, "-m", "camp", "--version"], cwd=folder, env=environment), f"camp {version()}\n".encode())
     report.count("wheels")

@@ -28,7 +28,7 @@ def parser() -> argparse.ArgumentParser:
     commands = found.add_subparsers(dest="command", metavar="COMMAND")
     shell = commands.add_parser("shell", help="hold a conversation at a terminal", epilog=EPILOG, formatter_class=form,
                                 description="Holds a conversation with a repository. The command help lists the commands.")
-    shell.add_argument("--store", metavar="FILE", default="", help="keep the repository in this file; a new file is made")
+    shell.add_argument("--store", metavar="FILE", help="keep the repository in this file; a new file is made")
     shell.add_argument("--load", metavar="FILE", nargs="+", default=[], help="run these files of commands first")
     return found
 

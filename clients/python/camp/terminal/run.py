@@ -4,7 +4,7 @@ from __future__ import annotations
 
 import os
 import sys
-from typing import Sequence
+from typing import Optional, Sequence
 
 from ..errors import Unexpected
 from . import interrupts
@@ -17,11 +17,11 @@ from .screen import ALARM, counted, standard_screen
 FAILED, INTERRUPTED, UNREAD = 3, 130, 141
 
 
-def run(store: str, loads: Sequence[str]) -> int:
+def run(store: Optional[str], loads: Sequence[str]) -> int:
     """Holds a conversation with a repository, which a store keeps if one is named. Returns the exit status."""
     options = ["--load", *loads] if loads else []
     try:
-        backend = open_store(store, options) if store else Program(options)
+        backend = Program(options) if store is None else open_store(store, options)
     except Ended as error:
         print("camp: {}".format(error), file=sys.stderr)
         return FAILED
