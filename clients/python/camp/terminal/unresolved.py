@@ -2,15 +2,15 @@
 
 from __future__ import annotations
 
-from typing import Callable, Dict, FrozenSet, List, NamedTuple, Optional, Tuple
+from typing import Callable, Dict, FrozenSet, List, NamedTuple, Optional, Sequence, Tuple
 
 from ..answers import Answer, Hunk, number, read_changes, read_marks
 from ..errors import Unexpected
 from .commands import Call
 from .screen import ALARM, GOOD, PLAIN
 
-# The pairs that are named after a call.
-MOST_PAIRS = 10
+# The pairs that are named after a call, and the files that are named of a pair.
+MOST_PAIRS, MOST_PATHS = 10, 3
 Pair = Tuple[str, str]
 Ask = Callable[[bytes], bytes]
 # A line of words and its style.
@@ -112,6 +112,12 @@ def parts_of(answer: bytes) -> Dict[str, FrozenSet[Pair]]:
     return found
 
 
+def enumerated(paths: Sequence[str]) -> str:
+    """Some paths in a row of words, and how many there are more."""
+    shown = [*paths[:MOST_PATHS], *(["{} more".format(len(paths) - MOST_PATHS)] if len(paths) > MOST_PATHS else [])]
+    return " and ".join([", ".join(shown[:-1]), shown[-1]] if len(shown) > 1 else shown)
+
+
 class Places:
     """In which files the pairs of a branch are in conflict: those that the sides of both change."""
 
@@ -124,7 +130,7 @@ class Places:
         """Where a pair is in conflict, and the question that shows it."""
         both = [it for it in self._paths_of(pair[0]) if it in self._paths_of(pair[1])]
         marked = [it for it in both if any(hunk.issuperset(pair) for hunk in self._hunks_of(it))]
-        places = " and ".join(marked or both)
+        places = enumerated(marked or both)
         question = "marks {} {}".format(self._branch, marked[0]) if marked else "side {} {}".format(self._branch, pair[0])
         return "{} and {} are in conflict{} (unresolved): {}".format(*pair, " in " + places if places else "", question)
 
