@@ -21,18 +21,16 @@ def cases():
     """The name and the transcript of each case."""
     parts = re.split(r"^== (.*)\n", read_text(f"{DATA}/terminal"), flags=re.M)[1:]
     yield from zip(parts[::2], parts[1::2])
-    if os.path.exists(TUTORIAL):
-        yield "docs/tutorial.md", "".join(re.findall(r"^```terminal\n(.*?)^```$", read_text(TUTORIAL), re.M | re.S))
+    yield "docs/tutorial.md", "".join(re.findall(r"^```terminal\n(.*?)^```$", read_text(TUTORIAL), re.M | re.S))
 
 
 def environment_of(folder, shell):
-    """The environment of a person who has camp_shell on the PATH, and a home folder of his own."""
-    kept = {name: os.environ[name] for name in ("PATH", "CAMP_TREE") if name in os.environ}
-    kept["PATH"] = f"{folder}/bin:{kept['PATH']}"
+    """The environment of a person who has camp_shell on the PATH, and a home folder without files."""
+    path = f"{folder}/bin:{os.path.dirname(sys.executable)}:{os.environ['PATH']}"
     os.mkdir(f"{folder}/bin")
     os.symlink(shell, f"{folder}/bin/camp_shell")
     client = {"PYTHONPATH": f"{TOP}/clients/python", "PYTHONDONTWRITEBYTECODE": "1"}
-    return {**kept, **client, "HOME": f"{folder}/home", "TERM": "xterm", "NO_COLOR": "1", "LC_ALL": "C.UTF-8"}
+    return {"PATH": path, **client, "HOME": f"{folder}/home", "TERM": "xterm", "NO_COLOR": "1", "LC_ALL": "C.UTF-8"}
 
 
 def foresight(report):
@@ -101,5 +99,6 @@ def run(report, words):
             for command, wanted in commands_of(transcript):
                 found = run_command(command, wanted, environment, f"{folder}/home/work")
                 report.expect(f"{title}: {command}", "\n".join(found), "\n".join(wanted))
+                report.expect(f"{title}: faults without words", [it for it in found if re.match(r"(\\e\[31m)?fault \d", it)], [])
                 report.count("typed lines", sum(it.startswith(("camp> ", "....> ")) for it in wanted))
         report.count("sessions")
