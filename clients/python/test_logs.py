@@ -6,7 +6,7 @@ import tempfile
 import threading
 import unittest
 
-from logs import TITLE, Damaged, Outcome, SqliteLog
+from camp.logs import TITLE, Damaged, Outcome, SqliteLog
 
 
 class Sqlite(unittest.TestCase):

@@ -1,22 +1,18 @@
 """Carriers of a log that many processes share: the tags are unique, the order is the engine's, nothing is ever removed.
 
-A log is any object with these methods; an entry is bytes, and entries are counted from 0. The first entry is `TITLE`, which
-a carrier writes where the log is empty.
-
-    append(tag, text)   Appends an entry under a tag, once. The answer is an `Outcome`.
-    read(index, wait)   The entries from an index on, some at a time; waits so many seconds at most for the first.
-    length()            How many entries the engine has now, with all that were acknowledged to anybody.
-    close()
-
-`Damaged` is raised where the engine shows that an entry was changed or removed, `Away` where no endpoint answers.
+`open_log` makes one from an address. An entry is bytes, and entries are counted from 0; the first is `TITLE`, which a carrier
+writes where the log is empty. `Damaged` is raised where the engine shows that an entry was changed or removed, `Away` where no
+endpoint answers, `Foreign` where something else stands at the address.
 """
+
+from __future__ import annotations
 
 import enum
 import os
 import sqlite3
 import threading
 import time
-from typing import List
+from typing import List, Protocol
 
 TITLE = b"camp log 1\n"
 TIMEOUT = 0.5
@@ -28,6 +24,34 @@ class Outcome(enum.Enum):
     TAKEN = "the tag is in the log already"
     REFUSED = "it did not take place, and never will"
     UNKNOWN = "it may have taken place: ask again under the same tag"
+
+
+class Log(Protocol):
+    """What a carrier is."""
+
+    def append(self, tag: str, text: bytes) -> Outcome:
+        """Appends an entry under a tag, once."""
+
+    def read(self, index: int, wait: float = 0.0) -> List[bytes]:
+        """The entries from an index on, some at a time; waits so many seconds at most for the first."""
+
+    def length(self) -> int:
+        """How many entries the engine has now, with all that were acknowledged to anybody."""
+
+    def close(self) -> None:
+        """Gives up what it holds."""
+
+
+def open_log(address: str) -> Log:
+    """The log at an address: `sqlite:PATH` or `etcd:HOST:PORT[,HOST:PORT ..]/PREFIX`."""
+    kind, _, rest = address.partition(":")
+    if kind == "sqlite" and rest:
+        return SqliteLog(rest)
+    hosts, _, prefix = rest.partition("/")
+    if kind == "etcd" and hosts and prefix:
+        from .etcd_log import EtcdLog
+        return EtcdLog(hosts.split(","), prefix)
+    raise ValueError("no address of a log: {!r}; write sqlite:PATH or etcd:HOST:PORT[,HOST:PORT ..]/PREFIX".format(address))
 
 
 class Damaged(Exception):
@@ -42,12 +66,24 @@ class Away(Exception):
     """The engine does not answer."""
 
 
+class Foreign(Exception):
+    """What stands at the address is of another program."""
+
+
 class SqliteLog:
     """A table of a SQLite file, for the processes of one machine. Each entry is on the disk before it counts."""
 
     def __init__(self, path: str):
         self.path = os.fspath(path)
         self._local = threading.local()
+        try:
+            tables = [row[0] for row in self._once("SELECT name FROM sqlite_master WHERE type = 'table'")]
+        except sqlite3.DatabaseError as error:
+            if "not a database" not in str(error):
+                raise
+            tables = [""]
+        if tables and tables != ["entries"]:
+            raise Foreign("{} is a file of another program".format(self.path))
         self._once("CREATE TABLE IF NOT EXISTS entries (at INTEGER PRIMARY KEY, tag TEXT UNIQUE NOT NULL, text BLOB NOT NULL)")
         self.append("log", TITLE)
 

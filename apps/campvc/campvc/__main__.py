@@ -1,0 +1,93 @@
+"""The command line."""
+
+from __future__ import annotations
+
+import argparse
+import os
+import sqlite3
+import sys
+from typing import Callable, List, NamedTuple, Optional, Tuple
+
+from camp import Refused
+
+from . import Failure, commands
+from .show import warn
+
+
+class Parser(argparse.ArgumentParser):
+    """A parser whose faults have git's exit status."""
+
+    def error(self, message: str) -> None:
+        self.print_usage(sys.stderr)
+        self.exit(129, "{}: {}\n".format(self.prog, message))
+
+
+Option = Tuple[Tuple[str, ...], dict]
+
+
+class Command(NamedTuple):
+    """A command: what runs it, what it does, more of that, and its words."""
+    run: Callable[[argparse.Namespace], int]
+    does: str
+    more: str
+    words: List[Option]
+
+
+def word(*names: str, **how: object) -> Option:
+    return names, how
+
+
+PATHS = word("paths", nargs="*", metavar="PATH", help="files or folders; all that changed if none is named")
+COPY = word("--copy", metavar="NAME", help="the name of this working copy: up to 12 of a to z, 0 to 9 and -")
+
+COMMANDS = {
+    "init": Command(commands.init, "make a repository, with a working copy in a folder", "Without --log its log is a SQLite file in .camp, which other copies on this machine may share: `campvc clone FOLDER`.", [
+        word("folder", nargs="?", default=".", metavar="FOLDER"), COPY,
+        word("--log", default="", metavar="LOG", help="a log that copies share: sqlite:PATH, or etcd:HOST:PORT[,HOST:PORT ..]/PREFIX")]),
+    "clone": Command(commands.clone, "make one more working copy of a repository", "LOG is an address as of init, or the folder of another copy.", [
+        word("log", metavar="LOG"), word("folder", nargs="?", metavar="FOLDER"), COPY,
+        word("--branch", default="main", metavar="BRANCH", help="the branch to work on: main if not given")]),
+    "status": Command(commands.status, "what is changed here, what waits, and what is in conflict", "", []),
+    "diff": Command(commands.diff_command, "how files differ from what is recorded", "The output can be applied by `patch -p1`.", [PATHS]),
+    "record": Command(commands.record, "record changes as a patch", "New files are recorded too, unless .campignore lists them.", [
+        PATHS, word("-m", "--message", metavar="TEXT", help="what the patch is for; its first line is its title")]),
+    "log": Command(commands.log, "the patches of the branch, the last one first", "", [
+        word("--graph", action="store_true", help="draw what each patch needs")]),
+}
+
+
+def parser() -> Parser:
+    top = Parser(prog="campvc", description="A small version control system over camp.", epilog="campvc COMMAND --help says more of a command.")
+    found = top.add_subparsers(dest="command", metavar="COMMAND", required=True, parser_class=Parser)
+    for name, command in COMMANDS.items():
+        one = found.add_parser(name, help=command.does, description=command.does[0].upper() + command.does[1:] + ". " + command.more)
+        for names, how in command.words:
+            one.add_argument(*names, **how)
+    return top
+
+
+def main(words: Optional[List[str]] = None) -> int:
+    given = parser().parse_args(words)
+    try:
+        status = COMMANDS[given.command].run(given)
+        sys.stdout.flush()
+        return status
+    except Failure as failure:
+        warn(str(failure))
+        return failure.status
+    except Refused as refused:
+        warn("{}. Nothing has changed".format(refused))
+        return 1
+    except KeyboardInterrupt:
+        warn("interrupted: `campvc status` shows where you are")
+        return 130
+    except BrokenPipeError:
+        os.dup2(os.open(os.devnull, os.O_WRONLY), 1)
+        return 141
+    except (OSError, sqlite3.Error) as error:
+        warn("{}: look at the disk (is it full, or read-only?) and at the rights of the folder; then `campvc status`".format(error))
+        return 128
+
+
+if __name__ == "__main__":
+    sys.exit(main())

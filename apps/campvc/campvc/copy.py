@@ -1,0 +1,255 @@
+"""A working copy: a folder, and a branch of its own in a repository that is shared over a log.
+
+A copy named `anna` that works on `main` has the branch `main--anna`, which nobody else writes. So a record is made on just the
+tree that the copy has seen, whatever others do meanwhile. Then it is published: pulled into `main`. `sync` pulls from
+`main` what others published. Where the log is away, calls are executed here and wait; they are asked again when it is back."""
+
+from __future__ import annotations
+
+import contextlib
+import os
+import signal
+import sqlite3
+from typing import Dict, Iterator, List, Sequence, Set
+
+from camp import Conflict, Edit, NoBranch, OutcomeUnknown
+from camp.changes import command
+from camp.errors import error_of
+from camp.logs import Away, Damaged, Foreign, open_log
+from camp.shared import Shared, Stopped
+
+from . import Failure, worktree
+from .coding import Files, decode, decode_path, plain_path
+from .notes import Note, read_note
+from .state import Calls, SeenLog, State, locked
+
+# Refusals of a call that waited which say that it was done already: the branch or the patch is there, or is gone.
+DONE_ALREADY = ("5", "6", "7", "8")
+
+
+def find_top() -> bytes:
+    """The folder of the working copy in which this process stands."""
+    folder = os.getcwdb()
+    while not os.path.isdir(os.path.join(folder, b".camp")):
+        if folder == os.path.dirname(folder):
+            raise Failure("there is no campvc repository here or above: `campvc init` makes one, `campvc clone LOG` takes part in one", 128)
+        folder = os.path.dirname(folder)
+    return folder
+
+
+@contextlib.contextmanager
+def uninterrupted() -> Iterator[None]:
+    """Ctrl-C waits until this is done."""
+    before = signal.pthread_sigmask(signal.SIG_BLOCK, {signal.SIGINT})
+    try:
+        yield
+    finally:
+        signal.pthread_sigmask(signal.SIG_SETMASK, before)
+
+
+class Copy:
+    """A working copy. `away` says why the log can't be asked now, if it can't."""
+
+    def __init__(self, top: bytes) -> None:
+        self.top, self.state, self.away, self.warnings = top, State(top), "not asked", []  # type: bytes, State, str, List[str]
+        self.name, self.address = self.state.get("copy"), self.state.get("log")
+        if not self.name:
+            raise Failure("{} is not complete: its making was interrupted; remove it, and try again".format(worktree.text(os.path.join(top, b".camp"))), 128)
+        self.open(None)
+
+    @property
+    def branch(self) -> str:
+        """The branch that this copy works on, with others."""
+        return self.state.get("branch", "main")
+
+    @property
+    def own(self) -> str:
+        """The branch that this copy alone writes."""
+        return self.own_of(self.branch)
+
+    def own_of(self, branch: str) -> str:
+        return "{}--{}".format(branch, self.name)
+
+    def open(self, engine) -> None:
+        """Reads what is known, and from an engine what is new."""
+        self.log = SeenLog(self.state, engine)
+        self.shared = Shared(self.log)
+        self.log.check(self.address)
+        self.shared.sync()
+        if engine is None:
+            self.shared.execute_here(self.state.waiting())
+
+    def close(self) -> None:
+        self.shared.close()
+        self.log.close()
+
+    def connect(self) -> None:
+        """Asks the log for what is new, and for all that waits."""
+        try:
+            engine = connection(self.address, self.log.known() > 0)
+            self.open(engine)
+            self.away = ""
+            self._send(self.state.waiting())
+        except (Away, OutcomeUnknown) as error:
+            self.go_offline(str(error))
+
+    def go_offline(self, why: str) -> None:
+        self.log.close()
+        self.away = why
+        self.open(None)
+
+    def _send(self, waiting: Calls) -> None:
+        """Asks what waited, and says what is refused for good. What was done already is refused as such."""
+        if not waiting:
+            return
+        for (call, _), answer in zip(waiting, self.shared.write_all(waiting)):
+            words = answer.decode("ascii", "replace").split()
+            if words[0] == "refused" and words[1] not in DONE_ALREADY:
+                first = call.split(b"\n")[0].decode()
+                self.warnings.append("the log refuses what waited for it, `{}`: {}".format(first, error_of(words)))
+        with self.state.transaction():
+            self.state.db.execute("DELETE FROM waiting")
+
+    def write(self, calls: Calls) -> List[bytes]:
+        """Asks calls, and returns their answers. Where the log is away they are executed here, and wait for it."""
+        if not self.away:
+            try:
+                return self.shared.write_all(calls)
+            except OutcomeUnknown as error:
+                self.go_offline(str(error))
+        answers = self.shared.execute_here(calls)
+        with self.state.transaction():
+            self.state.wait([call for call, answer in zip(calls, answers) if answer.startswith(b"ok")])
+        return answers
+
+    def ask(self, *words: str) -> None:
+        """Asks one call of one line; a refusal is raised."""
+        self.ask_all([(command(*words), b"")])
+
+    def ask_all(self, calls: Calls) -> None:
+        """Asks calls; the first refusal is raised."""
+        for answer in self.write(calls):
+            if not answer.startswith(b"ok"):
+                raise error_of(answer.decode("ascii", "replace").split()) if b" " in answer else Failure(answer.decode().strip(), 128)
+
+    def publish(self, names: Sequence[str]) -> None:
+        """Pulls patches of the own branch into the one that all share. Where that is refused they stay here."""
+        listed = self.shared.along(self.own, self.branch, names)
+        if listed:
+            (answer,) = self.write([(command("pull", self.own, self.branch, *listed), b"")])
+            if not answer.startswith(b"ok"):
+                self.warnings.append("{} does not take {}: {}; it stays in this copy".format(self.branch, ", ".join(names), error_of(answer.decode().split())))
+
+    def own_files(self) -> Files:
+        """The files of the own branch; none where it is not made yet."""
+        try:
+            return decode(self.shared.tree(self.own))
+        except NoBranch:
+            return {}
+
+    def recover(self) -> None:
+        """Ends what an interrupted command began: makes the own branch, and brings the working tree to it."""
+        if self.own not in self.shared.branches():
+            self.ask("branch", self.own, self.branch)
+        base, own = self.state.base(), self.own_files()
+        if base != own:
+            with uninterrupted():
+                moved = worktree.finish(self.top, base, own, self.state.get("doing") == "record")
+                self.state.set_base(own)
+            self.warnings.append("a command that was interrupted is finished now")
+            self.warnings += ["{} was changed meanwhile: what you had there is in {}".format(*map(worktree.text, it)) for it in moved.items()]
+
+    def scan(self) -> Files:
+        """The files as they are in the working tree."""
+        return worktree.scan(self.top, self.state.base())
+
+    def check_clean(self, what: str) -> None:
+        """A `Failure` with the names of files that were changed and not recorded."""
+        dirty = worktree.changed(self.state.base(), self.scan())
+        if dirty:
+            names = "".join("\n    {}".format(worktree.text(path)) for path in dirty[:10]) + "\n    .." * (len(dirty) > 10)
+            raise Failure("{}: the working tree has changes that are not recorded; `campvc record` them, or take them back, and try again:{}".format(what, names))
+
+    def bring(self, calls: Calls, files: Files) -> None:
+        """Asks calls that lead to these files in the own branch, and brings the working tree there. Whatever fails before the calls
+        are accepted leaves it as it was."""
+        update = worktree.Update(self.top, self.state.base(), files)
+        with uninterrupted():
+            self.state.set("doing", "update")
+            self.ask_all(calls)
+            if self.own_files() != files:
+                update = worktree.Update(self.top, self.state.base(), self.own_files())
+            update.install()
+            self.state.set_base(update.after)
+
+    def note(self, name: str) -> Note:
+        return read_note(self.shared.notes.get(name, b""))
+
+    def name_of(self, word: str, branch: str = "") -> str:
+        """The patch that a word names: its name, or the beginning of one alone."""
+        names = self.shared.names(branch or self.own)
+        found = [word] if word in names else [name for name in names if name.startswith(word)]
+        if len(found) != 1:
+            told = "several patches begin with {}: {}".format(word, ", ".join(found[:5])) if found else "there is no patch {} here: `campvc log` lists them".format(word)
+            raise Failure(told)
+        return found[0]
+
+    def paths_of(self, branch: str, name: str) -> Set[str]:
+        """The paths of camp that a patch in conflict would change."""
+        return {change.path for change in self.shared.side(branch, name)}
+
+    def unresolved(self, branch: str) -> Dict[str, List[Conflict]]:
+        """The unresolved conflicts, by the paths of camp that both sides would change."""
+        found: Dict[str, List[Conflict]] = {}
+        for pair in self.shared.open(branch):
+            left, right = self.paths_of(branch, pair.left), self.paths_of(branch, pair.right)
+            for path in sorted(left & right or left | right):
+                found.setdefault(path, []).append(pair)
+        return found
+
+
+def file_name(path: str) -> bytes:
+    """The name of the file that a path of camp is about."""
+    return decode_path(plain_path(path)) or path.encode()
+
+
+def connection(address: str, is_known: bool):
+    """The engine at an address, or what says that it is not there."""
+    kind, _, path = address.partition(":")
+    if kind == "sqlite" and is_known and not os.path.exists(path):
+        raise Away("there is no file {}".format(path))
+    try:
+        return open_log(address)
+    except ValueError as error:
+        raise Failure(str(error), 128) from None
+    except sqlite3.OperationalError as error:
+        raise Away("{}: {}".format(path, error)) from None
+
+
+@contextlib.contextmanager
+def named_troubles(address: str) -> Iterator[None]:
+    """What is wrong with a log, in words that say what to do."""
+    try:
+        yield
+    except Foreign as error:
+        raise Failure("{}: name a log of campvc, or a file that does not exist yet".format(error), 128) from None
+    except (Damaged, Stopped) as error:
+        raise Failure("the log {} can't be read further: {}; ask who keeps it to put back what stood there".format(address, error), 128) from None
+
+
+@contextlib.contextmanager
+def reading() -> Iterator[Copy]:
+    """The working copy as it is known, for commands that change nothing."""
+    copy = Copy(find_top())
+    with contextlib.closing(copy), named_troubles(copy.address):
+        yield copy
+
+
+@contextlib.contextmanager
+def writing() -> Iterator[Copy]:
+    """The working copy, locked, with all that the log has if it is there."""
+    top = find_top()
+    with locked(top), contextlib.closing(Copy(top)) as copy, named_troubles(copy.address):
+        copy.connect()
+        copy.recover()
+        yield copy
