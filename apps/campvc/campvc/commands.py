@@ -4,17 +4,20 @@ from __future__ import annotations
 
 import argparse
 import contextlib
+import io
 import os
 import secrets
 import shutil
-from typing import Dict, List, Optional, Tuple
+import sys
+from typing import List, Optional
 
-from camp import Add, Change, Edit, Remove, diff
-from camp.changes import record_command
+from camp import Change, Edit, Hunk, NoBranch, Remove, diff
+from camp.changes import command, record_command
 
-from . import Failure, notes, show, worktree
-from .coding import Files, Tree, decode, encode
-from .copy import Copy, find_top, reading, writing
+from . import Failure, git, notes, show, worktree
+from .coding import PLAIN, File, Files, Tree, decode, encode, encode_path, plain_path
+from .conflicts import apply, by_file, check_marks, decisions, hunks_of, marked, taken
+from .copy import Copy, file_name, reading, uninterrupted, writing
 from .show import emit, listed, warn
 from .state import State
 from .worktree import text
@@ -95,7 +98,7 @@ def status(words: Words) -> int:
         if base != copy.own_files():
             emit("  a command was interrupted: `campvc sync` finishes it")
         for path, pairs in copy.unresolved(copy.own).items():
-            emit("  conflict in {}: {}".format(text(worktree_name(path)), "; ".join("{} and {}".format(*pair) for pair in pairs)), show.RED)
+            emit("  conflict in {}: {}".format(text(file_name(path)), "; ".join("{} and {}".format(*pair) for pair in pairs)), show.RED)
         files = copy.scan()
         for path in worktree.changed(base, files):
             kind = "new" if path not in base else "removed" if path not in files else "changed"
@@ -103,11 +106,6 @@ def status(words: Words) -> int:
         if files == base:
             emit("  nothing to record")
     return 0
-
-
-def worktree_name(path: str) -> bytes:
-    from .copy import file_name
-    return file_name(path)
 
 
 def chosen(copy: Copy, paths: List[str], files: Files, base: Files) -> List[bytes]:
@@ -159,47 +157,342 @@ def groups(changes: List[List[Change]]) -> List[List[Change]]:
 def record(words: Words) -> int:
     with writing() as copy:
         base, files = copy.state.base(), copy.scan()
-        paths = chosen(copy, words.paths, files, base)
+        in_conflict = {path: places for path, places in by_file(copy).items() if path in marked_files(copy)}
+        paths = sorted({*chosen(copy, words.paths, files, base), *([] if words.paths else in_conflict)})
+        for path in paths:
+            if path in files and path in marked_files(copy):
+                check_marks(text(path), files[path].content)
         old = copy.shared.tree(copy.own)
         changes = [file_changes(old, base, files, path) for path in paths]
+        changes = select(changes) if words.interactive else changes
+        all_changes = [it for some in changes for it in some]
+        changes.append(decisions(copy, old, [place for path in paths for place in in_conflict.get(path, [])], all_changes))
         if not any(changes):
             emit("nothing to record")
             return 1
-        message = words.message if words.message is not None else show.ask("What is it for? ")
-        note = notes.new_note(message, copy.state.get("author"))
+        note = notes.new_note(words.message if words.message is not None else show.ask("What is it for? "), copy.state.get("author"))
+        before = set(copy.shared.open(copy.own))
         record_changes(copy, groups(changes), note)
-        tell_warnings(copy)
+        remember_marked(copy, [path for path in marked_files(copy) if path not in paths])
+        for pair in sorted(before - set(copy.shared.open(copy.own))):
+            emit("resolves the conflict of {} and {}".format(*pair))
+        tell(copy)
     return 0
 
 
-def record_changes(copy: Copy, parts: List[List[Change]], note: notes.Note) -> List[str]:
+def record_changes(copy: Copy, parts: List[List[Change]], note: notes.Note) -> None:
     """Records patches and publishes them."""
     name = notes.patch_name(note, [it for part in parts for it in part], copy.name)
     names = ["{}-{}".format(name, at + 1) for at in range(len(parts) - 1)] + [name]
-    calls = [(record_command(copy.own, one, part), note.text()) for one, part in zip(names, parts)]
-    with worktree_kept(copy):
+    others = set(copy.shared.open(copy.branch))
+    with uninterrupted():
         copy.state.set("doing", "record")
-        copy.ask_all(calls)
+        copy.ask_all([(record_command(copy.own, one, part), note.text()) for one, part in zip(names, parts)])
         copy.state.set_base(copy.own_files())
         copy.publish(names)
-    emit("recorded {}{}".format(name, " in {} patches".format(len(names)) * (len(names) > 1)) + (" here: the log is away" * bool(copy.away)))
-    return names
+    emit("recorded {}{}".format(name, " in {} patches".format(len(names)) * (len(names) > 1)))
+    if any(set(pair) & set(names) for pair in set(copy.shared.open(copy.branch)) - others):
+        emit("in {} it is in conflict with what others recorded: `campvc sync` takes that over".format(copy.branch))
 
 
-def worktree_kept(copy: Copy):
-    from .copy import uninterrupted
-    return uninterrupted()
+def marked_files(copy: Copy) -> List[bytes]:
+    """The files into which `resolve` wrote."""
+    return [bytes.fromhex(it) for it in copy.state.get("marked").split()]
 
 
-def tell_warnings(copy: Copy) -> None:
-    """Warnings, and that the log is away."""
+def remember_marked(copy: Copy, paths: List[bytes]) -> None:
+    copy.state.set("marked", " ".join(path.hex() for path in sorted(set(paths))))
+
+
+def select(changes: List[List[Change]]) -> List[List[Change]]:
+    """The changes that somebody wants, asked for one by one: a file that is new or goes is one, else each hunk."""
+    units = [[[it] for it in reversed(some)] if all(isinstance(it, Edit) for it in some) else [some] for some in changes if some]
+    total, at, found, rest = sum(map(len, units)), 0, [], ""
+    for some in units:
+        wanted: List[Change] = []
+        for unit in some:
+            at += 1
+            if not rest:
+                for line, colour in show.change_lines(unit):
+                    emit(line, colour)
+            answer = rest
+            while answer not in ("y", "n", "a", "d"):
+                answer = show.ask("record this change? ({} of {}) [y, n, a: all that are left, d: done, q: nothing at all] ".format(at, total)) or "q"
+                if answer == "q":
+                    raise Failure("nothing is recorded")
+            rest = {"a": "a", "d": "d"}.get(answer, "")
+            wanted = [*unit, *wanted] if answer in ("y", "a") else wanted
+        found.append(wanted)
+    return found
+
+
+def tell(copy: Copy) -> None:
+    """Says what there was to warn of, and that the log is away."""
     for line in copy.warnings:
         warn(line)
     if copy.away:
-        warn("the log is away ({}): what you do here waits, `campvc sync` sends it".format(copy.away))
+        warn("the log is away ({}): what you do here waits, and `campvc sync` sends it".format(copy.away))
+
+
+def agreed(question: str, yes: bool) -> bool:
+    return yes or show.ask(question + " [y, n] ") in ("y", "yes")
+
+
+def tell_all(copy: Copy, names: List[str]) -> None:
+    for name in names:
+        emit("    " + show.note_line(name, copy.note(name)))
 
 
 def log(words: Words) -> int:
     with reading() as copy:
-        show.print_log(copy, copy.own, with_graph=words.graph)
+        show.print_log(copy, words.branch or copy.own, with_graph=words.graph)
+    return 0
+
+
+def show_command(words: Words) -> int:
+    with reading() as copy:
+        name = copy.name_of(words.patch)
+        show.print_patch(copy, name, states=show.states_of(copy, copy.own))
+        in_conflict = any(name in pair for pair in copy.shared.conflicts(copy.own))
+        for title, names in (("needs", copy.shared.needs(copy.own, [name])), ("holds", copy.shared.held(copy.own, [name]))):
+            others = [it for it in names if it != name]
+            emit("{:7} {}".format(title, listed(others) or "no other patch"))
+        emit()
+        for line, colour in show.change_lines(copy.shared.side(copy.own, name) if in_conflict else copy.shared.show(copy.own, name).changes):
+            emit(line, colour)
+    return 0
+
+
+def annotate(words: Words) -> int:
+    with reading() as copy:
+        path = os.path.relpath(os.path.abspath(os.fsencode(words.path)), copy.top)
+        lines = copy.shared.annotate(copy.own, encode_path(path))
+        if lines is None:
+            raise Failure("{}: there is no such file in {}".format(words.path, copy.branch))
+        width = max([len(line.name) for line in lines] or [0])
+        for line in lines:
+            note = copy.note(line.name)
+            emit("{:{}} {:10.10} {:10} ".format(line.name, width, note.who, note.date[:10]).encode("utf-8", "surrogateescape") + line.line)
+    return 0
+
+
+def branches(words: Words) -> int:
+    with reading() as copy:
+        for name in copy.shared.branches():
+            if words.all or "--" not in name:
+                count, pairs = len(copy.shared.names(name)), len(copy.shared.open(name))
+                emit("{} {}  {} patches{}".format("*" if name == copy.branch else " ", name, count, ", {} unresolved conflicts".format(pairs) * bool(pairs)))
+    return 0
+
+
+def branch(words: Words) -> int:
+    with writing() as copy:
+        if "--" in words.name or len(copy.own_of(words.name)) > 40:
+            raise Failure("{}: a branch has a name without `--` and of at most {} letters, digits and `-`".format(words.name, 38 - len(copy.name)))
+        copy.ask("branch", words.name, copy.own)
+        emit("branch {} is as {} is here; `campvc switch {}` works on it".format(words.name, copy.branch, words.name))
+        tell(copy)
+    return 0
+
+
+def switch(words: Words) -> int:
+    with writing() as copy:
+        own = copy.own_of(words.name)
+        if words.name not in copy.shared.branches():
+            raise NoBranch(words.name)
+        copy.check_clean("switch")
+        with uninterrupted():
+            if own not in copy.shared.branches():
+                copy.ask("branch", own, words.name)
+            update = worktree.Update(copy.top, copy.state.base(), decode(copy.shared.tree(own)))
+            copy.state.set("doing", "update")
+            copy.state.set("branch", words.name)
+            update.install()
+            copy.state.set_base(update.after)
+        lacks = len(copy.shared.missing(copy.branch, copy.own))
+        emit("on branch {}{}".format(copy.branch, "; {} patches there are not here: `campvc sync` takes them over".format(lacks) * bool(lacks)))
+        tell(copy)
+    return 0
+
+
+def take(copy: Copy, branch: str, names: List[str], yes: bool, publish: bool = True) -> int:
+    """Pulls patches into this copy, with all that they need; says which, and what is in conflict then."""
+    listed_names = copy.shared.along(branch, copy.own, names)
+    more = [name for name in listed_names if name not in names]
+    emit("from {}:".format(branch))
+    tell_all(copy, listed_names)
+    if more and not agreed("{} of these come along, since the others need them. Pull all?".format(len(more)), yes):
+        raise Failure("nothing is pulled")
+    before = copy.unresolved(copy.own)
+    outcome = copy.shared.whatif.pull(branch, copy.own, listed_names)
+    copy.bring([(command("pull", branch, copy.own, *listed_names), b"")], decode(outcome.tree))
+    if publish:
+        copy.publish(listed_names)
+    now = {path: [pair for pair in pairs if pair not in before.get(path, [])] for path, pairs in copy.unresolved(copy.own).items()}
+    for path, pairs in now.items():
+        for pair in pairs:
+            emit("conflict in {}: {} and {}".format(text(file_name(path)), *pair), show.RED)
+    if any(now.values()):
+        emit("neither side of a conflict has an effect until it is decided: `campvc resolve` shows the sides in the files")
+    return 1 if any(now.values()) else 0
+
+
+def pull(words: Words) -> int:
+    with writing() as copy:
+        copy.check_clean("pull")
+        names = [copy.name_of(it, words.branch) for it in words.patches] or copy.shared.missing(words.branch, copy.own)
+        if not copy.shared.missing(words.branch, copy.own) or not copy.shared.along(words.branch, copy.own, names):
+            emit("nothing to pull: all of it is here")
+            return 1
+        status = take(copy, words.branch, names, words.yes)
+        tell(copy)
+    return status
+
+
+def sync(words: Words) -> int:
+    with writing() as copy:
+        names, status = copy.shared.missing(copy.branch, copy.own), 0
+        if names:
+            copy.check_clean("{} patches of {} are not taken over".format(len(names), copy.branch))
+            status = take(copy, copy.branch, names, True, False)
+        lacks = copy.shared.missing(copy.own, copy.branch)
+        if lacks and words.publish:
+            copy.publish(lacks)
+        elif lacks:
+            emit("{} lacks what is here; `campvc obliterate` takes it out here too, `campvc sync --publish` puts it there:".format(copy.branch))
+            tell_all(copy, lacks)
+        emit("in step with {}".format(copy.branch) if not copy.away else "{} is as it was read last".format(copy.branch))
+        tell(copy)
+    return 1 if copy.away else status
+
+
+def obliterate(words: Words) -> int:
+    return take_out(words, words.patches, False)
+
+
+def unrecord(words: Words) -> int:
+    return take_out(words, words.patches, True)
+
+
+def take_out(words: Words, patches: List[str], keeps_files: bool) -> int:
+    """Takes patches out of the branch, with all that needs them; the files lose their changes, or keep them as not recorded."""
+    with writing() as copy:
+        if not keeps_files:
+            copy.check_clean("obliterate")
+        names = [copy.name_of(it) for it in patches] or copy.shared.names(copy.own)[-1:]
+        if not names:
+            raise Failure("there is no patch to take out")
+        held = copy.shared.held(copy.own, names)
+        there = [name for name in held if name in copy.shared.names(copy.branch)]
+        others = [name for name in copy.shared.held(copy.branch, there) if name not in held]
+        if others:
+            raise Failure("in {} patches of others need this: {}; `campvc sync`, and name them too".format(copy.branch, listed(others)))
+        emit("to be taken out:")
+        tell_all(copy, held)
+        if (len(held) > len(names) or not patches) and not agreed("All of these go. Go on?", words.yes):
+            raise Failure("nothing is taken out")
+        outcome = copy.shared.whatif.obliterate(copy.own, held)
+        calls = [(command("obliterate", copy.own, *held), b"")]
+        if keeps_files:
+            with uninterrupted():
+                copy.state.set("doing", "record")
+                copy.ask_all(calls)
+                copy.state.set_base(copy.own_files())
+        else:
+            copy.bring(calls, decode(outcome.tree))
+        if there:
+            copy.ask("obliterate", copy.branch, *there)
+        tell(copy)
+    return 0
+
+
+def conflicts(words: Words) -> int:
+    with reading() as copy:
+        found = copy.unresolved(copy.own)
+        for path, pairs in found.items():
+            emit(text(file_name(path)), show.BOLD)
+            for pair in pairs:
+                tell_all(copy, list(pair))
+        emit("`campvc resolve` writes the sides into the files" if found else "nothing is in conflict")
+    return 1 if found else 0
+
+
+def resolve(words: Words) -> int:
+    """Writes marks, or one side, into files in conflict."""
+    with writing() as copy:
+        files, base, in_conflict = copy.scan(), copy.state.base(), by_file(copy)
+        named = {os.path.relpath(os.path.abspath(os.fsencode(path)), copy.top) for path in words.paths} or set(in_conflict)
+        for path in sorted(named):
+            if path not in in_conflict:
+                raise Failure("{}: no conflict there is unresolved".format(text(path)))
+            if files.get(path) != base.get(path):
+                raise Failure("{} has changes that are not recorded: record them, or take them back, and try again".format(text(path)))
+        name = words.take and copy.name_of(words.take)
+        after = dict(files)
+        for path in sorted(named):
+            write_sides(copy, path, in_conflict[path], name, after)
+        worktree.Update(copy.top, files, after).install()
+        remember_marked(copy, [*marked_files(copy), *named])
+        if named:
+            emit("edit the files, and `campvc record` decides" if not name else "`campvc record` decides so")
+        else:
+            emit("nothing is in conflict")
+    return 0 if named else 1
+
+
+def write_sides(copy: Copy, path: bytes, places: List[str], name: Optional[str], files: Files) -> None:
+    """Puts the sides of a file in conflict into it, or one of them."""
+    place = encode_path(path)
+    if name:
+        tree = {it: lines for it, lines in copy.shared.tree(copy.own).items() if plain_path(it) == place}
+        for one in places:
+            side = [change for change in copy.shared.side(copy.own, name) if change.path == one]
+            lines = taken(hunks_of(copy, one), name) if one in tree else None
+            for change in side if one not in tree else [it for it in side if isinstance(it, Remove)]:
+                lines = apply(lines, change) if not isinstance(change, Remove) else None
+            tree = {**tree, one: lines} if lines is not None else {it: old for it, old in tree.items() if it != one}
+        files.update(decode(tree)) if place in tree else files.pop(path, None)
+    elif place in places:
+        hunks = hunks_of(copy, place)
+        if not any(isinstance(hunk, Hunk) and hunk.sides for hunk in hunks) or path in files and b"\0" in files[path].content:
+            emit("{}: no lines to compare: say `campvc resolve --take PATCH {}`, or record it as it is".format(text(path), text(path)))
+            return
+        lines = marked(copy, hunks)
+        files[path] = File(files[path].mode if path in files else PLAIN, b"".join(line + b"\n" for line in lines))
+        emit("{}: {} places".format(text(path), sum(isinstance(hunk, Hunk) for hunk in hunks)))
+    else:
+        emit("{}: the sides differ in its mode or its end: make it as it is to be, and record".format(text(path)))
+
+
+def export(words: Words) -> int:
+    with reading() as copy:
+        branch = words.branch or copy.branch
+        if not words.to:
+            git.export(copy, branch, sys.stdout.buffer)
+            return 0
+        if not os.path.isdir(words.to):
+            git.git(".", "init", "-q", "-b", branch, words.to)
+        stream = io.BytesIO()
+        git.export(copy, branch, stream)
+        git.git(words.to, "fast-import", "--quiet", given=stream.getvalue())
+        emit("{} is in {}: `git -C {} log {}`".format(branch, words.to, words.to, branch))
+    return 0
+
+
+def import_command(words: Words) -> int:
+    with writing() as copy:
+        copy.check_clean("import")
+        commits, count = git.Commits(words.repository, words.commit), 0
+        try:
+            for calls in git.calls(copy, commits, file_changes, groups):
+                copy.ask_all(calls)
+                count += 1
+        finally:
+            with uninterrupted():
+                update = worktree.Update(copy.top, copy.state.base(), copy.own_files())
+                update.install()
+                copy.state.set_base(update.after)
+                copy.publish(copy.shared.names(copy.own)[-1:])
+            emit("{} of {} commits came in".format(count, len(commits.notes)))
+        tell(copy)
     return 0

@@ -12,7 +12,7 @@ import signal
 import sqlite3
 from typing import Dict, Iterator, List, Sequence, Set
 
-from camp import Conflict, Edit, NoBranch, OutcomeUnknown
+from camp import Conflict, NoBranch, OutcomeUnknown
 from camp.changes import command
 from camp.errors import error_of
 from camp.logs import Away, Damaged, Foreign, open_log
