@@ -71,6 +71,8 @@ COMMANDS = {
         PATHS, word("--take", metavar="PATCH", help="write the side of this patch, without marks")]),
     "sync": Command(commands.sync, "send what waits, and take over what others published", "The working tree has to be clean if there is something to take over.", [
         word("--publish", action="store_true", help="put patches that are here alone into the branch that all share")]),
+    "web": Command(commands.web, "a page of branches, patches, files and conflicts", "It only reads. It serves this machine alone, unless --host names another address; then its own has a token.", [
+        word("--port", type=int, default=8017, metavar="N"), word("--host", default="127.0.0.1", metavar="ADDRESS")]),
     "export": Command(commands.export, "a branch for git, with a commit for each patch", "Without --to it is a stream for `git fast-import` on standard output.", [
         word("branch", nargs="?", metavar="BRANCH"), word("--to", metavar="FOLDER", help="a repository of git; it is made where there is none")]),
     "import": Command(commands.import_command, "the first parents of a commit of git, as patches",

@@ -492,7 +492,15 @@ def import_command(words: Words) -> int:
                 update = worktree.Update(copy.top, copy.state.base(), copy.own_files())
                 update.install()
                 copy.state.set_base(update.after)
-                copy.publish(copy.shared.names(copy.own)[-1:])
+                copy.publish(copy.shared.missing(copy.own, copy.branch))
             emit("{} of {} commits came in".format(count, len(commits.notes)))
         tell(copy)
     return 0
+
+
+def web(words: Words) -> int:
+    try:
+        from .web import serve
+    except ImportError as error:
+        raise Failure("the page needs {}: apt-get install python3-aiohttp python3-jinja2, and run campvc with /usr/bin/python3".format(error.name), 128) from None
+    return serve(words.port, words.host)

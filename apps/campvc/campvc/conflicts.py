@@ -13,15 +13,16 @@ from .copy import Copy
 START, SIDE, END = b"<<<<<<< ", b"======= ", b">>>>>>> "
 
 
-def hunks_of(copy: Copy, path: str) -> List[bytes | Hunk]:
+def hunks_of(copy: Copy, path: str, branch: str = "") -> List[bytes | Hunk]:
     """The lines of a file, and hunks where unresolved sides differ. A file that is not there is one hunk of the sides that add it."""
-    found = copy.shared.marks(copy.own, path)
+    branch = branch or copy.own
+    found = copy.shared.marks(branch, path)
     if found is not None:
         return list(found)
     sides = []
-    for name in dict.fromkeys(name for pair in copy.unresolved(copy.own).get(path, []) for name in pair):
+    for name in dict.fromkeys(name for pair in copy.unresolved(branch).get(path, []) for name in pair):
         lines: Optional[List[bytes]] = None
-        for change in copy.shared.side(copy.own, name):
+        for change in copy.shared.side(branch, name):
             lines = apply(lines, change) if change.path == path else lines
         if lines is not None:
             sides.append(HunkSide(name, lines))

@@ -76,7 +76,7 @@ def needs_of(copy: Copy, branch: str) -> Dict[str, List[str]]:
     return needs
 
 
-Row = Tuple[str, int, List[str], List[str]]
+Row = Tuple[str, int, List[str], List[str], bool]
 
 
 def lanes(needs: Dict[str, List[str]]) -> Iterator[Row]:
@@ -86,13 +86,13 @@ def lanes(needs: Dict[str, List[str]]) -> Iterator[Row]:
         before = waiting if name in waiting else [*waiting, name]
         at = before.index(name)
         after = before[:at] + [it for it in reversed(needs[name]) if it not in before] + before[at + 1:]
-        yield name, at, before, after
+        yield name, at, before, after, name in waiting
         waiting = after
 
 
 def joints(row: Row, needs: List[str]) -> str:
     """The line between a row and the next one: where each lane goes."""
-    _, at, before, after = row
+    _, at, before, after, _ = row
     moves = [(lane, after.index(name)) for lane, name in enumerate(before) if lane != at] + [(at, after.index(name)) for name in needs]
     cells = [" "] * (2 * max([1, len(before), len(after)]))
     for start, end in moves:
@@ -114,7 +114,7 @@ def print_log(copy: Copy, branch: str, only: Optional[List[str]] = None, with_gr
         return
     needs = needs_of(copy, branch)
     for row in lanes(needs):
-        name, at, before, _ = row
+        name, at, before, _, _ = row
         note, state = copy.note(name), states.get(name, "")
         marks = " ".join("*" if lane == at else "|" for lane in range(len(before)))
         emit("{} {}  {}{}".format(marks, name, note.title, note.who and " ({})".format(note.who)) + (state and "  [{}]".format(state)))
