@@ -8,7 +8,9 @@ import sqlite3
 import sys
 from typing import Callable, List, NamedTuple, Optional, Tuple
 
-from camp import Refused
+from camp import BranchExists, Depends, Diverged, NoBranch, NoMerge, NoPatch, Refused, TooLarge
+from camp.coding import Unheld
+from camp.shared import LogRefused
 
 from . import Failure, commands
 from .show import warn
@@ -80,6 +82,12 @@ COMMANDS = {
             word("repository", metavar="FOLDER", help="a repository of git"), word("commit", nargs="?", default="HEAD", metavar="COMMIT")]),
 }
 
+HINTS = {
+    NoBranch: "`campvc branches` lists them", NoPatch: "`campvc log` lists them", BranchExists: "take another name",
+    TooLarge: "a branch holds 4,096 changes and a repository 256 branches: split the patch, or begin another repository",
+    Depends: "name both", Diverged: "take it out in one of them, with what needs it, and pull again", NoMerge: "pull without the one, or take the other out",
+}
+
 
 def parser() -> Parser:
     top = Parser(prog="campvc", description="A small version control system over camp.", epilog="campvc COMMAND --help says more of a command.")
@@ -101,8 +109,11 @@ def main(words: Optional[List[str]] = None) -> int:
         warn(str(failure))
         return failure.status
     except Refused as refused:
-        warn("{}. Nothing has changed".format(refused))
+        warn("{}: {}".format(refused, HINTS.get(type(refused), "nothing has changed")))
         return 1
+    except (Unheld, LogRefused) as error:
+        warn("{}; nothing has changed".format(error))
+        return 128
     except KeyboardInterrupt:
         warn("interrupted: `campvc status` shows where you are")
         return 130

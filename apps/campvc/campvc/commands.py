@@ -12,12 +12,12 @@ import sys
 from typing import List, Optional
 
 from camp import Change, Edit, Hunk, NoBranch, Remove, diff
-from camp.changes import command, record_command
+from camp.changes import apply, command, record_command
+from camp.coding import PLAIN, File, Files, Tree, decode, encode, encode_path, file_name, plain_path
 
 from . import Failure, git, notes, show, worktree
-from .coding import PLAIN, File, Files, Tree, decode, encode, encode_path, plain_path
-from .conflicts import apply, by_file, check_marks, decisions, hunks_of, marked, taken
-from .copy import Copy, file_name, reading, uninterrupted, writing
+from .conflicts import by_file, check_marks, decisions, hunks_of, marked, taken
+from .copy import Copy, reading, uninterrupted, writing
 from .show import emit, listed, warn
 from .state import State
 from .worktree import text

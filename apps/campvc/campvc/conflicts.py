@@ -4,10 +4,11 @@ from __future__ import annotations
 
 from typing import Dict, List, Optional
 
-from camp import Add, Change, Edit, Hunk, HunkSide, Remove
+from camp import Add, Change, Edit, Hunk, HunkSide, Remove, Tree
+from camp.changes import apply
+from camp.coding import file_name
 
 from . import Failure
-from .coding import Tree
 from .copy import Copy
 
 START, SIDE, END = b"<<<<<<< ", b"======= ", b">>>>>>> "
@@ -27,14 +28,6 @@ def hunks_of(copy: Copy, path: str, branch: str = "") -> List[bytes | Hunk]:
         if lines is not None:
             sides.append(HunkSide(name, lines))
     return [Hunk([], sides)]
-
-
-def apply(lines: Optional[List[bytes]], change: Change) -> Optional[List[bytes]]:
-    """The lines of a file after a change of it; None where there is no file."""
-    if isinstance(change, Edit):
-        at = change.line - 1
-        return (lines or [])[:at] + list(change.new) + (lines or [])[at + len(change.old):]
-    return [] if isinstance(change, Add) else None
 
 
 def marked(copy: Copy, hunks: List[bytes | Hunk]) -> List[bytes]:
@@ -109,7 +102,6 @@ def _same(path: str, at: int, lines: List[bytes]) -> List[Change]:
 
 def by_file(copy: Copy) -> Dict[bytes, List[str]]:
     """The paths of camp that are in conflict, by the files that they are about."""
-    from .copy import file_name
     found: Dict[bytes, List[str]] = {}
     for path in copy.unresolved(copy.own):
         found.setdefault(file_name(path), []).append(path)

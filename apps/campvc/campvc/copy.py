@@ -10,18 +10,18 @@ import contextlib
 import os
 import signal
 import sqlite3
-from typing import Dict, Iterator, List, Sequence, Set
+from typing import Dict, Iterator, List, Sequence, Set, Tuple
 
 from camp import Conflict, NoBranch, OutcomeUnknown
 from camp.changes import command
+from camp.coding import Files, decode
 from camp.errors import error_of
-from camp.logs import Away, Damaged, Foreign, open_log
+from camp.logs import Away, Damaged, Foreign, RememberedLog, open_log
 from camp.shared import Shared, Stopped
 
 from . import Failure, worktree
-from .coding import Files, decode, decode_path, plain_path
 from .notes import Note, read_note
-from .state import Calls, SeenLog, State, locked
+from .state import Calls, State, locked
 
 # Refusals of a call that waited which say that it was done already: the branch or the patch is there, or is gone.
 DONE_ALREADY = ("5", "6", "7", "8")
@@ -72,12 +72,15 @@ class Copy:
 
     def open(self, engine) -> None:
         """Reads what is known, and from an engine what is new."""
-        self.log = SeenLog(self.state, engine)
+        self.log = RememberedLog(os.path.join(os.fsdecode(self.top), ".camp", "seen.db"), engine)
         self.shared = Shared(self.log)
-        self.log.check(self.address)
         self.shared.sync()
         if engine is None:
             self.shared.execute_here(self.state.waiting())
+
+    def version(self) -> Tuple[int, Calls]:
+        """A value that changes when another command changes what is shown."""
+        return self.log.known(), self.state.waiting()
 
     def close(self) -> None:
         self.shared.close()
@@ -87,6 +90,7 @@ class Copy:
         """Asks the log for what is new, and for all that waits."""
         try:
             engine = connection(self.address, self.log.known() > 0)
+            self.close()
             self.open(engine)
             self.away = ""
             self._send(self.state.waiting())
@@ -94,7 +98,7 @@ class Copy:
             self.go_offline(str(error))
 
     def go_offline(self, why: str) -> None:
-        self.log.close()
+        self.close()
         self.away = why
         self.open(None)
 
@@ -134,7 +138,7 @@ class Copy:
 
     def publish(self, names: Sequence[str]) -> None:
         """Pulls patches of the own branch into the one that all share. Where that is refused they stay here."""
-        listed = self.shared.along(self.own, self.branch, names)
+        listed = self.shared.along(self.own, self.branch, names) if names else []
         if listed:
             (answer,) = self.write([(command("pull", self.own, self.branch, *listed), b"")])
             if not answer.startswith(b"ok"):
@@ -208,11 +212,6 @@ class Copy:
         return found
 
 
-def file_name(path: str) -> bytes:
-    """The name of the file that a path of camp is about."""
-    return decode_path(plain_path(path)) or path.encode()
-
-
 def connection(address: str, is_known: bool):
     """The engine at an address, or what says that it is not there."""
     kind, _, path = address.partition(":")
@@ -232,7 +231,7 @@ def named_troubles(address: str) -> Iterator[None]:
     try:
         yield
     except Foreign as error:
-        raise Failure("{}: name a log of campvc, or a file that does not exist yet".format(error), 128) from None
+        raise Failure("the log {}: {}; correct the address, or ask who keeps it".format(address, error), 128) from None
     except (Damaged, Stopped) as error:
         raise Failure("the log {} can't be read further: {}; ask who keeps it to put back what stood there".format(address, error), 128) from None
 

@@ -11,11 +11,11 @@ import subprocess
 from datetime import datetime
 from typing import BinaryIO, Dict, Iterator, List, Tuple
 
-from camp.changes import record_command
+from camp import Add, Remove, Tree
+from camp.changes import apply, record_command
+from camp.coding import SUBMODULE, File, Files, decode, encode
 
 from . import Failure
-from .coding import SUBMODULE, File, Files, Tree, decode, encode
-from .conflicts import apply
 from .copy import Copy
 from .notes import Note
 from .state import Calls
@@ -121,7 +121,6 @@ def _blob(asked: BinaryIO, answered: BinaryIO, blob: bytes) -> bytes:
 
 def calls(copy: Copy, commits: Commits, file_changes, groups) -> Iterator[Calls]:
     """The records of each commit that the branch lacks. One that changes nothing adds and removes a file `%e/ID`, so that it has a name."""
-    from camp import Add, Remove
     there, tree = set(copy.shared.names(copy.own)), copy.shared.tree(copy.own) if not commits.notes.keys() & set(copy.shared.names(copy.own)) else None
     if tree:
         raise Failure("{} has files already: import into a branch without, as of a new repository".format(copy.branch))

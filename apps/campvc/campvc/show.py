@@ -8,9 +8,9 @@ import sys
 from typing import Dict, Iterable, Iterator, List, Optional, Tuple
 
 from camp import Add, Change, Edit
+from camp.coding import EXECUTABLE, LINK, MODE, NO_END, PIECES, PLAIN, SUBMODULE, File, Files, file_name
 
-from .coding import EXECUTABLE, LINK, MODE, NO_END, PIECES, PLAIN, SUBMODULE, File, Files
-from .copy import Copy, file_name
+from .copy import Copy
 from .notes import Note
 from .worktree import changed, text
 

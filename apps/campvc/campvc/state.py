@@ -1,5 +1,5 @@
-"""What a working copy keeps beside its files, in `.camp/state.db`: the entries of the log that it has read, what waits for the
-log, the tree that its files were last brought to, and settings."""
+"""What a working copy keeps beside its files, in `.camp/state.db`: what waits for the log, the tree that its files were last brought
+to, and settings."""
 
 from __future__ import annotations
 
@@ -8,17 +8,15 @@ import fcntl
 import os
 import sqlite3
 import time
-from typing import Iterator, List, Optional, Tuple
+from typing import Iterator, List, Tuple
 
-from camp.logs import Away, Log, Outcome
+from camp.coding import File, Files
 
 from . import Failure
-from .coding import File, Files
 from .worktree import changed
 
 TABLES = """
 CREATE TABLE IF NOT EXISTS settings (key TEXT PRIMARY KEY, value TEXT NOT NULL);
-CREATE TABLE IF NOT EXISTS entries (at INTEGER PRIMARY KEY, text BLOB NOT NULL);
 CREATE TABLE IF NOT EXISTS waiting (at INTEGER PRIMARY KEY, call BLOB NOT NULL, note BLOB NOT NULL);
 CREATE TABLE IF NOT EXISTS base (path BLOB PRIMARY KEY, mode TEXT NOT NULL, content BLOB NOT NULL);
 """
@@ -58,10 +56,6 @@ class State:
     def set(self, key: str, value: str) -> None:
         self.db.execute("INSERT OR REPLACE INTO settings VALUES (?, ?)", (key, value))
 
-    def version(self) -> Tuple[int, int]:
-        """A value that changes when another process writes what is shown."""
-        return (self.db.execute("SELECT count(*) FROM entries").fetchone()[0], self.db.execute("SELECT coalesce(max(at), 0) FROM waiting").fetchone()[0])
-
     def waiting(self) -> Calls:
         return [(row[0], row[1]) for row in self.db.execute("SELECT call, note FROM waiting ORDER BY at")]
 
@@ -79,45 +73,6 @@ class State:
                     self.db.execute("INSERT OR REPLACE INTO base VALUES (?, ?, ?)", (path, *files[path]))
                 else:
                     self.db.execute("DELETE FROM base WHERE path = ?", (path,))
-
-
-class SeenLog:
-    """A log, and what of it was read before. Without an engine it has just that."""
-
-    def __init__(self, state: State, engine: Optional[Log] = None) -> None:
-        self.state, self.engine = state, engine
-
-    def append(self, tag: str, text: bytes) -> Outcome:
-        if self.engine is None:
-            raise Away("there is no connection")
-        return self.engine.append(tag, text)
-
-    def read(self, index: int, wait: float = 0.0) -> List[bytes]:
-        known = [row[0] for row in self.state.db.execute("SELECT text FROM entries WHERE at >= ? ORDER BY at LIMIT 1024", (index,))]
-        if known or self.engine is None:
-            return known
-        found = self.engine.read(index, wait)
-        self.state.db.executemany("INSERT OR IGNORE INTO entries VALUES (?, ?)", enumerate(found, index))
-        return found
-
-    def known(self) -> int:
-        return self.state.db.execute("SELECT count(*) FROM entries").fetchone()[0]
-
-    def length(self) -> int:
-        return self.engine.length() if self.engine else self.known()
-
-    def check(self, address: str) -> None:
-        """A `Failure` unless the engine has what was read last."""
-        last = self.known() - 1
-        if last < 0 or self.engine is None:
-            return
-        mine = self.state.db.execute("SELECT text FROM entries WHERE at = ?", (last,)).fetchone()[0]
-        if self.engine.length() <= last or (found := self.engine.read(last, 1.0)) and found[0] != mine:
-            raise Failure("the log {} is not the one that this copy has read: was it replaced, or cut? Ask who keeps it, or clone anew".format(address), 128)
-
-    def close(self) -> None:
-        if self.engine:
-            self.engine.close()
 
 
 @contextlib.contextmanager

@@ -14,12 +14,12 @@ from typing import Any, Dict, List, Tuple
 import jinja2
 from aiohttp import web
 
-from camp import Add, Edit, Hunk, NoBranch, NoPatch, Remove
+from camp import Edit, Hunk, NoBranch, NoPatch
+from camp.coding import encode_path, file_name
 
 from . import Failure, show
-from .coding import encode_path
 from .conflicts import hunks_of
-from .copy import Copy, file_name, find_top
+from .copy import Copy, find_top
 from .worktree import text
 
 LOOPBACK = ("127.0.0.1", "::1", "localhost")
@@ -42,7 +42,7 @@ class Page:
 
     def __init__(self, top: bytes, token: str) -> None:
         self.top, self.token, self.copy = top, token, Copy(top)
-        self.version = self.copy.state.version()
+        self.version = self.copy.version()
         self.templates = jinja2.Environment(loader=jinja2.FileSystemLoader(os.path.join(HERE, "templates")), autoescape=True, trim_blocks=True, lstrip_blocks=True)
         self.templates.filters["readable"] = readable
 
@@ -81,10 +81,10 @@ class Page:
 
     def now(self) -> Copy:
         """The working copy as it is now."""
-        if self.copy.state.version() != self.version:
+        if self.copy.version() != self.version:
             self.copy.close()
             self.copy = Copy(self.top)
-            self.version = self.copy.state.version()
+            self.version = self.copy.version()
         return self.copy
 
     def render(self, template: str, status: int = 200, **values: Any) -> web.Response:

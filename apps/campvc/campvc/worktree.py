@@ -8,8 +8,9 @@ import stat
 from fnmatch import fnmatchcase
 from typing import Dict, Iterator, List, Optional, Set
 
+from camp.coding import EXECUTABLE, LINK, PLAIN, SUBMODULE, File, Files
+
 from . import Failure
-from .coding import EXECUTABLE, LINK, PLAIN, SUBMODULE, File, Files
 
 OWN = b".camp"
 # Names that are never files of a tree: what stands there is of this program or of git.

@@ -12,7 +12,7 @@ import os
 import sqlite3
 import threading
 import time
-from typing import List, Protocol
+from typing import List, Optional, Protocol
 
 TITLE = b"camp log 1\n"
 TIMEOUT = 0.5
@@ -136,6 +136,52 @@ class SqliteLog:
         if hasattr(self._local, "base"):
             self._local.base.close()
             del self._local.base
+
+
+class RememberedLog:
+    """A log, and what of it was read before, in a SQLite file. Without an engine it has just that, and appends nothing."""
+
+    def __init__(self, path: str, engine: Optional[Log] = None):
+        self.engine = engine
+        self._base = sqlite3.connect(os.fspath(path), timeout=10.0, isolation_level=None, check_same_thread=False)
+        self._base.execute("CREATE TABLE IF NOT EXISTS entries (at INTEGER PRIMARY KEY, text BLOB NOT NULL)")
+        self._check()
+
+    def known(self) -> int:
+        """How many entries were read before."""
+        return self._base.execute("SELECT count(*) FROM entries").fetchone()[0]
+
+    def _check(self) -> None:
+        """`Foreign` where the engine does not have what was read last."""
+        last = self.known() - 1
+        if last < 0 or self.engine is None:
+            return
+        found = self.engine.read(last, 1.0) if self.engine.length() > last else []
+        if found[:1] != [row[0] for row in self._base.execute("SELECT text FROM entries WHERE at = ?", (last,))]:
+            raise Foreign("this log is another one than that which was read before, or it was cut")
+
+    def append(self, tag: str, text: bytes) -> Outcome:
+        if self.engine is None:
+            raise Away("there is no connection")
+        return self.engine.append(tag, text)
+
+    def read(self, index: int, wait: float = 0.0) -> List[bytes]:
+        known = [row[0] for row in self._base.execute("SELECT text FROM entries WHERE at >= ? ORDER BY at LIMIT 1024", (index,))]
+        if known or self.engine is None:
+            return known
+        found = self.engine.read(index, wait)
+        self._base.execute("BEGIN")
+        self._base.executemany("INSERT OR IGNORE INTO entries VALUES (?, ?)", enumerate(found, index))
+        self._base.execute("COMMIT")
+        return found
+
+    def length(self) -> int:
+        return self.engine.length() if self.engine else self.known()
+
+    def close(self) -> None:
+        self._base.close()
+        if self.engine:
+            self.engine.close()
 
 
 def _patiently(ask, tries: int = 20):

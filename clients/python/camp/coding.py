@@ -1,4 +1,4 @@
-"""Files with modes and any bytes as files of lines of camp, and back: `decode(encode(files)) == files`.
+"""Files with modes and any bytes as files of lines, which camp has, and back: `decode(encode(files)) == files`.
 
 | A file has | camp has |
 |---|---|
@@ -13,13 +13,16 @@ from __future__ import annotations
 import re
 from typing import Dict, List, NamedTuple, Optional
 
-from . import Failure
+from .answers import Tree
+from .errors import Error
 
 MAX_LINE, MAX_PIECE, MAX_LINES, MAX_PATH = 4_096, 4_095, 1_000_000, 200
 PLAIN, EXECUTABLE, LINK, SUBMODULE = "100644", "100755", "120000", "160000"
 MODE, NO_END, PIECES = "%m/", "%n/", "%w/"
 
-Tree = Dict[str, List[bytes]]
+
+class Unheld(Error):
+    """A file that camp can't hold: its path or its number of lines is over a limit. The words say which."""
 
 
 class File(NamedTuple):
@@ -42,13 +45,18 @@ def decode_path(path: str) -> Optional[bytes]:
     return found if encode_path(found) == path else None
 
 
+def file_name(path: str) -> bytes:
+    """The path of the file that a path of camp is about."""
+    return decode_path(plain_path(path)) or path.encode("ascii")
+
+
 def plain_path(path: str) -> str:
     """The path of the file that a path of camp is about, also where that says its mode or its end."""
     return path[3:] if path[:3] in (MODE, NO_END, PIECES) else path
 
 
 def encode(files: Files) -> Tree:
-    """The tree of camp for files; a `Failure` names the file that it can't hold."""
+    """The tree of camp for files; `Unheld` names the file that it can't hold."""
     tree: Tree = {}
     for name, file in sorted(files.items()):
         path, lines = encode_path(name), file.content.split(b"\n")
@@ -59,10 +67,9 @@ def encode(files: Files) -> Tree:
         said = {MODE: [file.mode.encode()] if file.mode != PLAIN else None, NO_END: None if has_end else [], PIECES: [] if is_long else None}
         tree.update({kind + path: value for kind, value in said.items() if value is not None})
         if len(path) + len(MODE) > MAX_PATH:
-            raise Failure("{}: its path has over {} bytes as camp writes it: give it a shorter one, or list it in .campignore"
-                          .format(path, MAX_PATH - len(MODE)), 128)
+            raise Unheld("{}: its path has over {} bytes as camp writes it".format(path, MAX_PATH - len(MODE)))
         if len(tree[path]) > MAX_LINES:
-            raise Failure("{}: it has over {:,} lines: split it, or list it in .campignore".format(path, MAX_LINES), 128)
+            raise Unheld("{}: it has over {:,} lines".format(path, MAX_LINES))
     return tree
 
 
