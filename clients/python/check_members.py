@@ -15,7 +15,7 @@ import time
 
 from camp import Repository
 from camp.logs import Outcome, open_log
-from camp.shared import CALLS, NOT_READ, NOT_TAKEN, Member, Stopped, calls_of, turn
+from camp.shared import CALLS, NOT_READ, NOT_TAKEN, Member, Stopped, calls_of, turn, what_if
 
 NO_REPLY = (b"stopped\n", NOT_READ, NOT_TAKEN)
 Asked = collections.namedtuple("Asked", "seat turn call at_least asked")
@@ -205,7 +205,7 @@ class Replay:
         self.histories[index] = session.ask(b"history\n")
         for call in questions.get(index, ()):
             question = call.split()[0] not in CALLS
-            self.at_index[index, call] = session.ask(call) if question else session.ask(b"whatif " + call).split(b"\n", 2)[1] + b"\n"
+            self.at_index[index, call] = session.ask(call) if question else what_if(session, call)
 
 
 def check(run, texts):

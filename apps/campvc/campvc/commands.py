@@ -18,7 +18,7 @@ from camp.coding import PLAIN, File, Files, Tree, decode, encode, encode_path, f
 from . import Failure, git, notes, show, worktree
 from .conflicts import by_file, check_marks, decisions, hunks_of, marked, taken
 from .copy import Copy, reading, uninterrupted, writing
-from .show import emit, listed, warn
+from .show import counted, emit, listed, warn
 from .state import State
 from .worktree import text
 
@@ -36,7 +36,7 @@ def new_copy(folder: bytes, address: str, name: Optional[str], branch: str, must
         raise Failure("there is no log {}: `campvc init --log {}` makes one".format(path, address), 128)
     author = notes.default_author()
     name = name or os.environ.get("CAMPVC_COPY") or "{}-{}".format(notes.slug(author.split(" ")[0], 10), secrets.token_hex(2))
-    if notes.slug(name, 12) != name or "--" in name:
+    if notes.slug(name, 12) != name:
         raise Failure("{} is no name of a copy: take up to 12 of a to z, 0 to 9 and `-`".format(name), 128)
     is_new = not os.path.isdir(top)
     os.makedirs(os.path.join(top, b".camp"))
@@ -89,11 +89,12 @@ def status(words: Words) -> int:
         emit("on branch {} (copy {})".format(copy.branch, copy.name))
         if copy.own not in copy.shared.branches():
             raise Failure("this copy is not complete: `campvc sync` completes it", 128)
-        for count, what in ((len(copy.state.waiting()), "waits for the log: `campvc sync` sends it"),
-                            (len(copy.shared.missing(copy.branch, copy.own)), "in {} is not here: `campvc sync` takes it over".format(copy.branch)),
-                            (len(copy.shared.missing(copy.own, copy.branch)), "here is not in {}: taken out there, or not accepted".format(copy.branch))):
-            if count:
-                emit("  {} {} {}".format(count, "call" if "waits" in what else "patch" if count == 1 else "patches", what))
+        here, there = copy.shared.missing(copy.own, copy.branch), copy.shared.missing(copy.branch, copy.own)
+        for count, what in ((counted(len(copy.state.waiting()), "call"), "wait for the log: `campvc sync` sends them"),
+                            (counted(len(there), "patch"), "of {} not here: `campvc sync` takes over".format(copy.branch)),
+                            (counted(len(here), "patch"), "here not in {}: taken out there, or not accepted; see `campvc sync`".format(copy.branch))):
+            if not count.startswith("0 "):
+                emit("  {} {}".format(count, what))
         base = copy.state.base()
         if base != copy.own_files():
             emit("  a command was interrupted: `campvc sync` finishes it")
@@ -190,7 +191,7 @@ def record_changes(copy: Copy, parts: List[List[Change]], note: notes.Note) -> N
         copy.ask_all([(record_command(copy.own, one, part), note.text()) for one, part in zip(names, parts)])
         copy.state.set_base(copy.own_files())
         copy.publish(names)
-    emit("recorded {}{}".format(name, " in {} patches".format(len(names)) * (len(names) > 1)))
+    emit("recorded {}{}".format(name, " in {} patches".format(len(names)) if len(names) > 1 else ""))
     if any(set(pair) & set(names) for pair in set(copy.shared.open(copy.branch)) - others):
         emit("in {} it is in conflict with what others recorded: `campvc sync` takes that over".format(copy.branch))
 
@@ -281,14 +282,15 @@ def branches(words: Words) -> int:
         for name in copy.shared.branches():
             if words.all or "--" not in name:
                 count, pairs = len(copy.shared.names(name)), len(copy.shared.open(name))
-                emit("{} {}  {} patches{}".format("*" if name == copy.branch else " ", name, count, ", {} unresolved conflicts".format(pairs) * bool(pairs)))
+                more = ", " + counted(pairs, "unresolved conflict") if pairs else ""
+                emit("{} {}  {}{}".format("*" if name == copy.branch else " ", name, counted(count, "patch"), more))
     return 0
 
 
 def branch(words: Words) -> int:
     with writing() as copy:
-        if "--" in words.name or len(copy.own_of(words.name)) > 40:
-            raise Failure("{}: a branch has a name without `--` and of at most {} letters, digits and `-`".format(words.name, 38 - len(copy.name)))
+        if notes.slug(words.name, 38 - len(copy.name)) != words.name:
+            raise Failure("{} is no name of a branch: take up to {} of a to z, 0 to 9 and `-`".format(words.name, 38 - len(copy.name)))
         copy.ask("branch", words.name, copy.own)
         emit("branch {} is as {} is here; `campvc switch {}` works on it".format(words.name, copy.branch, words.name))
         tell(copy)
@@ -309,8 +311,8 @@ def switch(words: Words) -> int:
             copy.state.set("branch", words.name)
             update.install()
             copy.state.set_base(update.after)
-        lacks = len(copy.shared.missing(copy.branch, copy.own))
-        emit("on branch {}{}".format(copy.branch, "; {} patches there are not here: `campvc sync` takes them over".format(lacks) * bool(lacks)))
+        lacks = copy.shared.missing(copy.branch, copy.own)
+        emit("on branch {}{}".format(copy.branch, "; {} of it not here: `campvc sync` takes over".format(counted(len(lacks), "patch")) if lacks else ""))
         tell(copy)
     return 0
 
@@ -353,7 +355,7 @@ def sync(words: Words) -> int:
     with writing() as copy:
         names, status = copy.shared.missing(copy.branch, copy.own), 0
         if names:
-            copy.check_clean("{} patches of {} are not taken over".format(len(names), copy.branch))
+            copy.check_clean("{} of {} not taken over".format(counted(len(names), "patch"), copy.branch))
             status = take(copy, copy.branch, names, True, False)
         lacks = copy.shared.missing(copy.own, copy.branch)
         if lacks and words.publish:
@@ -459,7 +461,7 @@ def write_sides(copy: Copy, path: bytes, places: List[str], name: Optional[str],
             return
         lines = marked(copy, hunks)
         files[path] = File(files[path].mode if path in files else PLAIN, b"".join(line + b"\n" for line in lines))
-        emit("{}: {} places".format(text(path), sum(isinstance(hunk, Hunk) for hunk in hunks)))
+        emit("{}: {}".format(text(path), counted(sum(isinstance(hunk, Hunk) for hunk in hunks), "place")))
     else:
         emit("{}: the sides differ in its mode or its end: make it as it is to be, and record".format(text(path)))
 

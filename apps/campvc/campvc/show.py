@@ -42,6 +42,11 @@ def ask(question: str) -> str:
     return line.strip().lower()
 
 
+def counted(count: int, what: str) -> str:
+    """A number of things: `1 patch`, `2 patches`."""
+    return "{} {}{}".format(count, what, "" if count == 1 else "es" if what.endswith("ch") else "s")
+
+
 def listed(names: Iterable[str]) -> str:
     return ", ".join(names)
 

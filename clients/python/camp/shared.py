@@ -21,7 +21,7 @@ from __future__ import annotations
 import collections
 import secrets
 import time
-from typing import Any, Deque, Dict, Iterable, List, NamedTuple, Optional, Sequence, Tuple
+from typing import Any, Deque, Dict, List, NamedTuple, Optional, Sequence, Tuple
 
 from .answers import AcceptedCall, Answer
 from .changes import Change, Text, record_command, to_bytes
@@ -79,6 +79,12 @@ def calls_of(body: bytes) -> List[Tuple[bytes, bytes]]:
     return calls
 
 
+def what_if(repository: Repository, call: bytes) -> bytes:
+    """The answer that a call would have now."""
+    lines = repository.ask(b"whatif " + call).split(b"\n", 2)
+    return lines[1 if lines[0].startswith(b"whatif") else 0] + b"\n"
+
+
 class Member:
     """Decides each entry of a log where it stands, each tag once. `answers` has (request, answer, place), in the order of requests;
     a place is an index of the log and which call of the entry, or for what was answered at what was read the index alone."""
@@ -116,7 +122,7 @@ class Member:
             if at_least > self.count and not self.stopped:
                 return
             question = call.split()[0] not in CALLS
-            answer = self.repository.ask(call) if question else self.repository.ask(b"whatif " + call).split(b"\n", 2)[1] + b"\n"
+            answer = self.repository.ask(call) if question else what_if(self.repository, call)
             if not question and answer.startswith(b"ok"):
                 if not self.stopped:
                     break
