@@ -72,6 +72,7 @@ COMMANDS = {
     "resolve": Command(commands.resolve, "write the sides of conflicts into the files, with marks", "Edit the files then, and `campvc record` decides. A file that still has marks is not recorded.", [
         PATHS, word("--take", metavar="PATCH", help="write the side of this patch, without marks")]),
     "sync": Command(commands.sync, "send what waits, and take over what others published", "The working tree has to be clean if there is something to take over.", [
+        word("--log", default="", metavar="LOG", help="the log is at this address from now on"),
         word("--publish", action="store_true", help="put patches that are here alone into the branch that all share")]),
     "web": Command(commands.web, "a page of branches, patches, files and conflicts", "It only reads. It serves this machine alone, unless --host names another address; then its own has a token.", [
         word("--port", type=int, default=8017, metavar="N"), word("--host", default="127.0.0.1", metavar="ADDRESS")]),

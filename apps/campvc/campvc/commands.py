@@ -9,11 +9,11 @@ import os
 import secrets
 import shutil
 import sys
-from typing import List, Optional
+from typing import Iterable, List, Optional
 
 from camp import Change, Edit, Hunk, NoBranch, Remove, diff
 from camp.changes import apply, command, record_command
-from camp.coding import PLAIN, File, Files, Tree, decode, encode, encode_path, file_name, plain_path
+from camp.coding import PLAIN, File, Files, Tree, decode, encode, encode_path, plain_path
 
 from . import Failure, git, notes, show, worktree
 from .conflicts import by_file, check_marks, decisions, hunks_of, marked, taken
@@ -98,8 +98,8 @@ def status(words: Words) -> int:
         base = copy.state.base()
         if base != copy.own_files():
             emit("  a command was interrupted: `campvc sync` finishes it")
-        for path, pairs in copy.unresolved(copy.own).items():
-            emit("  conflict in {}: {}".format(text(file_name(path)), "; ".join("{} and {}".format(*pair) for pair in pairs)), show.RED)
+        for path, pairs in copy.unresolved_files(copy.own).items():
+            emit("  conflict in {}: {}".format(text(path), "; ".join("{} and {}".format(*pair) for pair in pairs)), show.RED)
         files = copy.scan()
         for path in worktree.changed(base, files):
             kind = "new" if path not in base else "removed" if path not in files else "changed"
@@ -109,9 +109,8 @@ def status(words: Words) -> int:
     return 0
 
 
-def chosen(copy: Copy, paths: List[str], files: Files, base: Files) -> List[bytes]:
-    """The changed files at or below some paths, or all."""
-    found = worktree.changed(base, files)
+def chosen(copy: Copy, paths: List[str], found: List[bytes], known: Iterable[bytes]) -> List[bytes]:
+    """Those of some files that stand at or below some paths, or all; a path has to be one of what is known."""
     if not paths:
         return found
     some: List[bytes] = []
@@ -120,7 +119,7 @@ def chosen(copy: Copy, paths: List[str], files: Files, base: Files) -> List[byte
         if place.startswith(b".."):
             raise Failure("{} is outside of the repository".format(path), 128)
         below = [it for it in found if place == b"." or it == place or it.startswith(place + b"/")]
-        if not below and not any(it == place or it.startswith(place + b"/") for it in [*files, *base]) and place != b".":
+        if not below and not any(it == place or it.startswith(place + b"/") for it in known) and place != b".":
             raise Failure("{}: there is no such file here, and none was recorded".format(path))
         some += [it for it in below if it not in some]
     return sorted(some)
@@ -129,7 +128,7 @@ def chosen(copy: Copy, paths: List[str], files: Files, base: Files) -> List[byte
 def diff_command(words: Words) -> int:
     with reading() as copy:
         base, files = copy.state.base(), copy.scan()
-        show.print_diff(base, files, chosen(copy, words.paths, files, base))
+        show.print_diff(base, files, chosen(copy, words.paths, worktree.changed(base, files), {**files, **base}))
     return 0
 
 
@@ -159,7 +158,7 @@ def record(words: Words) -> int:
     with writing() as copy:
         base, files = copy.state.base(), copy.scan()
         in_conflict = {path: places for path, places in by_file(copy).items() if path in marked_files(copy)}
-        paths = sorted({*chosen(copy, words.paths, files, base), *([] if words.paths else in_conflict)})
+        paths = chosen(copy, words.paths, sorted({*worktree.changed(base, files), *in_conflict}), {**files, **base, **in_conflict})
         for path in paths:
             if path in files and path in marked_files(copy):
                 check_marks(text(path), files[path].content)
@@ -325,15 +324,15 @@ def take(copy: Copy, branch: str, names: List[str], yes: bool, publish: bool = T
     tell_all(copy, listed_names)
     if more and not agreed("{} of these come along, since the others need them. Pull all?".format(len(more)), yes):
         raise Failure("nothing is pulled")
-    before = copy.unresolved(copy.own)
+    before = copy.unresolved_files(copy.own)
     outcome = copy.shared.whatif.pull(branch, copy.own, listed_names)
     copy.bring([(command("pull", branch, copy.own, *listed_names), b"")], decode(outcome.tree))
     if publish:
         copy.publish(listed_names)
-    now = {path: [pair for pair in pairs if pair not in before.get(path, [])] for path, pairs in copy.unresolved(copy.own).items()}
+    now = {path: [pair for pair in pairs if pair not in before.get(path, [])] for path, pairs in copy.unresolved_files(copy.own).items()}
     for path, pairs in now.items():
         for pair in pairs:
-            emit("conflict in {}: {} and {}".format(text(file_name(path)), *pair), show.RED)
+            emit("conflict in {}: {} and {}".format(text(path), *pair), show.RED)
     if any(now.values()):
         emit("neither side of a conflict has an effect until it is decided: `campvc resolve` shows the sides in the files")
     return 1 if any(now.values()) else 0
@@ -352,7 +351,7 @@ def pull(words: Words) -> int:
 
 
 def sync(words: Words) -> int:
-    with writing() as copy:
+    with writing(absolute(words.log)) as copy:
         names, status = copy.shared.missing(copy.branch, copy.own), 0
         if names:
             copy.check_clean("{} of {} not taken over".format(counted(len(names), "patch"), copy.branch))
@@ -410,9 +409,9 @@ def take_out(words: Words, patches: List[str], keeps_files: bool) -> int:
 
 def conflicts(words: Words) -> int:
     with reading() as copy:
-        found = copy.unresolved(copy.own)
+        found = copy.unresolved_files(copy.own)
         for path, pairs in found.items():
-            emit(text(file_name(path)), show.BOLD)
+            emit(text(path), show.BOLD)
             for pair in pairs:
                 tell_all(copy, list(pair))
         emit("`campvc resolve` writes the sides into the files" if found else "nothing is in conflict")
@@ -423,13 +422,14 @@ def resolve(words: Words) -> int:
     """Writes marks, or one side, into files in conflict."""
     with writing() as copy:
         files, base, in_conflict = copy.scan(), copy.state.base(), by_file(copy)
-        named = {os.path.relpath(os.path.abspath(os.fsencode(path)), copy.top) for path in words.paths} or set(in_conflict)
+        name = words.take and copy.name_of(words.take)
+        sides = [path for path, pairs in copy.unresolved_files(copy.own).items() if not name or any(name in pair for pair in pairs)]
+        named = {os.path.relpath(os.path.abspath(os.fsencode(path)), copy.top) for path in words.paths} or set(sides)
         for path in sorted(named):
-            if path not in in_conflict:
-                raise Failure("{}: no conflict there is unresolved".format(text(path)))
+            if path not in sides:
+                raise Failure("{}: no conflict {}there is unresolved".format(text(path), "of {} ".format(name) if name else ""))
             if files.get(path) != base.get(path):
                 raise Failure("{} has changes that are not recorded: record them, or take them back, and try again".format(text(path)))
-        name = words.take and copy.name_of(words.take)
         after = dict(files)
         for path in sorted(named):
             write_sides(copy, path, in_conflict[path], name, after)

@@ -14,7 +14,7 @@ from typing import Dict, Iterator, List, Sequence, Set, Tuple
 
 from camp import Conflict, NoBranch, OutcomeUnknown
 from camp.changes import command
-from camp.coding import Files, decode
+from camp.coding import Files, decode, file_name
 from camp.errors import error_of
 from camp.logs import Away, Damaged, Foreign, RememberedLog, open_log
 from camp.shared import Shared, Stopped
@@ -211,6 +211,14 @@ class Copy:
                 found.setdefault(path, []).append(pair)
         return found
 
+    def unresolved_files(self, branch: str) -> Dict[bytes, List[Conflict]]:
+        """The unresolved conflicts, by the files that they are about."""
+        found: Dict[bytes, List[Conflict]] = {}
+        for path, pairs in self.unresolved(branch).items():
+            known = found.setdefault(file_name(path), [])
+            known += [pair for pair in pairs if pair not in known]
+        return dict(sorted(found.items()))
+
 
 def connection(address: str, is_known: bool):
     """The engine at an address, or what says that it is not there."""
@@ -245,10 +253,14 @@ def reading() -> Iterator[Copy]:
 
 
 @contextlib.contextmanager
-def writing() -> Iterator[Copy]:
-    """The working copy, locked, with all that the log has if it is there."""
+def writing(address: str = "") -> Iterator[Copy]:
+    """The working copy, locked, with all that the log has if it is there; the log is at another address from now on, if one is given."""
     top = find_top()
-    with locked(top), contextlib.closing(Copy(top)) as copy, named_troubles(copy.address):
-        copy.connect()
-        copy.recover()
-        yield copy
+    with locked(top), contextlib.closing(Copy(top)) as copy:
+        copy.address = address or copy.address
+        with named_troubles(copy.address):
+            copy.connect()
+        copy.state.set("log", copy.address)
+        with named_troubles(copy.address):
+            copy.recover()
+            yield copy

@@ -7,7 +7,7 @@ import re
 import sys
 from typing import Dict, Iterable, Iterator, List, Optional, Tuple
 
-from camp import Add, Change, Edit
+from camp import Add, Change, Edit, Remove
 from camp.coding import EXECUTABLE, LINK, MODE, NO_END, PIECES, PLAIN, SUBMODULE, File, Files, file_name
 
 from .copy import Copy
@@ -129,8 +129,11 @@ def print_log(copy: Copy, branch: str, only: Optional[List[str]] = None, with_gr
 
 
 def change_lines(changes: List[Change]) -> Iterator[Tuple[bytes, str]]:
-    """The lines of changes, each with its colour. What is said of a mode or an end is said in words."""
+    """The lines of changes, each with its colour. What is said of a mode or an end is said in words, unless the file goes."""
+    gone = {change.path for change in changes if isinstance(change, Remove)}
     for change in changes:
+        if change.path[:3] in (MODE, NO_END, PIECES) and change.path[3:] in gone:
+            continue
         name = file_name(change.path)
         shown, kind = text(name), change.path[:3]
         if kind in (MODE, NO_END, PIECES, "%e/"):
@@ -159,7 +162,7 @@ def print_diff(before: Files, after: Files, paths: Optional[List[bytes]] = None)
         emit("diff {}".format(text(path)), BOLD)
         if old and new and old.mode != new.mode:
             emit("{} becomes {}".format(KINDS[old.mode], KINDS[new.mode]))
-        elif (old or new).mode != PLAIN and not (old and new):
+        elif not (old and new):
             emit("{} {}".format("new" if new else "removed", KINDS[(new or old).mode]))
         if b"\0" in (old.content if old else b"") + (new.content if new else b""):
             emit("binary files differ")

@@ -138,7 +138,7 @@ class Page:
 
     async def conflicts(self, request: web.Request) -> web.Response:
         copy, branch = self.now(), request.match_info["branch"]
-        files = [(text(file_name(path)), path, pairs, places(hunks_of(copy, path, branch))) for path, pairs in copy.unresolved(branch).items()]
+        files = [(text(file_name(path)), encode_path(file_name(path)), pairs, places(hunks_of(copy, path, branch))) for path, pairs in copy.unresolved(branch).items()]
         return self.render("conflicts.html", branch=branch, files=files)
 
 

@@ -1,0 +1,281 @@
+"""campvc: sessions at a terminal, copies over SQLite and etcd, mishaps, git both ways, and its page in a browser.
+
+Words: coding, sessions, etcd, mishaps, git, page name parts; none: all. The library is found as golden/clients finds it. Etcd, git, chromium and
+a Python with aiohttp and jinja2 are skipped where they are missing. Pictures of the page are left in out/campvc.
+
+tests/data/campvc has the sessions. A line `session WORDS` begins one, in a folder of its own; `shared` among its words says that it is run over
+etcd too. A line `NAME$ COMMAND` is a command for bash in the folder NAME, by the author of this name; what it writes follows, and
+`[STATUS]` unless that is 0. LOG is the address of a log. In what is written the six digits of a patch's name stand as `#`, the folder of the
+session as FOLDER, and the address as LOG.
+"""
+
+import contextlib
+import json
+import os
+import random
+import re
+import shutil
+import signal
+import sys
+import tempfile
+import time
+
+from tests.harness import programs
+from tests.harness.clients import built_library
+from tests.harness.paths import DATA, TOP, read_text
+
+SECONDS, GATE = 90, "after camp_c"
+PARTS = ("coding", "sessions", "etcd", "mishaps", "git", "page")
+AUTHORS = {"anna": "Anna Berg <anna@example.org>", "ben": "Ben Ole <ben@example.org>"}
+DATE = "2026-11-30T03:00:00+00:00"
+COMMAND = re.compile(r"^(\w+)\$ (.*)$")
+PACKAGES = (f"{TOP}/clients/python", f"{TOP}/apps/campvc")
+
+
+def run(report, words):
+    library = built_library(report, makes=True)
+    if not library:
+        return
+    os.environ["CAMP_LIB_DIR"] = library
+    sys.path[:0] = PACKAGES
+    for name in words or PARTS:
+        with tempfile.TemporaryDirectory(prefix="campvc-") as folder:
+            globals()[name](report, folder)
+
+
+def environment(folder, who="anna", **more):
+    """The environment of a command: `campvc` is on the PATH, and names and dates are the same each time."""
+    own = {"PATH": f"{folder}/bin:{os.environ['PATH']}", "PYTHONPATH": ":".join(PACKAGES), "PYTHONDONTWRITEBYTECODE": "1", "HOME": folder,
+           "CAMPVC_COPY": who, "CAMPVC_AUTHOR": AUTHORS.get(who, who), "CAMPVC_DATE": DATE, "CAMPVC_PATIENCE": "1", "LC_ALL": "C.UTF-8"}
+    return {**os.environ, **own, **more}
+
+
+def prepare(folder):
+    """Puts a command `campvc` into a folder."""
+    os.makedirs(f"{folder}/bin", exist_ok=True)
+    with open(f"{folder}/bin/campvc", "w", encoding="utf-8") as file:
+        file.write(f"#!/bin/sh\nexec {sys.executable} -m campvc \"$@\"\n")
+    os.chmod(f"{folder}/bin/campvc", 0o755)
+
+
+def call(folder, who, command, **more):
+    """Runs a command of bash in the folder of somebody: its output with standard error, and its status."""
+    os.makedirs(f"{folder}/{who}", exist_ok=True)
+    return programs.run(["bash", "-c", f"exec 2>&1\n{command}"], cwd=f"{folder}/{who}", env=environment(folder, who, **more))
+
+
+# Coding.
+
+def random_files(chance):
+    """A tree of files: odd names, modes, links, lines of all lengths."""
+    from camp.coding import EXECUTABLE, LINK, PLAIN, SUBMODULE, File
+    letters = [bytes([it]) for it in (*range(1, 47), *range(48, 256))]
+    files = {}
+    for _ in range(chance.randrange(6)):
+        parts = [b"".join(chance.choices(letters, k=chance.randrange(1, 5))) for _ in range(chance.randrange(1, 4))]
+        content = b"\n".join(chance.choice((b"", b"a", b"\0\r", b"+", b"=", b"x" * chance.choice((4_095, 4_096, 4_097, 8_190, 9_000)))) for _ in range(chance.randrange(5)))
+        files[b"/".join(parts)] = File(chance.choice((PLAIN, PLAIN, EXECUTABLE, LINK, SUBMODULE)), content + chance.choice((b"", b"\n")))
+    return files
+
+
+def coding(report, folder):
+    """Trees of files come back as they were, camp takes their paths and lines, and what is too long is named."""
+    from camp import Add, Edit, Repository, diff
+    from camp.changes import apply
+    from camp.coding import File, PLAIN, Unheld, decode, encode
+    chance = random.Random(1)
+    for number in range(3_000):
+        files = random_files(chance)
+        tree = encode(files)
+        report.expect(f"tree {number}", decode(tree), files)
+        if number % 100 == 0:
+            record_tree(report, tree, Repository, Add, Edit)
+        path, old, new = "f", chance.choice((None, [b"a", b"b", b"c"])), [b"a", b"x", b"c"]
+        lines = old
+        for change in diff(path, old, new):
+            lines = apply(lines, change)
+        report.expect("apply", lines, new)
+        report.count("trees")
+    for name, content in ((b"x" * 198, b""), (b"\xff" * 67, b""), (b"x", b"\n" * 1_000_001)):
+        with contextlib.suppress(Unheld):
+            encode({name: File(PLAIN, content)})
+            report.fail(f"a file that camp can't hold is encoded: {name[:10]}")
+        report.count("files that are too long")
+
+
+def record_tree(report, tree, Repository, Add, Edit):
+    """A repository takes a tree, and answers it."""
+    with Repository() as repository:
+        for number, (path, lines) in enumerate(tree.items()):
+            repository.record("main", f"p{number}", [Add(path), *([Edit(path, 1, [], lines)] if lines else [])])
+        report.expect("tree of the repository", repository.tree("main"), tree)
+
+
+# Sessions.
+
+def sessions_of(text):
+    """The sessions of the table: their words, and steps of who, command and lines."""
+    found = []
+    for line in text.splitlines():
+        step = COMMAND.match(line)
+        if line.startswith("session "):
+            found.append((line.split()[1:], []))
+        elif step and found:
+            found[-1][1].append((step[1], step[2], []))
+        elif found and found[-1][1]:
+            found[-1][1][-1][2].append(line)
+    return found
+
+
+def shown(done, folder, address):
+    """What a command wrote, without what differs from run to run."""
+    text = done.stdout.decode("utf-8", "backslashreplace").replace(address, "LOG").replace(folder, "FOLDER")
+    lines = re.sub(r"(?<=[a-z0-9])-[0-9a-f]{6}\b", "-#", text).rstrip("\n").split("\n")
+    return [it for it in lines + [f"[{done.returncode}]"] * bool(done.returncode) if it or len(lines) > 1]
+
+
+def play(report, folder, title, steps, address):
+    """Runs the steps of a session, up to the first that writes something else."""
+    prepare(folder)
+    for who, command, wanted in steps:
+        while wanted and not wanted[-1]:
+            wanted.pop()
+        done = call(folder, who, command, LOG=address)
+        if not report.expect(f"{title}: {who}$ {command}", "\n".join(shown(done, folder, address)), "\n".join(wanted)):
+            return
+        report.count("commands")
+    report.count("sessions")
+
+
+def sessions(report, folder):
+    for number, (words, steps) in enumerate(sessions_of(read_text(f"{DATA}/campvc"))):
+        own = f"{folder}/{number}"
+        play(report, own, " ".join(words), steps, f"sqlite:{own}/log.db")
+
+
+@contextlib.contextmanager
+def etcd_servers(report, folder):
+    """The endpoints of three members of etcd, or None where it is missing."""
+    if not shutil.which("etcd"):
+        report.skip("etcd")
+        yield None
+        return
+    how = {"env": {**os.environ, "ETCD_DIR": f"{folder}/etcd"}}
+    started = programs.run([f"{TOP}/clients/etcd", "start"], **how)
+    try:
+        yield started.stdout.decode().strip() if report.expect("clients/etcd start", started.returncode, 0) else None
+    finally:
+        programs.run([f"{TOP}/clients/etcd", "stop"], **how)
+
+
+def etcd(report, folder):
+    """The shared sessions over three members of etcd; then all three are stopped, and started again."""
+    with etcd_servers(report, folder) as endpoints:
+        for number, (words, steps) in enumerate(sessions_of(read_text(f"{DATA}/campvc")) if endpoints else ()):
+            if "shared" in words:
+                play(report, f"{folder}/{number}", "etcd: " + " ".join(words), steps, f"etcd:{endpoints}/s{number}")
+
+
+# Mishaps.
+
+def tree_of(folder):
+    """What stands in a working tree: its files, their modes and bytes."""
+    found = {}
+    for place, folders, names in os.walk(folder):
+        folders[:] = [it for it in folders if it != ".camp"]
+        for name in names:
+            path = os.path.join(place, name)
+            with open(path, "rb") as file:
+                found[os.path.relpath(path, folder)] = (os.stat(path).st_mode & 0o777, file.read())
+    return found
+
+
+def mishaps(report, folder):
+    prepare(folder)
+    setup = "campvc init --log $LOG; seq 200 >f; for i in $(seq 60); do echo $i >g$i; done; campvc record -m 'Start'; campvc branch other; campvc switch other;" \
+            "sed -i s/100/hundred/ f; rm g1 g2; echo new >h; campvc record -m 'Other'; campvc switch main"
+    how = {"LOG": f"sqlite:{folder}/log.db"}
+    report.expect("setup", call(folder, "anna", setup, **how).returncode, 0)
+    interrupted(report, folder, how)
+    full_disk(report, folder, how)
+    at_once(report, folder, how)
+
+
+def interrupted(report, folder, how):
+    """Ctrl-C at any moment of a pull and of a taking out: after the next command the tree is one of the two."""
+    before = tree_of(f"{folder}/anna")
+    report.expect("a pull", call(folder, "anna", "campvc pull other", **how).returncode, 0)
+    after = tree_of(f"{folder}/anna")
+    commands, chance, ended = ["campvc obliterate other -y", "campvc pull other"], random.Random(1), 0
+    for number in range(24):
+        process = programs.start(["bash", "-c", f"exec {commands[number % 2]}"], cwd=f"{folder}/anna", env=environment(folder, **how), start_new_session=True)
+        time.sleep(chance.uniform(0.05, 0.45))
+        with contextlib.suppress(ProcessLookupError):
+            os.killpg(process.pid, signal.SIGINT)
+        _, error = process.communicate()
+        ended += process.returncode != 0
+        report.expect("what an interrupted command says", b"Traceback" in error, False)
+        report.expect("sync after Ctrl-C", call(folder, "anna", "campvc sync", **how).returncode, 0)
+        found = tree_of(f"{folder}/anna")
+        report.expect("the tree after Ctrl-C is one of the two", found in (before, after), True)
+        report.expect("status after Ctrl-C", b"nothing to record" in call(folder, "anna", "campvc status", **how).stdout, True)
+        call(folder, "anna", commands[number % 2], **how)
+        report.count("interruptions")
+    report.expect("interruptions before the end", ended > 0, True)
+
+
+def full_disk(report, folder, how):
+    """Files that can't grow past a size: words without a trace, the working tree as it was, and all goes on when there is room."""
+    os.makedirs(f"{folder}/anna", exist_ok=True)
+    call(folder, "anna", "campvc switch other; head -c 300000 /dev/urandom >big; campvc record -m 'Big'; campvc switch main", **how)
+    before = tree_of(f"{folder}/anna")
+    for size in (0, 4_096, 100_000, 250_000):
+        done = programs.run(["campvc", "pull", "other"], cwd=f"{folder}/anna", env=environment(folder, **how), preexec_fn=programs.limit_files(size))
+        report.expect(f"a pull where files have {size} bytes: status", done.returncode, 128)
+        report.expect(f"a pull where files have {size} bytes: words", done.stderr.count(b"\n") == 1 and b"Traceback" not in done.stderr, True)
+        report.expect(f"a pull where files have {size} bytes: the tree", tree_of(f"{folder}/anna"), before)
+        report.count("full disks")
+    report.expect("the same with room", call(folder, "anna", "campvc pull other && campvc status", **how).returncode, 0)
+
+
+def at_once(report, folder, how):
+    """Records from several terminals at once: each is there once."""
+    call(folder, "anna", "echo 0 >at-once; campvc record -m 'At once'", **how)
+    how = {**how, "CAMPVC_PATIENCE": "60"}
+    words = ["bash", "-c", "echo $0 >at-once-$0; campvc record -m \"Number $0\" at-once-$0"]
+    started = [programs.start([*words, str(number)], cwd=f"{folder}/anna", env=environment(folder, **how)) for number in range(6)]
+    for process in started:
+        out, error = process.communicate()
+        report.expect("a record of several at once", (process.returncode, error), (0, b""))
+    done = call(folder, "anna", "campvc log; campvc status", **how)
+    report.expect("records at once", sorted(re.findall(rb"Number (\d)", done.stdout)), [b"%d" % it for it in range(6)])
+    report.expect("nothing is left to record", b"nothing to record" in done.stdout, True)
+    report.count("records at once", len(started))
+
+
+# Git.
+
+def git(report, folder):
+    """The trees of commits come in and go out as they are; a second import brings what is new."""
+    if not shutil.which("git"):
+        report.skip("git")
+        return
+    prepare(folder)
+    own = "git -c user.name=Cleo -c user.email=cleo@example.org -c init.defaultBranch=main"
+    commits = (f"{own} init -q .; printf 'one\\ntwo' >f; mkdir d; printf 'a\\0b' >d/b; ln -s f l; {own} add -A; {own} commit -qm 'First'\n"
+               f"chmod +x f; echo three >>f; printf 'x' >'ü \"q\"'; {own} add -A; {own} commit -qm 'Second\n\nwith a body'; {own} commit -q --allow-empty -m 'Nothing'\n"
+               f"{own} checkout -qb side HEAD~1; seq 300 >n; rm l; mkdir l; echo in >l/f; {own} add -A; {own} commit -qm 'Side'; {own} checkout -q main; {own} merge -q -m 'Merge' side")
+    report.expect("commits", call(folder, "git", commits).stdout, b"")
+    done = call(folder, "anna", "campvc init >/dev/null; campvc import ../git; campvc import ../git; campvc status")
+    wanted = b"4 of 4 commits came in\n0 of 4 commits came in\non branch main (copy anna)\n  nothing to record\n"
+    report.expect("import", done.stdout, wanted)
+    report.expect("the working tree", call(folder, "anna", "diff -r --no-dereference -x .git -x .camp . ../git").stdout, b"")
+    call(folder, "anna", "campvc export --to ../out")
+    trees = "git log --first-parent --format='%T %an %ae %at %B' main"
+    report.expect("export", call(folder, "out", trees).stdout, call(folder, "git", trees).stdout)
+    call(folder, "git", f"seq 400 >n; {own} commit -qam 'More'; for i in $(seq 90); do echo $i >m$i; done; {own} add -A; {own} commit -qm 'Much'")
+    report.expect("a second import", call(folder, "anna", "campvc import ../git; campvc export | git -C ../out fast-import --quiet --force").stdout, b"2 of 6 commits came in\n")
+    tree = "git rev-parse main^{tree}"
+    report.expect("the last tree", call(folder, "out", tree).stdout, call(folder, "git", tree).stdout)
+    report.expect("a branch with files takes no import", call(folder, "ben", "campvc init >/dev/null; echo x >x; campvc record -m x >/dev/null; campvc import ../git").returncode, 1)
+    report.count("commits", 6)
