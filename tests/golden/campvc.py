@@ -279,3 +279,123 @@ def git(report, folder):
     report.expect("the last tree", call(folder, "out", tree).stdout, call(folder, "git", tree).stdout)
     report.expect("a branch with files takes no import", call(folder, "ben", "campvc init >/dev/null; echo x >x; campvc record -m x >/dev/null; campvc import ../git").returncode, 1)
     report.count("commits", 6)
+
+
+# The page.
+
+STORY = r"""
+campvc init --log $LOG
+printf 'soup\nbread\ncheese\n' >menu; campvc record -m 'The menu of the week'
+printf '#!/bin/sh\necho "<script>document.title = 1</script>" & \033[31m\xff\n' >'a <b> "c".sh'; campvc record -m 'A script <script>alert(1)</script>
+
+It prints <img src=//example.org/x.png>, which is text.'
+(mkdir ../ben; cd ../ben; export CAMPVC_COPY=ben CAMPVC_AUTHOR='Ben <b>Ole</b> <ben@example.org>'; campvc clone $LOG
+ printf 'soup\nrolls\nand butter, on a line that is so long that no window of 320 pixels shows the whole of it: it has to be broken\ncheese\n' >menu
+ echo 9 to 5 >hours; campvc record -m 'Rolls and butter instead of the bread that nobody eats any more')
+sed -i s/bread/'rye bread'/ menu; echo 10 to 6 >hours; campvc record -m 'Rye bread'; campvc sync; echo wine >>menu; campvc record -m 'Wine'; campvc branch empty-talk
+"""
+
+
+def python_with_aiohttp():
+    """A Python that has what the page needs, or None."""
+    for it in dict.fromkeys((sys.executable, "/usr/bin/python3")):
+        if os.path.exists(it) and programs.run([it, "-c", "import aiohttp, jinja2, sys; assert sys.version_info >= (3, 11)"]).returncode == 0:
+            return it
+    return None
+
+
+@contextlib.contextmanager
+def server(folder, python, *words, **more):
+    """A page that is served: its address."""
+    command = [python, "-m", "campvc", "web", "--port", str(random.randrange(20_000, 30_000)), *words]
+    process = programs.start(command, cwd=f"{folder}/anna", env=environment(folder, **more), start_new_session=True)
+    try:
+        yield process.stdout.readline().decode().strip()
+    finally:
+        os.kill(process.pid, signal.SIGINT)
+        process.communicate(timeout=60)
+
+
+def fetch(address, **headers):
+    """The status, headers and text of a page."""
+    import urllib.error
+    import urllib.request
+    try:
+        with urllib.request.urlopen(urllib.request.Request(address, headers=headers), timeout=60) as found:
+            return found.status, found.headers, found.read().decode()
+    except urllib.error.HTTPError as error:
+        return error.code, error.headers, error.read().decode()
+
+
+def page(report, folder):
+    python = python_with_aiohttp()
+    if not python:
+        report.skip("aiohttp and jinja2")
+        return
+    prepare(folder)
+    how = {"LOG": f"sqlite:{folder}/log.db"}
+    call(folder, "anna", STORY, **how)
+    with server(folder, python, **how) as address:
+        views(report, address.rstrip("/"))
+        call(folder, "anna", "echo later >later; campvc record -m 'Later than the page'", **how)
+        report.expect("the page shows what was recorded since", "Later than the page" in fetch(f"{address}b/main")[2], True)
+        look(report, folder, python, address.rstrip("/"))
+    with server(folder, python, "--host", "0.0.0.0", CAMPVC_TOKEN="secret", **how) as address:
+        guarded(report, address)
+
+
+def views(report, address):
+    """Each view says what it is for, as text that is escaped; what is not there is 404; names of other sites are refused."""
+    names = {name.rsplit("-", 1)[0]: name for name in re.findall(r'href="/b/main/patch/([^"]*)"', fetch(f"{address}/b/main")[2])}
+    wanted = {
+        "/": ["main", "empty-talk", "main--anna", "unresolved conflict"],
+        "/b/main": ["The menu of the week", "A script &lt;script&gt;alert(1)&lt;/script&gt;", "in conflict with", "<svg", "Ben &lt;b&gt;Ole&lt;/b&gt;", "a &lt;b&gt; &#34;c&#34;.sh"],
+        f"/b/main/patch/{names['wine']}": ["Held by", "no other patch", "+wine", "Anna Berg"],
+        f"/b/main/patch/{names['rye-bread']}": ["Needs", "In conflict with", "unresolved", "-bread", "+rye bread"],
+        "/b/main/file?path=a%2520%3Cb%3E%2520%22c%22.sh": ["&lt;script&gt;document.title = 1&lt;/script&gt;", "\\x1b[31m", "\\xff", "Anna Berg"],
+        "/b/main/conflicts": ["as it is now", "rye bread", "and butter", "10 to 6", "9 to 5"],
+    }
+    for path, words in wanted.items():
+        status, headers, text = fetch(address + path)
+        report.expect(f"{path}: status", status, 200)
+        report.expect(f"{path}: what it lacks", [it for it in words if it not in text], [])
+        report.expect(f"{path}: scripts", "<script" in text or "<img" in text, False)
+        report.expect(f"{path}: policy", headers["Content-Security-Policy"].startswith("default-src 'none'"), True)
+        report.count("views")
+    for path in ("/b/nowhere", "/b/main/patch/nothing", "/b/main/file?path=nothing", "/b/main/file?path=a%20b", "/b/main/file", "/b/A%20b", "/nowhere", "/b/main?from=x"):
+        status, _, text = fetch(address + path)
+        report.expect(f"{path}: status", status, 404)
+        report.expect(f"{path}: no trace", "Traceback" in text or "Internal" in text, False)
+        report.count("wrong addresses")
+    report.expect("the name of another site", fetch(f"{address}/", Host="example.org")[0], 403)
+
+
+def guarded(report, address):
+    """Beyond loopback the page wants its token, which then is a cookie."""
+    bare, _, query = address.replace("0.0.0.0", "127.0.0.1").partition("?")
+    report.expect("the printed address", query, "token=secret")
+    for path, headers, status in (("", {}, 403), ("?token=wrong", {}, 403), ("", {"Cookie": "token=secret"}, 200), ("b/main", {"Cookie": "token=wrong"}, 403), ("style.css", {}, 403)):
+        report.expect(f"{path} with {headers}", fetch(bare + path, **headers)[0], status)
+        report.count("tokens")
+
+
+def look(report, folder, python, address):
+    """The views in Chromium, with pictures: nothing leaves the machine, 320 pixels suffice, links have names and are reached."""
+    if not shutil.which("chromium"):
+        report.skip("chromium")
+        return
+    pictures = f"{TOP}/out/campvc"
+    shutil.rmtree(pictures, ignore_errors=True)
+    os.makedirs(pictures)
+    rye = re.search(r"/b/main/patch/rye-bread-\w*", fetch(f"{address}/b/main")[2])[0]
+    paths = ["/", "/b/main", rye, "/b/main/file?path=menu", "/b/main/file?path=a%2520%3Cb%3E%2520%22c%22.sh", "/b/main/conflicts", "/b/nowhere"]
+    done = programs.run([python, f"{TOP}/tests/harness/browser.py", pictures, address, *paths], env=environment(folder))
+    report.expect("the browser", (done.returncode, done.stderr[-2000:]), (0, b""))
+    for line in done.stdout.decode().splitlines():
+        facts = json.loads(line)
+        path, well = facts["path"], {"headings": 1, "lang": "en", "scripts": 0, "unreached": 0, "nameless": 0, "outside": []}
+        report.expect(f"{path} in the browser", {key: facts[key] for key in well}, well)
+        report.expect(f"{path}: status", facts["status"], [404 if "nowhere" in path else 200])
+        report.expect(f"{path}: words in the console", [it for it in facts["console"] if "404" not in it], [])
+        report.expect(f"{path}: at most 320 pixels wide", facts["width"] <= 320, True)
+        report.count("pictures", 2)

@@ -4,9 +4,12 @@ from __future__ import annotations
 
 import argparse
 import os
+import signal
 import sqlite3
 import sys
 from typing import Callable, List, NamedTuple, Optional, Tuple
+
+signal.signal(signal.SIGINT, signal.SIG_DFL)  # Until `main` begins Ctrl-C ends this without words: nothing is done yet.
 
 from camp import BranchExists, Depends, Diverged, NoBranch, NoMerge, NoPatch, Refused, TooLarge
 from camp.coding import Unheld
@@ -103,6 +106,7 @@ def parser() -> Parser:
 def main(words: Optional[List[str]] = None) -> int:
     given = parser().parse_args(words)
     try:
+        signal.signal(signal.SIGINT, signal.default_int_handler)
         status = COMMANDS[given.command].run(given)
         sys.stdout.flush()
         return status

@@ -49,7 +49,7 @@ def export(copy: Copy, branch: str, out: BinaryIO) -> None:
 
 def _person(note: Note) -> bytes:
     """Who, and when, as git writes it; a patch without a note is of camp, at the beginning of 1970."""
-    name, _, address = note.author.partition(" <")
+    name, _, address = note.author.rpartition(" <")
     when = datetime.fromisoformat(note.date) if note.date else datetime.fromisoformat("1970-01-01T00:00:00+00:00")
     clean = [part.translate(dict.fromkeys(b"<>\n\0")).strip() for part in (name or "camp", address or "camp")]
     return "{} <{}> {} {}".format(*clean, int(when.timestamp()), when.strftime("%z") or "+0000").encode("utf-8", "surrogateescape")

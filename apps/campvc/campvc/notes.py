@@ -31,7 +31,7 @@ class Note(NamedTuple):
     @property
     def who(self) -> str:
         """The author without the address."""
-        return self.author.partition(" <")[0]
+        return self.author.rpartition(" <")[0] or self.author
 
 
 def read_note(note: bytes) -> Note:

@@ -7,6 +7,7 @@ from __future__ import annotations
 
 import hmac
 import os
+import re
 import secrets
 from itertools import groupby
 from typing import Any, Dict, List, Tuple
@@ -14,7 +15,7 @@ from typing import Any, Dict, List, Tuple
 import jinja2
 from aiohttp import web
 
-from camp import Edit, Hunk, NoBranch, NoPatch
+from camp import Edit, Fault, Hunk, NoBranch, NoPatch
 from camp.coding import encode_path, file_name
 
 from . import Failure, show
@@ -57,9 +58,12 @@ class Page:
     async def guard(self, request: web.Request, handler: Any) -> web.StreamResponse:
         """Who may see the page, what an error says, and the headers of each answer."""
         try:
-            response = self._refused(request) or await handler(request)
+            refused = self._refused(request)
+            response = await handler(request) if refused is None else refused
         except (NoBranch, NoPatch, Failure) as error:
-            response = self.render("error.html", 404, message="{}".format(error))
+            response = self.render("error.html", 404, message=str(error))
+        except (Fault, ValueError):
+            response = self.render("error.html", 404, message="there is nothing of this name")
         except web.HTTPException as error:
             response = self.render("error.html", error.status, message=error.reason)
         response.headers.update(HEADERS)
@@ -67,9 +71,8 @@ class Page:
 
     def _refused(self, request: web.Request) -> web.Response | None:
         """Other sites' names for this machine are refused, and who does not have the token. A token in the address becomes a cookie."""
-        host = request.host.rpartition(":")[0] if request.host.count(":") == 1 or request.host.endswith("]") is False and "]" in request.host else request.host
         if not self.token:
-            return None if host.strip("[]") in LOOPBACK else self.render("error.html", 403, message="this page answers to localhost alone")
+            return None if re.sub(r":\d+$", "", request.host).strip("[]") in LOOPBACK else self.render("error.html", 403, message="this page answers to localhost alone")
         given = request.query.get("token", "")
         if given and hmac.compare_digest(given.encode(), self.token.encode()):
             response = web.Response(status=303, headers={"Location": request.path})
@@ -103,9 +106,9 @@ class Page:
 
     async def branch(self, request: web.Request) -> web.Response:
         copy, branch = self.now(), request.match_info["branch"]
-        needs, states, first = show.needs_of(copy, branch), show.states_of(copy, branch), int("0" + request.query.get("from", "")[:9].strip("-+ "))
+        needs, states, first = show.needs_of(copy, branch), show.states_of(copy, branch), int(request.query.get("from", "0"))
         rows = list(show.lanes(needs))
-        shown = rows[first:first + PAGE]
+        shown = rows[max(0, first):first + PAGE]
         width = max([len(row[2]) for row in shown] + [len(row[3]) for row in shown] + [1])
         step = min(LANE, 168 / width)
         patches = [(row[0], copy.note(row[0]), needs[row[0]], states.get(row[0], ""), lines_of(row, needs[row[0]], step)) for row in shown]
@@ -123,10 +126,7 @@ class Page:
 
     async def file(self, request: web.Request) -> web.Response:
         copy, branch, path = self.now(), request.match_info["branch"], request.query.get("path", "")
-        try:
-            lines = copy.shared.annotate(branch, path)
-        except (ValueError, NoPatch):
-            lines = None
+        lines = copy.shared.annotate(branch, path)
         if lines is None:
             raise Failure("there is no such file in {}".format(branch))
         blocks, at = [], 1
