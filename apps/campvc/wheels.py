@@ -1,13 +1,16 @@
 """Builds the wheel of campvc for `pip install` (PEP 517), as clients/python/wheels.py builds that of camp, without a download."""
 
 import os
+import re
 import zipfile
 
 HERE = os.path.dirname(os.path.abspath(__file__))
-ABOUT = "campvc-0.1.0.dist-info/"
-METADATA = """Metadata-Version: 2.1
+with open(os.path.join(HERE, "pyproject.toml"), encoding="utf-8") as file:
+    VERSION = re.findall(r'^version = "(.*)"$', file.read(), re.M)[0]
+ABOUT = f"campvc-{VERSION}.dist-info/"
+METADATA = f"""Metadata-Version: 2.1
 Name: campvc
-Version: 0.1.0
+Version: {VERSION}
 Summary: A small version control system over camp
 Requires-Python: >=3.11
 Requires-Dist: camp
@@ -18,7 +21,7 @@ Requires-Dist: jinja2; extra == "web"
 
 
 def build_wheel(wheel_directory, config_settings=None, metadata_directory=None):
-    name = "campvc-0.1.0-py3-none-any.whl"
+    name = f"campvc-{VERSION}-py3-none-any.whl"
     texts = {ABOUT + "METADATA": METADATA, ABOUT + "WHEEL": "Wheel-Version: 1.0\nGenerator: campvc\nRoot-Is-Purelib: true\nTag: py3-none-any\n",
              ABOUT + "entry_points.txt": "[console_scripts]\ncampvc = campvc.__main__:main\n"}
     for folder, _, files in os.walk(os.path.join(HERE, "campvc")):

@@ -15,7 +15,7 @@ from camp import BranchExists, Depends, Diverged, NoBranch, NoMerge, NoPatch, Re
 from camp.coding import Unheld
 from camp.shared import LogRefused
 
-from . import Failure, commands
+from . import Failure, commands, conflicts, git
 from .show import warn
 
 
@@ -71,17 +71,17 @@ COMMANDS = {
         word("branch", metavar="BRANCH"), PATCHES, YES]),
     "obliterate": Command(commands.obliterate, "take patches out", "What needs them goes too. " + PATCHES_SAID, [word("patches", nargs="+", metavar="PATCH"), YES]),
     "unrecord": Command(commands.unrecord, "take patches out, and leave the files as they are", "The last patch, if none is named. " + PATCHES_SAID, [PATCHES, YES]),
-    "conflicts": Command(commands.conflicts, "the conflicts that nobody has decided", "The exit status is 1 if there are some.", []),
-    "resolve": Command(commands.resolve, "write the sides of conflicts into the files, with marks", "Edit the files then, and `campvc record` decides. A file that still has marks is not recorded.", [
+    "conflicts": Command(conflicts.conflicts, "the conflicts that nobody has decided", "The exit status is 1 if there are some.", []),
+    "resolve": Command(conflicts.resolve, "write the sides of conflicts into the files, with marks", "Edit the files then, and `campvc record` decides. A file that still has marks is not recorded.", [
         PATHS, word("--take", metavar="PATCH", help="write the side of this patch, without marks")]),
     "sync": Command(commands.sync, "send what waits, and take over what others published", "The working tree has to be clean if there is something to take over.", [
         word("--log", default="", metavar="LOG", help="the log is at this address from now on"),
         word("--publish", action="store_true", help="put patches that are here alone into the branch that all share")]),
     "web": Command(commands.web, "a page of branches, patches, files and conflicts", "It only reads. It serves this machine alone, unless --host names another address; then its own has a token.", [
         word("--port", type=int, default=8017, metavar="N"), word("--host", default="127.0.0.1", metavar="ADDRESS")]),
-    "export": Command(commands.export, "a branch for git, with a commit for each patch", "Without --to it is a stream for `git fast-import` on standard output.", [
+    "export": Command(git.export, "a branch for git, with a commit for each patch", "Without --to it is a stream for `git fast-import` on standard output.", [
         word("branch", nargs="?", metavar="BRANCH"), word("--to", metavar="FOLDER", help="a repository of git; it is made where there is none")]),
-    "import": Command(commands.import_command, "the first parents of a commit of git, as patches",
+    "import": Command(git.import_command, "the first parents of a commit of git, as patches",
         "A merge is one patch, with all that it brought. A branch has at most 4,096 changes, so a long history does not fit; what came in stays, and a second run goes on.", [
             word("repository", metavar="FOLDER", help="a repository of git"), word("commit", nargs="?", default="HEAD", metavar="COMMIT")]),
 }

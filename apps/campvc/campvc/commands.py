@@ -4,25 +4,23 @@ from __future__ import annotations
 
 import argparse
 import contextlib
-import io
 import os
 import secrets
 import shutil
-import sys
 from typing import Iterable, List, Optional
 
-from camp import Change, Edit, Hunk, NoBranch, Remove, diff
-from camp.changes import apply, command, record_command
-from camp.coding import PLAIN, File, Files, Tree, decode, encode, encode_path, plain_path
+from camp import Change, NoBranch
+from camp.changes import command, record_command
+from camp.coding import decode, encode_path
 
-from . import Failure, git, notes, show, worktree
-from .conflicts import by_file, check_marks, decisions, hunks_of, marked, taken
+from . import Failure, notes, show, worktree
+from .conflicts import by_file, check_marks, decisions, marked_files, remember_marked
 from .copy import Copy, reading, uninterrupted, writing
-from .show import counted, emit, listed, warn
+from .patches import file_changes, groups, select
+from .show import counted, emit, listed
 from .state import State
 from .worktree import text
 
-MAX_CHANGES = 64
 Words = argparse.Namespace
 
 
@@ -132,28 +130,6 @@ def diff_command(words: Words) -> int:
     return 0
 
 
-def file_changes(old: Tree, base: Files, files: Files, path: bytes) -> List[Change]:
-    """The changes that make a file what it is in the working tree, of a tree of camp in which it is as in the base."""
-    one = encode({path: files[path]}) if path in files else {}
-    known = encode({path: base[path]}) if path in base else {}
-    changes: List[Change] = []
-    for place in sorted({*one, *known}, reverse=True):
-        changes += diff(place, old.get(place), one.get(place))
-    return changes
-
-
-def groups(changes: List[List[Change]]) -> List[List[Change]]:
-    """Changes as patches of at most 64; those of one file stay together where they can."""
-    found: List[List[Change]] = [[]]
-    for some in changes:
-        if len(found[-1]) + len(some) > MAX_CHANGES and found[-1]:
-            found.append([])
-        found[-1] += some
-        while len(found[-1]) > MAX_CHANGES:
-            found[-1:] = [found[-1][:MAX_CHANGES], found[-1][MAX_CHANGES:]]
-    return [it for it in found if it]
-
-
 def record(words: Words) -> int:
     with writing() as copy:
         base, files = copy.state.base(), copy.scan()
@@ -176,7 +152,7 @@ def record(words: Words) -> int:
         remember_marked(copy, [path for path in marked_files(copy) if path not in paths])
         for pair in sorted(before - set(copy.shared.open(copy.own))):
             emit("resolves the conflict of {} and {}".format(*pair))
-        tell(copy)
+        show.tell(copy)
     return 0
 
 
@@ -193,54 +169,6 @@ def record_changes(copy: Copy, parts: List[List[Change]], note: notes.Note) -> N
     emit("recorded {}{}".format(name, " in {} patches".format(len(names)) if len(names) > 1 else ""))
     if any(set(pair) & set(names) for pair in set(copy.shared.open(copy.branch)) - others):
         emit("in {} it is in conflict with what others recorded: `campvc sync` takes that over".format(copy.branch))
-
-
-def marked_files(copy: Copy) -> List[bytes]:
-    """The files into which `resolve` wrote."""
-    return [bytes.fromhex(it) for it in copy.state.get("marked").split()]
-
-
-def remember_marked(copy: Copy, paths: List[bytes]) -> None:
-    copy.state.set("marked", " ".join(path.hex() for path in sorted(set(paths))))
-
-
-def select(changes: List[List[Change]]) -> List[List[Change]]:
-    """The changes that somebody wants, asked for one by one: a file that is new or goes is one, else each hunk."""
-    units = [[[it] for it in reversed(some)] if all(isinstance(it, Edit) for it in some) else [some] for some in changes if some]
-    total, at, found, rest = sum(map(len, units)), 0, [], ""
-    for some in units:
-        wanted: List[Change] = []
-        for unit in some:
-            at += 1
-            if not rest:
-                for line, colour in show.change_lines(unit):
-                    emit(line, colour)
-            answer = rest
-            while answer not in ("y", "n", "a", "d"):
-                answer = show.ask("record this change? ({} of {}) [y, n, a: all that are left, d: done, q: nothing at all] ".format(at, total)) or "q"
-                if answer == "q":
-                    raise Failure("nothing is recorded")
-            rest = {"a": "a", "d": "d"}.get(answer, "")
-            wanted = [*unit, *wanted] if answer in ("y", "a") else wanted
-        found.append(wanted)
-    return found
-
-
-def tell(copy: Copy) -> None:
-    """Says what there was to warn of, and that the log is away."""
-    for line in copy.warnings:
-        warn(line)
-    if copy.away:
-        warn("the log is away ({}): what you do here waits, and `campvc sync` sends it".format(copy.away))
-
-
-def agreed(question: str, yes: bool) -> bool:
-    return yes or show.ask(question + " [y, n] ") in ("y", "yes")
-
-
-def tell_all(copy: Copy, names: List[str]) -> None:
-    for name in names:
-        emit("    " + show.note_line(name, copy.note(name)))
 
 
 def log(words: Words) -> int:
@@ -292,7 +220,7 @@ def branch(words: Words) -> int:
             raise Failure("{} is no name of a branch: take up to {} of a to z, 0 to 9 and `-`".format(words.name, 38 - len(copy.name)))
         copy.ask("branch", words.name, copy.own)
         emit("branch {} is as {} is here; `campvc switch {}` works on it".format(words.name, copy.branch, words.name))
-        tell(copy)
+        show.tell(copy)
     return 0
 
 
@@ -312,7 +240,7 @@ def switch(words: Words) -> int:
             copy.state.set_base(update.after)
         lacks = copy.shared.missing(copy.branch, copy.own)
         emit("on branch {}{}".format(copy.branch, "; {} of it not here: `campvc sync` takes over".format(counted(len(lacks), "patch")) if lacks else ""))
-        tell(copy)
+        show.tell(copy)
     return 0
 
 
@@ -321,8 +249,8 @@ def take(copy: Copy, branch: str, names: List[str], yes: bool, publish: bool = T
     listed_names = copy.shared.along(branch, copy.own, names)
     more = [name for name in listed_names if name not in names]
     emit("from {}:".format(branch))
-    tell_all(copy, listed_names)
-    if more and not agreed("{} of these come along, since the others need them. Pull all?".format(len(more)), yes):
+    show.print_names(copy, listed_names)
+    if more and not show.agreed("{} of these come along, since the others need them. Pull all?".format(len(more)), yes):
         raise Failure("nothing is pulled")
     before = copy.unresolved_files(copy.own)
     outcome = copy.shared.whatif.pull(branch, copy.own, listed_names)
@@ -346,7 +274,7 @@ def pull(words: Words) -> int:
             emit("nothing to pull: all of it is here")
             return 1
         status = take(copy, words.branch, names, words.yes)
-        tell(copy)
+        show.tell(copy)
     return status
 
 
@@ -361,9 +289,9 @@ def sync(words: Words) -> int:
             copy.publish(lacks)
         elif lacks:
             emit("{} lacks what is here; `campvc obliterate` takes it out here too, `campvc sync --publish` puts it there:".format(copy.branch))
-            tell_all(copy, lacks)
+            show.print_names(copy, lacks)
         emit("in step with {}".format(copy.branch) if not copy.away else "{} is as it was read last".format(copy.branch))
-        tell(copy)
+        show.tell(copy)
     return 1 if copy.away else status
 
 
@@ -389,8 +317,8 @@ def take_out(words: Words, patches: List[str], keeps_files: bool) -> int:
         if others:
             raise Failure("in {} patches of others need this: {}; `campvc sync`, and name them too".format(copy.branch, listed(others)))
         emit("to be taken out:")
-        tell_all(copy, held)
-        if (len(held) > len(names) or not patches) and not agreed("All of these go. Go on?", words.yes):
+        show.print_names(copy, held)
+        if (len(held) > len(names) or not patches) and not show.agreed("All of these go. Go on?", words.yes):
             raise Failure("nothing is taken out")
         outcome = copy.shared.whatif.obliterate(copy.own, held)
         calls = [(command("obliterate", copy.own, *held), b"")]
@@ -403,100 +331,7 @@ def take_out(words: Words, patches: List[str], keeps_files: bool) -> int:
             copy.bring(calls, decode(outcome.tree))
         if there:
             copy.ask("obliterate", copy.branch, *there)
-        tell(copy)
-    return 0
-
-
-def conflicts(words: Words) -> int:
-    with reading() as copy:
-        found = copy.unresolved_files(copy.own)
-        for path, pairs in found.items():
-            emit(text(path), show.BOLD)
-            for pair in pairs:
-                tell_all(copy, list(pair))
-        emit("`campvc resolve` writes the sides into the files" if found else "nothing is in conflict")
-    return 1 if found else 0
-
-
-def resolve(words: Words) -> int:
-    """Writes marks, or one side, into files in conflict."""
-    with writing() as copy:
-        files, base, in_conflict = copy.scan(), copy.state.base(), by_file(copy)
-        name = words.take and copy.name_of(words.take)
-        sides = [path for path, pairs in copy.unresolved_files(copy.own).items() if not name or any(name in pair for pair in pairs)]
-        named = {os.path.relpath(os.path.abspath(os.fsencode(path)), copy.top) for path in words.paths} or set(sides)
-        for path in sorted(named):
-            if path not in sides:
-                raise Failure("{}: no conflict {}there is unresolved".format(text(path), "of {} ".format(name) if name else ""))
-            if files.get(path) != base.get(path):
-                raise Failure("{} has changes that are not recorded: record them, or take them back, and try again".format(text(path)))
-        after = dict(files)
-        for path in sorted(named):
-            write_sides(copy, path, in_conflict[path], name, after)
-        worktree.Update(copy.top, files, after).install()
-        remember_marked(copy, [*marked_files(copy), *named])
-        if named:
-            emit("edit the files, and `campvc record` decides" if not name else "`campvc record` decides so")
-        else:
-            emit("nothing is in conflict")
-    return 0 if named else 1
-
-
-def write_sides(copy: Copy, path: bytes, places: List[str], name: Optional[str], files: Files) -> None:
-    """Puts the sides of a file in conflict into it, or one of them."""
-    place = encode_path(path)
-    if name:
-        tree = {it: lines for it, lines in copy.shared.tree(copy.own).items() if plain_path(it) == place}
-        for one in places:
-            side = [change for change in copy.shared.side(copy.own, name) if change.path == one]
-            lines = taken(hunks_of(copy, one), name) if one in tree else None
-            for change in side if one not in tree else [it for it in side if isinstance(it, Remove)]:
-                lines = apply(lines, change) if not isinstance(change, Remove) else None
-            tree = {**tree, one: lines} if lines is not None else {it: old for it, old in tree.items() if it != one}
-        files.update(decode(tree)) if place in tree else files.pop(path, None)
-    elif place in places:
-        hunks = hunks_of(copy, place)
-        if not any(isinstance(hunk, Hunk) and hunk.sides for hunk in hunks) or path in files and b"\0" in files[path].content:
-            emit("{}: no lines to compare: say `campvc resolve --take PATCH {}`, or record it as it is".format(text(path), text(path)))
-            return
-        lines = marked(copy, hunks)
-        files[path] = File(files[path].mode if path in files else PLAIN, b"".join(line + b"\n" for line in lines))
-        emit("{}: {}".format(text(path), counted(sum(isinstance(hunk, Hunk) for hunk in hunks), "place")))
-    else:
-        emit("{}: the sides differ in its mode or its end: make it as it is to be, and record".format(text(path)))
-
-
-def export(words: Words) -> int:
-    with reading() as copy:
-        branch = words.branch or copy.branch
-        if not words.to:
-            git.export(copy, branch, sys.stdout.buffer)
-            return 0
-        if not os.path.isdir(words.to):
-            git.git(".", "init", "-q", "-b", branch, words.to)
-        stream = io.BytesIO()
-        git.export(copy, branch, stream)
-        git.git(words.to, "fast-import", "--quiet", given=stream.getvalue())
-        emit("{} is in {}: `git -C {} log {}`".format(branch, words.to, words.to, branch))
-    return 0
-
-
-def import_command(words: Words) -> int:
-    with writing() as copy:
-        copy.check_clean("import")
-        commits, count = git.Commits(words.repository, words.commit), 0
-        try:
-            for calls in git.calls(copy, commits, file_changes, groups):
-                copy.ask_all(calls)
-                count += 1
-        finally:
-            with uninterrupted():
-                update = worktree.Update(copy.top, copy.state.base(), copy.own_files())
-                update.install()
-                copy.state.set_base(update.after)
-                copy.publish(copy.shared.missing(copy.own, copy.branch))
-            emit("{} of {} commits came in".format(count, len(commits.notes)))
-        tell(copy)
+        show.tell(copy)
     return 0
 
 

@@ -2,14 +2,18 @@
 
 from __future__ import annotations
 
+import argparse
+import os
 from typing import Dict, List, Optional
 
 from camp import Add, Change, Edit, Hunk, HunkSide, Remove, Tree
 from camp.changes import apply
-from camp.coding import file_name
+from camp.coding import PLAIN, File, Files, decode, encode_path, file_name, plain_path
 
-from . import Failure
-from .copy import Copy
+from . import Failure, show, worktree
+from .copy import Copy, reading, writing
+from .show import counted, emit
+from .worktree import text
 
 START, SIDE, END = b"<<<<<<< ", b"======= ", b">>>>>>> "
 
@@ -106,3 +110,71 @@ def by_file(copy: Copy) -> Dict[bytes, List[str]]:
     for path in copy.unresolved(copy.own):
         found.setdefault(file_name(path), []).append(path)
     return found
+
+
+def marked_files(copy: Copy) -> List[bytes]:
+    """The files into which `resolve` wrote."""
+    return [bytes.fromhex(it) for it in copy.state.get("marked").split()]
+
+
+def remember_marked(copy: Copy, paths: List[bytes]) -> None:
+    copy.state.set("marked", " ".join(path.hex() for path in sorted(set(paths))))
+
+
+def conflicts(words: argparse.Namespace) -> int:
+    with reading() as copy:
+        found = copy.unresolved_files(copy.own)
+        for path, pairs in found.items():
+            emit(text(path), show.BOLD)
+            for pair in pairs:
+                show.print_names(copy, list(pair))
+        emit("`campvc resolve` writes the sides into the files" if found else "nothing is in conflict")
+    return 1 if found else 0
+
+
+def resolve(words: argparse.Namespace) -> int:
+    """Writes marks, or one side, into files in conflict."""
+    with writing() as copy:
+        files, base, in_conflict = copy.scan(), copy.state.base(), by_file(copy)
+        name = words.take and copy.name_of(words.take)
+        sides = [path for path, pairs in copy.unresolved_files(copy.own).items() if not name or any(name in pair for pair in pairs)]
+        named = {os.path.relpath(os.path.abspath(os.fsencode(path)), copy.top) for path in words.paths} or set(sides)
+        for path in sorted(named):
+            if path not in sides:
+                raise Failure("{}: no conflict {}there is unresolved".format(text(path), "of {} ".format(name) if name else ""))
+            if files.get(path) != base.get(path):
+                raise Failure("{} has changes that are not recorded: record them, or take them back, and try again".format(text(path)))
+        after = dict(files)
+        for path in sorted(named):
+            write_sides(copy, path, in_conflict[path], name, after)
+        worktree.Update(copy.top, files, after).install()
+        remember_marked(copy, [*marked_files(copy), *named])
+        if named:
+            emit("edit the files, and `campvc record` decides" if not name else "`campvc record` decides so")
+        else:
+            emit("nothing is in conflict")
+    return 0 if named else 1
+
+
+def write_sides(copy: Copy, path: bytes, places: List[str], name: Optional[str], files: Files) -> None:
+    """Puts the sides of a file in conflict into it, or one of them."""
+    place = encode_path(path)
+    if name:
+        tree = {it: lines for it, lines in copy.shared.tree(copy.own).items() if plain_path(it) == place}
+        for one in places:
+            side = [change for change in copy.shared.side(copy.own, name) if change.path == one]
+            lines = taken(hunks_of(copy, one), name) if one in tree else None
+            for change in side if one not in tree else [it for it in side if isinstance(it, Remove)]:
+                lines = apply(lines, change) if not isinstance(change, Remove) else None
+            tree = {**tree, one: lines} if lines is not None else {it: old for it, old in tree.items() if it != one}
+        files.update(decode(tree)) if place in tree else files.pop(path, None)
+    elif place in places:
+        hunks = hunks_of(copy, place)
+        if not any(isinstance(hunk, Hunk) and hunk.sides for hunk in hunks) or path in files and b"\0" in files[path].content:
+            emit("{}: no lines to compare: say `campvc resolve --take PATCH {}`, or record it as it is".format(text(path), text(path)))
+            return
+        lines = marked(copy, hunks)
+        files[path] = File(files[path].mode if path in files else PLAIN, b"".join(line + b"\n" for line in lines))
+        emit("{}: {}".format(text(path), counted(sum(isinstance(hunk, Hunk) for hunk in hunks), "place")))
+    else:
+        emit("{}: the sides differ in its mode or its end: make it as it is to be, and record".format(text(path)))

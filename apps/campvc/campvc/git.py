@@ -6,8 +6,11 @@ histories within the limits of a repository: 4,096 changes a branch."""
 
 from __future__ import annotations
 
+import argparse
+import io
 import os
 import subprocess
+import sys
 from datetime import datetime
 from typing import BinaryIO, Dict, Iterator, List, Tuple
 
@@ -15,11 +18,13 @@ from camp import Add, Remove, Tree
 from camp.changes import apply, record_command
 from camp.coding import SUBMODULE, File, Files, decode, encode
 
-from . import Failure
-from .copy import Copy
+from . import Failure, show
+from .copy import Copy, reading, uninterrupted, writing
 from .notes import Note
+from .patches import file_changes, groups
+from .show import emit
 from .state import Calls
-from .worktree import changed, check_names
+from .worktree import Update, changed, check_names
 
 
 def history(copy: Copy, branch: str) -> Iterator[Tuple[str, Files]]:
@@ -32,7 +37,7 @@ def history(copy: Copy, branch: str) -> Iterator[Tuple[str, Files]]:
         yield name, decode(tree)
 
 
-def export(copy: Copy, branch: str, out: BinaryIO) -> None:
+def write_stream(copy: Copy, branch: str, out: BinaryIO) -> None:
     """Writes a branch as a stream that `git fast-import` reads."""
     before: Files = {}
     for number, (name, files) in enumerate(history(copy, copy.own if branch == copy.branch else branch), 1):
@@ -119,7 +124,7 @@ def _blob(asked: BinaryIO, answered: BinaryIO, blob: bytes) -> bytes:
     return answered.read(length + 1)[:-1]
 
 
-def calls(copy: Copy, commits: Commits, file_changes, groups) -> Iterator[Calls]:
+def calls(copy: Copy, commits: Commits) -> Iterator[Calls]:
     """The records of each commit that the branch lacks. One that changes nothing adds and removes a file `%e/ID`, so that it has a name."""
     there, tree = set(copy.shared.names(copy.own)), copy.shared.tree(copy.own) if not commits.notes.keys() & set(copy.shared.names(copy.own)) else None
     if tree:
@@ -133,3 +138,37 @@ def calls(copy: Copy, commits: Commits, file_changes, groups) -> Iterator[Calls]
         names = ["{}-{:04}".format(commit[:35], at) for at in range(len(parts) - 1)] + [commit]
         note = commits.notes[commit].text()
         yield [(record_command(copy.own, name, part), note) for name, part in zip(names, parts)]
+
+
+def export(words: argparse.Namespace) -> int:
+    with reading() as copy:
+        branch = words.branch or copy.branch
+        if not words.to:
+            write_stream(copy, branch, sys.stdout.buffer)
+            return 0
+        if not os.path.isdir(words.to):
+            git(".", "init", "-q", "-b", branch, words.to)
+        stream = io.BytesIO()
+        write_stream(copy, branch, stream)
+        git(words.to, "fast-import", "--quiet", given=stream.getvalue())
+        emit("{} is in {}: `git -C {} log {}`".format(branch, words.to, words.to, branch))
+    return 0
+
+
+def import_command(words: argparse.Namespace) -> int:
+    with writing() as copy:
+        copy.check_clean("import")
+        commits, count = Commits(words.repository, words.commit), 0
+        try:
+            for some in calls(copy, commits):
+                copy.ask_all(some)
+                count += 1
+        finally:
+            with uninterrupted():
+                update = Update(copy.top, copy.state.base(), copy.own_files())
+                update.install()
+                copy.state.set_base(update.after)
+                copy.publish(copy.shared.missing(copy.own, copy.branch))
+            emit("{} of {} commits came in".format(count, len(commits.notes)))
+        show.tell(copy)
+    return 0

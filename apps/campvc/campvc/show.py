@@ -181,3 +181,22 @@ def _lines(file: Optional[File]) -> List[bytes]:
 
 def note_line(name: str, note: Note) -> str:
     return "{}  {}{}".format(name, note.title, note.who and " ({})".format(note.who))
+
+
+def tell(copy: Copy) -> None:
+    """Says what there was to warn of, and that the log is away."""
+    for line in copy.warnings:
+        warn(line)
+    if copy.away:
+        warn("the log is away ({}): what you do here waits, and `campvc sync` sends it".format(copy.away))
+
+
+def print_names(copy: Copy, names: List[str]) -> None:
+    """Patches with their titles."""
+    for name in names:
+        emit("    " + note_line(name, copy.note(name)))
+
+
+def agreed(question: str, yes: bool) -> bool:
+    """Whether somebody agrees, or has agreed before."""
+    return yes or ask(question + " [y, n] ") in ("y", "yes")
