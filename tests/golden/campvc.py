@@ -19,6 +19,7 @@ import signal
 import sys
 import tempfile
 import time
+from concurrent.futures import ThreadPoolExecutor
 
 from tests.harness import programs
 from tests.harness.clients import built_library
@@ -119,7 +120,7 @@ def sessions_of(text):
     for line in text.splitlines():
         step = COMMAND.match(line)
         if line.startswith("session "):
-            found.append((line.split()[1:], []))
+            found.append((line.replace(":", "").split()[1:], []))
         elif step and found:
             found[-1][1].append((step[1], step[2], []))
         elif found and found[-1][1]:
@@ -147,10 +148,20 @@ def play(report, folder, title, steps, address):
     report.count("sessions")
 
 
+def play_all(report, folder, address, is_wanted):
+    """Plays the sessions of the table that are wanted, several at once; the address of a log is made of the number of its session."""
+
+    def play_one(numbered):
+        number, (words, steps) = numbered
+        if is_wanted(words):
+            play(report, f"{folder}/{number}", f"{address}: {' '.join(words)}", steps, address.format(number=number))
+
+    with ThreadPoolExecutor(programs.JOBS) as pool:
+        list(pool.map(play_one, enumerate(sessions_of(read_text(f"{DATA}/campvc")))))
+
+
 def sessions(report, folder):
-    for number, (words, steps) in enumerate(sessions_of(read_text(f"{DATA}/campvc"))):
-        own = f"{folder}/{number}"
-        play(report, own, " ".join(words), steps, f"sqlite:{own}/log.db")
+    play_all(report, folder, f"sqlite:{folder}/{{number}}/log.db", lambda words: True)
 
 
 @contextlib.contextmanager
@@ -169,11 +180,10 @@ def etcd_servers(report, folder):
 
 
 def etcd(report, folder):
-    """The shared sessions over three members of etcd; then all three are stopped, and started again."""
+    """The shared sessions over three members of etcd."""
     with etcd_servers(report, folder) as endpoints:
-        for number, (words, steps) in enumerate(sessions_of(read_text(f"{DATA}/campvc")) if endpoints else ()):
-            if "shared" in words:
-                play(report, f"{folder}/{number}", "etcd: " + " ".join(words), steps, f"etcd:{endpoints}/s{number}")
+        if endpoints:
+            play_all(report, folder, f"etcd:{endpoints}/s{{number}}", lambda words: "shared" in words)
 
 
 # Mishaps.
@@ -196,9 +206,39 @@ def mishaps(report, folder):
             "sed -i s/100/hundred/ f; rm g1 g2; echo new >h; campvc record -m 'Other'; campvc switch main"
     how = {"LOG": f"sqlite:{folder}/log.db"}
     report.expect("setup", call(folder, "anna", setup, **how).returncode, 0)
+    names_that_lead_out(report, folder, how)
     interrupted(report, folder, how)
     full_disk(report, folder, how)
     at_once(report, folder, how)
+
+
+OUT = """
+import sys
+from camp import Add, Edit
+from camp.logs import open_log
+from camp.shared import Shared
+with Shared(open_log(sys.argv[1])) as shared:
+    shared.sync()
+    for number, path in enumerate(sys.argv[2:]):
+        shared.record("main", f"out-{number}", [Add(path), Edit(path, 1, [], ["/etc"]), *([Add(f"%m/{path}"), Edit(f"%m/{path}", 1, [], ["120000"])] if path == "etc" else [])])
+"""
+
+
+def names_that_lead_out(report, folder, how):
+    """Files that somebody else writes into `.camp`, `.git` or through a link are refused by name, and nothing changes."""
+    call(folder, "anna", f"campvc init ../out --log sqlite:{folder}/out.db; ln -s /tmp ../out/aside; echo aside >../out/.campignore; cd ../out && campvc record -m 'Ignored'")
+    before = tree_of(f"{folder}/out")
+    for number, paths in enumerate(([".camp/state.db"], ["d/.GIT/config"], ["etc", "etc/passwd"], ["aside/x"], ["%2E%2E/x"])):
+        own, where = f"out-{number}", f"sqlite:{folder}/out-{number}.db"
+        shutil.copytree(f"{folder}/out", f"{folder}/{own}", symlinks=True)
+        shutil.copy(f"{folder}/out.db", f"{folder}/{own}.db")
+        report.expect(f"{paths}: recorded", programs.run([sys.executable, "-c", OUT, where, *paths], env=environment(folder)).stderr, b"")
+        done = call(folder, own, f"campvc sync --log {where}")
+        is_nothing = paths == ["%2E%2E/x"]
+        report.expect(f"{paths}: status", done.returncode, 0 if is_nothing else 1)
+        report.expect(f"{paths}: named", is_nothing or paths[0].partition("/x")[0] in done.stdout.decode(), True)
+        report.expect(f"{paths}: the tree", tree_of(f"{folder}/{own}"), before)
+        report.count("names that lead out")
 
 
 def interrupted(report, folder, how):

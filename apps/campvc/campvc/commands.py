@@ -32,6 +32,8 @@ def new_copy(folder: bytes, address: str, name: Optional[str], branch: str, must
     kind, _, path = address.partition(":")
     if must_exist and kind == "sqlite" and not os.path.exists(path):
         raise Failure("there is no log {}: `campvc init --log {}` makes one".format(path, address), 128)
+    if must_exist and os.path.isdir(top) and os.listdir(top):
+        raise Failure("{} is not empty: name a new folder, `campvc clone LOG FOLDER`".format(text(top)), 128)
     author = notes.default_author()
     name = name or os.environ.get("CAMPVC_COPY") or "{}-{}".format(notes.slug(author.split(" ")[0], 10), secrets.token_hex(2))
     if notes.slug(name, 12) != name:
@@ -185,7 +187,7 @@ def show_command(words: Words) -> int:
         for title, names in (("needs", copy.shared.needs(copy.own, [name])), ("holds", copy.shared.held(copy.own, [name]))):
             others = [it for it in names if it != name]
             emit("{:7} {}".format(title, listed(others) or "no other patch"))
-        emit()
+        emit("\nits side, as changes of what is there now:" if in_conflict else "")
         for line, colour in show.change_lines(copy.shared.side(copy.own, name) if in_conflict else copy.shared.show(copy.own, name).changes):
             emit(line, colour)
     return 0

@@ -10,7 +10,7 @@ import contextlib
 import os
 import signal
 import sqlite3
-from typing import Dict, Iterator, List, Sequence, Set, Tuple
+from typing import Dict, Iterator, List, Sequence, Tuple
 
 from camp import Conflict, NoBranch, OutcomeUnknown
 from camp.changes import command
@@ -198,15 +198,13 @@ class Copy:
             raise Failure(told)
         return found[0]
 
-    def paths_of(self, branch: str, name: str) -> Set[str]:
-        """The paths of camp that a patch in conflict would change."""
-        return {change.path for change in self.shared.side(branch, name)}
-
     def unresolved(self, branch: str) -> Dict[str, List[Conflict]]:
         """The unresolved conflicts, by the paths of camp that both sides would change."""
         found: Dict[str, List[Conflict]] = {}
-        for pair in self.shared.open(branch):
-            left, right = self.paths_of(branch, pair.left), self.paths_of(branch, pair.right)
+        pairs = self.shared.open(branch)
+        paths = {name: {change.path for change in self.shared.side(branch, name)} for pair in pairs for name in pair}
+        for pair in pairs:
+            left, right = paths[pair.left], paths[pair.right]
             for path in sorted(left & right or left | right):
                 found.setdefault(path, []).append(pair)
         return found
