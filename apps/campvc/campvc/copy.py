@@ -10,14 +10,14 @@ import contextlib
 import os
 import signal
 import sqlite3
-from typing import Dict, Iterator, List, Sequence, Tuple
+from typing import Dict, Iterator, List, Optional, Sequence, Tuple
 
 from camp import Conflict, NoBranch, OutcomeUnknown
 from camp.changes import command
 from camp.coding import Files, decode, file_name
 from camp.errors import error_of
-from camp.logs import Away, Damaged, Foreign, RememberedLog, open_log
-from camp.shared import Shared, Stopped
+from camp.logs import Away, Damaged, Foreign, Log, RememberedLog, open_log
+from camp.shared import NOT_TAKEN, Shared, Stopped
 
 from . import Failure, worktree
 from .notes import Note, read_note
@@ -52,10 +52,11 @@ class Copy:
 
     def __init__(self, top: bytes) -> None:
         self.top, self.state, self.away, self.warnings = top, State(top), "not asked", []  # type: bytes, State, str, List[str]
+        self.shared: Shared = None
+        self.log: RememberedLog = None
         self.name, self.address = self.state.get("copy"), self.state.get("log")
         if not self.name:
             raise Failure("{} is not complete: its making was interrupted; remove it, and try again".format(worktree.text(os.path.join(top, b".camp"))), 128)
-        self.open(None)
 
     @property
     def branch(self) -> str:
@@ -70,28 +71,28 @@ class Copy:
     def own_of(self, branch: str) -> str:
         return "{}--{}".format(branch, self.name)
 
-    def open(self, engine) -> None:
-        """Reads what is known, and from an engine what is new."""
+    def open(self, engine: Optional[Log] = None) -> Copy:
+        """Reads what is known, and from an engine what is new. Without one, what waits is executed here."""
         self.log = RememberedLog(os.path.join(os.fsdecode(self.top), ".camp", "seen.db"), engine)
         self.shared = Shared(self.log)
         self.shared.sync()
         if engine is None:
             self.shared.execute_here(self.state.waiting())
+        return self
 
     def version(self) -> Tuple[int, Calls]:
         """A value that changes when another command changes what is shown."""
         return self.log.known(), self.state.waiting()
 
     def close(self) -> None:
-        self.shared.close()
-        self.log.close()
+        for one in (self.shared, self.log):
+            if one is not None:
+                one.close()
 
     def connect(self) -> None:
         """Asks the log for what is new, and for all that waits."""
         try:
-            engine = connection(self.address, self.log.known() > 0)
-            self.close()
-            self.open(engine)
+            self.open(connection(self.address, bool(self.state.get("doing"))))
             self.away = ""
             self._send(self.state.waiting())
         except (Away, OutcomeUnknown) as error:
@@ -100,7 +101,7 @@ class Copy:
     def go_offline(self, why: str) -> None:
         self.close()
         self.away = why
-        self.open(None)
+        self.open()
 
     def _send(self, waiting: Calls) -> None:
         """Asks what waited, and says what is refused for good. What was done already is refused as such."""
@@ -108,9 +109,9 @@ class Copy:
             return
         for (call, _), answer in zip(waiting, self.shared.write_all(waiting)):
             words = answer.decode("ascii", "replace").split()
-            if words[0] == "refused" and words[1] not in DONE_ALREADY:
+            if words[0] != "ok" and words[1] not in DONE_ALREADY:
                 first = call.split(b"\n")[0].decode()
-                self.warnings.append("the log refuses what waited for it, `{}`: {}".format(first, error_of(words)))
+                self.warnings.append("the log refuses what waited for it, `{}`: {}".format(first, error_in(answer)))
         with self.state.transaction():
             self.state.db.execute("DELETE FROM waiting")
 
@@ -134,7 +135,7 @@ class Copy:
         """Asks calls; the first refusal is raised."""
         for answer in self.write(calls):
             if not answer.startswith(b"ok"):
-                raise error_of(answer.decode("ascii", "replace").split()) if b" " in answer else Failure(answer.decode().strip(), 128)
+                raise error_in(answer)
 
     def publish(self, names: Sequence[str]) -> None:
         """Pulls patches of the own branch into the one that all share. Where that is refused they stay here."""
@@ -142,7 +143,7 @@ class Copy:
         if listed:
             (answer,) = self.write([(command("pull", self.own, self.branch, *listed), b"")])
             if not answer.startswith(b"ok"):
-                self.warnings.append("{} does not take {}: {}; it stays in this copy".format(self.branch, ", ".join(names), error_of(answer.decode().split())))
+                self.warnings.append("{} does not take {}: {}; it stays in this copy".format(self.branch, ", ".join(names), error_in(answer)))
 
     def own_files(self) -> Files:
         """The files of the own branch; none where it is not made yet."""
@@ -155,6 +156,8 @@ class Copy:
         """Ends what an interrupted command began: makes the own branch, and brings the working tree to it."""
         if self.own not in self.shared.branches():
             self.ask("branch", self.own, self.branch)
+        elif not self.state.get("doing"):
+            raise Failure("there is a copy {} on this log already: name this one with --copy".format(self.name))
         base, own = self.state.base(), self.own_files()
         if base != own:
             with uninterrupted():
@@ -218,7 +221,14 @@ class Copy:
         return dict(sorted(found.items()))
 
 
-def connection(address: str, is_known: bool):
+def error_in(answer: bytes) -> Exception:
+    """The error that an answer says."""
+    if answer in (NOT_TAKEN, b"stopped\n"):
+        return Failure("the log takes nothing more: its disk is full, or the patch is too large; nothing has changed", 128)
+    return error_of(answer.decode("ascii", "replace").split())
+
+
+def connection(address: str, is_known: bool) -> Log:
     """The engine at an address, or what says that it is not there."""
     kind, _, path = address.partition(":")
     if kind == "sqlite" and is_known and not os.path.exists(path):
@@ -245,9 +255,8 @@ def named_troubles(address: str) -> Iterator[None]:
 @contextlib.contextmanager
 def reading() -> Iterator[Copy]:
     """The working copy as it is known, for commands that change nothing."""
-    copy = Copy(find_top())
-    with contextlib.closing(copy), named_troubles(copy.address):
-        yield copy
+    with contextlib.closing(Copy(find_top())) as copy, named_troubles(copy.address):
+        yield copy.open()
 
 
 @contextlib.contextmanager
@@ -261,4 +270,5 @@ def writing(address: str = "") -> Iterator[Copy]:
         copy.state.set("log", copy.address)
         with named_troubles(copy.address):
             copy.recover()
+            copy.state.set("doing", "update")
             yield copy

@@ -42,7 +42,7 @@ class Page:
     """The views of a working copy. Each request looks whether other commands have changed it."""
 
     def __init__(self, top: bytes, token: str) -> None:
-        self.top, self.token, self.copy = top, token, Copy(top)
+        self.top, self.token, self.copy = top, token, Copy(top).open()
         self.version = self.copy.version()
         self.templates = jinja2.Environment(loader=jinja2.FileSystemLoader(os.path.join(HERE, "templates")), autoescape=True, trim_blocks=True, lstrip_blocks=True)
         self.templates.filters["readable"] = readable
@@ -86,7 +86,7 @@ class Page:
         """The working copy as it is now."""
         if self.copy.version() != self.version:
             self.copy.close()
-            self.copy = Copy(self.top)
+            self.copy = Copy(self.top).open()
             self.version = self.copy.version()
         return self.copy
 

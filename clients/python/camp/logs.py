@@ -144,8 +144,12 @@ class RememberedLog:
     def __init__(self, path: str, engine: Optional[Log] = None):
         self.engine = engine
         self._base = sqlite3.connect(os.fspath(path), timeout=10.0, isolation_level=None, check_same_thread=False)
-        self._base.execute("CREATE TABLE IF NOT EXISTS entries (at INTEGER PRIMARY KEY, text BLOB NOT NULL)")
-        self._check()
+        try:
+            self._base.execute("CREATE TABLE IF NOT EXISTS entries (at INTEGER PRIMARY KEY, text BLOB NOT NULL)")
+            self._check()
+        except BaseException:
+            self._base.close()
+            raise
 
     def known(self) -> int:
         """How many entries were read before."""
