@@ -10,6 +10,7 @@ session as FOLDER, and the address as LOG.
 """
 
 import contextlib
+import functools
 import json
 import os
 import random
@@ -37,11 +38,23 @@ def run(report, words):
     library = built_library(report, makes=True)
     if not library:
         return
+    if not python_with(""):
+        report.skip("Python 3.11")
+        return
     os.environ["CAMP_LIB_DIR"] = library
     sys.path[:0] = PACKAGES
     for name in words or PARTS:
         with tempfile.TemporaryDirectory(prefix="campvc-") as folder:
             globals()[name](report, folder)
+
+
+@functools.lru_cache(None)
+def python_with(modules):
+    """A Python 3.11 or later that has some modules, or None."""
+    for it in dict.fromkeys((sys.executable, "/usr/bin/python3")):
+        if os.path.exists(it) and programs.run([it, "-c", f"import sys {modules}; assert sys.version_info >= (3, 11)"]).returncode == 0:
+            return it
+    return None
 
 
 def environment(folder, who="anna", **more):
@@ -55,7 +68,7 @@ def prepare(folder):
     """Puts a command `campvc` into a folder."""
     os.makedirs(f"{folder}/bin", exist_ok=True)
     with open(f"{folder}/bin/campvc", "w", encoding="utf-8") as file:
-        file.write(f"#!/bin/sh\nexec {sys.executable} -m campvc \"$@\"\n")
+        file.write(f"#!/bin/sh\nexec {python_with('')} -m campvc \"$@\"\n")
     os.chmod(f"{folder}/bin/campvc", 0o755)
 
 
@@ -247,7 +260,7 @@ def interrupted(report, folder, how):
     report.expect("a pull", call(folder, "anna", "campvc pull other", **how).returncode, 0)
     after = tree_of(f"{folder}/anna")
     commands, chance, ended = ["campvc obliterate other -y", "campvc pull other"], random.Random(1), 0
-    for number in range(24):
+    for number in range(12):
         process = programs.start(["bash", "-c", f"exec {commands[number % 2]}"], cwd=f"{folder}/anna", env=environment(folder, **how), start_new_session=True)
         time.sleep(chance.uniform(0.05, 0.45))
         with contextlib.suppress(ProcessLookupError):
@@ -336,14 +349,6 @@ sed -i s/bread/'rye bread'/ menu; echo 10 to 6 >hours; campvc record -m 'Rye bre
 """
 
 
-def python_with_aiohttp():
-    """A Python that has what the page needs, or None."""
-    for it in dict.fromkeys((sys.executable, "/usr/bin/python3")):
-        if os.path.exists(it) and programs.run([it, "-c", "import aiohttp, jinja2, sys; assert sys.version_info >= (3, 11)"]).returncode == 0:
-            return it
-    return None
-
-
 @contextlib.contextmanager
 def server(folder, python, *words, **more):
     """A page that is served: its address."""
@@ -368,7 +373,7 @@ def fetch(address, **headers):
 
 
 def page(report, folder):
-    python = python_with_aiohttp()
+    python = python_with(", aiohttp, jinja2")
     if not python:
         report.skip("aiohttp and jinja2")
         return

@@ -71,7 +71,8 @@ def calls_of(body: bytes) -> List[Tuple[bytes, bytes]]:
             calls[-1] = (calls[-1][0] + line, calls[-1][1])
             ends = None if line == ends else ends
         elif line.startswith(NOTE):
-            notes.append(line[len(NOTE):-1].removeprefix(b" "))
+            text = line[len(NOTE):-1]
+            notes.append(text[1:] if text.startswith(b" ") else text)
         else:
             calls.append((line, b"\n".join(notes)))
             words, notes = line.split(), []
