@@ -267,7 +267,8 @@ def interrupted(report, folder, how):
             os.killpg(process.pid, signal.SIGINT)
         _, error = process.communicate()
         ended += process.returncode != 0
-        report.expect("what an interrupted command says", b"Traceback" in error, False)
+        # What Python itself says where it is interrupted before it runs the program is not the program's.
+        report.expect("what an interrupted command says", error[-2000:] if b"/apps/campvc/" in error else b"", b"")
         report.expect("sync after Ctrl-C", call(folder, "anna", "campvc sync", **how).returncode, 0)
         found = tree_of(f"{folder}/anna")
         report.expect("the tree after Ctrl-C is one of the two", found in (before, after), True)
@@ -294,7 +295,7 @@ def full_disk(report, folder, how):
 def at_once(report, folder, how):
     """Records from several terminals at once: each is there once."""
     call(folder, "anna", "echo 0 >at-once; campvc record -m 'At once'", **how)
-    how = {**how, "CAMPVC_PATIENCE": "60"}
+    how = {**how, "CAMPVC_PATIENCE": "300"}
     words = ["bash", "-c", "echo $0 >at-once-$0; campvc record -m \"Number $0\" at-once-$0"]
     started = [programs.start([*words, str(number)], cwd=f"{folder}/anna", env=environment(folder, **how)) for number in range(6)]
     for process in started:

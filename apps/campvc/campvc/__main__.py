@@ -2,14 +2,15 @@
 
 from __future__ import annotations
 
+import signal
+
+signal.signal(signal.SIGINT, signal.SIG_DFL)  # Until `main` begins Ctrl-C ends this without words: nothing is done yet.
+
 import argparse
 import os
-import signal
 import sqlite3
 import sys
 from typing import Callable, List, NamedTuple, Optional, Tuple
-
-signal.signal(signal.SIGINT, signal.SIG_DFL)  # Until `main` begins Ctrl-C ends this without words: nothing is done yet.
 
 from camp import BranchExists, Depends, Diverged, NoBranch, NoMerge, NoPatch, Refused, TooLarge
 from camp.coding import Unheld
@@ -104,6 +105,14 @@ def parser() -> Parser:
 
 
 def main(words: Optional[List[str]] = None) -> int:
+    """Runs a command, and returns its exit status."""
+    try:
+        return run(words)
+    finally:
+        signal.signal(signal.SIGINT, signal.SIG_IGN)
+
+
+def run(words: Optional[List[str]]) -> int:
     given = parser().parse_args(words)
     try:
         signal.signal(signal.SIGINT, signal.default_int_handler)
