@@ -50,7 +50,8 @@ YES = word("-y", "--yes", action="store_true", help="do not ask")
 COPY = word("--copy", metavar="NAME", help="the name of this working copy: up to 12 of a to z, 0 to 9 and -")
 
 COMMANDS = {
-    "init": Command(commands.init, "make a repository, with a working copy in a folder", "Without --log its log is a SQLite file in .camp, which other copies on this machine may share: `campvc clone FOLDER`.", [
+    "init": Command(commands.init, "make a repository, with a working copy in a folder",
+        "Without --log its log is a SQLite file in .camp, which other copies on this machine may share: `campvc clone FOLDER`.", [
         word("folder", nargs="?", default=".", metavar="FOLDER"), COPY,
         word("--log", default="", metavar="LOG", help="a log that copies share: sqlite:PATH, or etcd:HOST:PORT[,HOST:PORT ..]/PREFIX")]),
     "clone": Command(commands.clone, "make one more working copy of a repository", "LOG is an address as of init, or the folder of another copy.", [
@@ -58,7 +59,8 @@ COMMANDS = {
         word("--branch", default="main", metavar="BRANCH", help="the branch to work on: main if not given")]),
     "status": Command(commands.status, "what is changed here, what waits, and what is in conflict", "", []),
     "diff": Command(commands.diff_command, "how files differ from what is recorded", "The output can be applied by `patch -p1`.", [PATHS]),
-    "record": Command(commands.record, "record changes as a patch", "New files are recorded too, unless .campignore lists them. A file that `resolve` wrote to is decided by this.", [
+    "record": Command(commands.record, "record changes as a patch",
+        "New files are recorded too, unless .campignore lists them. A file that `resolve` wrote to is decided by this.", [
         PATHS, word("-m", "--message", metavar="TEXT", help="what the patch is for; its first line is its title"),
         word("-i", "--interactive", action="store_true", help="choose change by change")]),
     "log": Command(commands.log, "the patches of the branch, the last one first", "", [
@@ -68,22 +70,27 @@ COMMANDS = {
     "branches": Command(commands.branches, "the branches", "", [word("--all", action="store_true", help="with the branches of working copies, as main--anna")]),
     "branch": Command(commands.branch, "make a branch that is as this one", "", [word("name", metavar="NAME")]),
     "switch": Command(commands.switch, "work on another branch", "The working tree has to be clean.", [word("name", metavar="BRANCH")]),
-    "pull": Command(commands.pull, "take patches of another branch over", "What they need comes along. The exit status is 1 where a conflict comes of it. " + PATCHES_SAID, [
+    "pull": Command(commands.pull, "take patches of another branch over",
+        "What they need comes along. The exit status is 1 where a conflict comes of it. " + PATCHES_SAID, [
         word("branch", metavar="BRANCH"), PATCHES, YES]),
     "obliterate": Command(commands.obliterate, "take patches out", "What needs them goes too. " + PATCHES_SAID, [word("patches", nargs="+", metavar="PATCH"), YES]),
     "unrecord": Command(commands.unrecord, "take patches out, and leave the files as they are", "The last patch, if none is named. " + PATCHES_SAID, [PATCHES, YES]),
     "conflicts": Command(conflicts.conflicts, "the conflicts that nobody has decided", "The exit status is 1 if there are some.", []),
-    "resolve": Command(conflicts.resolve, "write the sides of conflicts into the files, with marks", "Edit the files then, and `campvc record` decides. A file that still has marks is not recorded.", [
+    "resolve": Command(conflicts.resolve, "write the sides of conflicts into the files, with marks",
+        "Edit the files then, and `campvc record` decides. A file that still has marks is not recorded.", [
         PATHS, word("--take", metavar="PATCH", help="write the side of this patch, without marks")]),
-    "sync": Command(commands.sync, "send what waits, and take over what others published", "The working tree has to be clean if there is something to take over.", [
+    "sync": Command(commands.sync, "send what waits, and take over what others published",
+        "The working tree has to be clean if there is something to take over.", [
         word("--log", default="", metavar="LOG", help="the log is at this address from now on"),
         word("--publish", action="store_true", help="put patches that are here alone into the branch that all share")]),
-    "web": Command(commands.web, "a page of branches, patches, files and conflicts", "It only reads. It serves this machine alone, unless --host names another address; then its own has a token.", [
+    "web": Command(commands.web, "a page of branches, patches, files and conflicts",
+        "It only reads. It serves this machine alone, unless --host names another address; then its own has a token.", [
         word("--port", type=int, default=8017, metavar="N"), word("--host", default="127.0.0.1", metavar="ADDRESS")]),
     "export": Command(git.export, "a branch for git, with a commit for each patch", "Without --to it is a stream for `git fast-import` on standard output.", [
         word("branch", nargs="?", metavar="BRANCH"), word("--to", metavar="FOLDER", help="a repository of git; it is made where there is none")]),
     "import": Command(git.import_command, "the first parents of a commit of git, as patches",
-        "A merge is one patch, with all that it brought. A branch has at most 4,096 changes, so a long history does not fit; what came in stays, and a second run goes on.", [
+        "A merge is one patch, with all that it brought. A branch has at most 4,096 changes, so a long history does not fit; "
+        "what came in stays, and a second run goes on.", [
             word("repository", metavar="FOLDER", help="a repository of git"), word("commit", nargs="?", default="HEAD", metavar="COMMIT")]),
 }
 

@@ -323,7 +323,7 @@ def take_out(words: Words, patches: List[str], keeps_files: bool) -> int:
         if (len(held) > len(names) or not patches) and not show.agreed("All of these go. Go on?", words.yes):
             raise Failure("nothing is taken out")
         outcome = copy.shared.whatif.obliterate(copy.own, held)
-        calls = [(command("obliterate", copy.own, *held), b"")]
+        calls = [(command("obliterate", branch, *some), b"") for branch, some in ((copy.own, held), (copy.branch, there)) if some]
         if keeps_files:
             with uninterrupted():
                 copy.state.set("doing", "record")
@@ -331,8 +331,6 @@ def take_out(words: Words, patches: List[str], keeps_files: bool) -> int:
                 copy.state.set_base(copy.own_files())
         else:
             copy.bring(calls, decode(outcome.tree))
-        if there:
-            copy.ask("obliterate", copy.branch, *there)
         show.tell(copy)
     return 0
 

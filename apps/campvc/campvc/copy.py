@@ -178,7 +178,8 @@ class Copy:
         dirty = worktree.changed(self.state.base(), self.scan())
         if dirty:
             names = "".join("\n    {}".format(worktree.text(path)) for path in dirty[:10]) + "\n    .." * (len(dirty) > 10)
-            raise Failure("{}: the working tree has changes that are not recorded; `campvc record` them, or take them back, and try again:{}".format(what, names))
+            raise Failure("{}: the working tree has changes that are not recorded; `campvc record` them, or take them back, and try again:{}"
+                          .format(what, names))
 
     def bring(self, calls: Calls, files: Files) -> None:
         """Asks calls that lead to these files in the own branch, and brings the working tree there. Whatever fails before the calls
@@ -200,8 +201,8 @@ class Copy:
         names = self.shared.names(branch or self.own)
         found = [word] if word in names else [name for name in names if name.startswith(word)]
         if len(found) != 1:
-            told = "several patches begin with {}: {}".format(word, ", ".join(found[:5])) if found else "there is no patch {} here: `campvc log` lists them".format(word)
-            raise Failure(told)
+            several = "several patches begin with {}: {}".format(word, ", ".join(found[:5]))
+            raise Failure(several if found else "there is no patch {} here: `campvc log` lists them".format(word))
         return found[0]
 
     def unresolved(self, branch: str) -> Dict[str, List[Conflict]]:

@@ -87,7 +87,8 @@ def locked(top: bytes) -> Iterator[None]:
             except OSError:
                 if time.monotonic() > end:
                     file.seek(0)
-                    raise Failure("another campvc (process {}) is at work in this folder: wait until it ends, and try again".format(file.read() or "?"), 128) from None
+                    raise Failure("another campvc (process {}) is at work in this folder: wait until it ends, and try again"
+                                  .format(file.read() or "?"), 128) from None
                 time.sleep(0.05)
         file.truncate(0)
         file.write(str(os.getpid()))
