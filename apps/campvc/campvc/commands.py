@@ -141,7 +141,7 @@ def record(words: Words) -> int:
             if path in files and path in marked_files(copy):
                 check_marks(text(path), files[path].content)
         old = copy.shared.tree(copy.own)
-        changes = [file_changes(old, base, files, path) for path in paths]
+        changes = [file_changes(old, files, path) for path in paths]
         changes = select(changes) if words.interactive else changes
         all_changes = [it for some in changes for it in some]
         changes.append(decisions(copy, old, [place for path in paths for place in in_conflict.get(path, [])], all_changes))

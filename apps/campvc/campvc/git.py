@@ -133,7 +133,7 @@ def calls(copy: Copy, commits: Commits) -> Iterator[Calls]:
         if commit in there:
             continue
         old = encode(before)
-        changes: List[list] = [file_changes(old, before, after, path) for path in changed(before, after)]
+        changes: List[list] = [file_changes(old, after, path) for path in changed(before, after)]
         parts = groups(changes) or [[Add("%e/" + commit), Remove("%e/" + commit)]]
         names = ["{}-{:04}".format(commit[:35], at) for at in range(len(parts) - 1)] + [commit]
         note = commits.notes[commit].text()

@@ -5,20 +5,19 @@ from __future__ import annotations
 from typing import List
 
 from camp import Change, Edit, Tree, diff
-from camp.coding import Files, encode
+from camp.coding import MODE, NO_END, PIECES, Files, encode, encode_path
 
 from . import Failure, show
 
 MAX_CHANGES = 64
 
 
-def file_changes(old: Tree, base: Files, files: Files, path: bytes) -> List[Change]:
-    """The changes that make a file what it is in the working tree, of a tree of camp in which it is as in the base."""
-    one = encode({path: files[path]}) if path in files else {}
-    known = encode({path: base[path]}) if path in base else {}
-    changes: List[Change] = []
-    for place in sorted({*one, *known}, reverse=True):
-        changes += diff(place, old.get(place), one.get(place))
+def file_changes(old: Tree, files: Files, path: bytes) -> List[Change]:
+    """The changes of a tree of camp that make a file what it is among the files, with all that is said of it there."""
+    new, changes = encode({path: files[path]} if path in files else {}), []  # type: Tree, List[Change]
+    for kind in ("", PIECES, NO_END, MODE):
+        place = kind + encode_path(path)
+        changes += diff(place, old.get(place), new.get(place))
     return changes
 
 

@@ -16,7 +16,7 @@ import jinja2
 from aiohttp import web
 
 from camp import Edit, Fault, Hunk, NoBranch, NoPatch
-from camp.coding import encode_path, file_name
+from camp.coding import decode_path, encode_path, file_name
 
 from . import Failure, show
 from .conflicts import hunks_of
@@ -72,7 +72,8 @@ class Page:
     def _refused(self, request: web.Request) -> web.Response | None:
         """Other sites' names for this machine are refused, and who does not have the token. A token in the address becomes a cookie."""
         if not self.token:
-            return None if re.sub(r":\d+$", "", request.host).strip("[]") in LOOPBACK else self.render("error.html", 403, message="this page answers to localhost alone")
+            is_here = re.sub(r":\d+$", "", request.host).strip("[]") in LOOPBACK
+            return None if is_here else self.render("error.html", 403, message="this page answers to localhost alone")
         given = request.query.get("token", "")
         if given and hmac.compare_digest(given.encode(), self.token.encode()):
             response = web.Response(status=303, headers={"Location": request.path})
@@ -106,15 +107,15 @@ class Page:
 
     async def branch(self, request: web.Request) -> web.Response:
         copy, branch = self.now(), request.match_info["branch"]
-        needs, states, first = show.needs_of(copy, branch), show.states_of(copy, branch), int(request.query.get("from", "0"))
+        needs, states, first = show.needs_of(copy, branch), show.states_of(copy, branch), max(0, int(request.query.get("from", "0")))
         rows = list(show.lanes(needs))
-        shown = rows[max(0, first):first + PAGE]
+        shown = rows[first:first + PAGE]
         width = max([len(row[2]) for row in shown] + [len(row[3]) for row in shown] + [1])
         step = min(LANE, 168 / width)
         patches = [(row[0], copy.note(row[0]), needs[row[0]], states.get(row[0], ""), lines_of(row, needs[row[0]], step)) for row in shown]
-        files = sorted({file_name(path) for path in copy.shared.tree(branch) if not path.startswith("%")})
-        return self.render("branch.html", branch=branch, patches=patches, files=[(text(path), encode_path(path)) for path in files], width=step * width,
-                           later=max(0, first - PAGE) if first else None, earlier=first + PAGE if first + PAGE < len(rows) else None, unresolved=len(copy.shared.open(branch)))
+        files = [(text(file_name(path)), path) for path in copy.shared.tree(branch) if decode_path(path) is not None]
+        return self.render("branch.html", branch=branch, patches=patches, files=files, width=step * width, unresolved=len(copy.shared.open(branch)),
+                           later=max(0, first - PAGE) if first else None, earlier=first + PAGE if first + PAGE < len(rows) else None)
 
     async def patch(self, request: web.Request) -> web.Response:
         copy, branch, name = self.now(), request.match_info["branch"], request.match_info["name"]
