@@ -12,11 +12,17 @@ import sqlite3
 import sys
 from typing import Callable, List, NamedTuple, Optional, Tuple
 
+try:
+    import camp  # noqa: F401
+except ImportError as error:
+    print("campvc: {}".format(error), file=sys.stderr)
+    sys.exit(128)
+
 from camp import BranchExists, Depends, Diverged, NoBranch, NoMerge, NoPatch, Refused, TooLarge
 from camp.coding import Unheld
 from camp.shared import LogRefused
 
-from . import Failure, commands, conflicts, git
+from . import Failure, __version__, commands, conflicts, git
 from .show import warn
 
 
@@ -103,6 +109,7 @@ HINTS = {
 
 def parser() -> Parser:
     top = Parser(prog="campvc", description="A small version control system over camp.", epilog="campvc COMMAND --help says more of a command.")
+    top.add_argument("--version", action="version", version="campvc " + __version__)
     found = top.add_subparsers(dest="command", metavar="COMMAND", required=True, parser_class=Parser)
     for name, command in COMMANDS.items():
         one = found.add_parser(name, help=command.does, description=command.does[0].upper() + command.does[1:] + ". " + command.more)
