@@ -255,16 +255,16 @@ def names_that_lead_out(report, folder, how):
 
 
 def interrupted(report, folder, how):
-    """Ctrl-C at any moment of a pull and of a taking out: after the next command the tree is one of the two."""
+    """Ctrl-C or a kill at any moment of a pull and of a taking out: after the next command the tree is one of the two."""
     before = tree_of(f"{folder}/anna")
     report.expect("a pull", call(folder, "anna", "campvc pull other", **how).returncode, 0)
     after = tree_of(f"{folder}/anna")
     commands, chance, ended = ["campvc obliterate other -y", "campvc pull other"], random.Random(1), 0
-    for number in range(12):
+    for number in range(16):
         process = programs.start(["bash", "-c", f"exec {commands[number % 2]}"], cwd=f"{folder}/anna", env=environment(folder, **how), start_new_session=True)
         time.sleep(chance.uniform(0.05, 0.45))
         with contextlib.suppress(ProcessLookupError):
-            os.killpg(process.pid, signal.SIGINT)
+            os.killpg(process.pid, signal.SIGINT if number % 4 < 2 else signal.SIGKILL)
         _, error = process.communicate()
         ended += process.returncode != 0
         # What Python itself says where it is interrupted before it runs the program is not the program's.

@@ -87,8 +87,6 @@ def absolute(address: str) -> str:
 def status(words: Words) -> int:
     with reading() as copy:
         emit("on branch {} (copy {})".format(copy.branch, copy.name))
-        if copy.own not in copy.shared.branches():
-            raise Failure("this copy is not complete: `campvc sync` completes it", 128)
         here, there = copy.shared.missing(copy.own, copy.branch), copy.shared.missing(copy.branch, copy.own)
         for count, what in ((counted(len(copy.state.waiting()), "call"), "wait for the log: `campvc sync` sends them"),
                             (counted(len(there), "patch"), "of {} not here: `campvc sync` takes over".format(copy.branch)),

@@ -83,6 +83,12 @@ class Copy:
             self.shared.execute_here(self.state.waiting())
         return self
 
+    def complete(self) -> Copy:
+        """Itself, unless its making was interrupted."""
+        if self.own not in self.shared.branches():
+            raise Failure("this copy is not complete: `campvc sync` completes it", 128)
+        return self
+
     def version(self) -> Tuple[int, Calls]:
         """A value that changes when another command changes what is shown."""
         return self.log.known(), self.state.waiting()
@@ -260,7 +266,7 @@ def named_troubles(address: str) -> Iterator[None]:
 def reading() -> Iterator[Copy]:
     """The working copy as it is known, for commands that change nothing."""
     with contextlib.closing(Copy(find_top())) as copy, named_troubles(copy.address):
-        yield copy.open()
+        yield copy.open().complete()
 
 
 @contextlib.contextmanager

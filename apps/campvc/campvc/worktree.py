@@ -93,8 +93,10 @@ def changed(before: Files, after: Files) -> List[bytes]:
 
 def check_names(files: Files) -> None:
     """A `Failure` where a working tree can't have files of these names."""
-    for path in sorted(files):
+    for path, file in sorted(files.items()):
         parts = path.split(b"/")
+        if file.mode == LINK and (not file.content or b"\0" in file.content):
+            raise Failure("{}: a symbolic link can't lead there".format(text(path)))
         if any(part in (b"", b".", b"..") or part.lower() in RESERVED or b"\0" in part or len(part) > 255 for part in parts):
             raise Failure("{}: a working tree can't have a file of this name".format(text(path)))
         for at in range(1, len(parts)):
@@ -105,8 +107,9 @@ def check_names(files: Files) -> None:
 class Update:
     """A way from one tree to another: all new files are written aside first, so a full disk leaves the working tree as it was."""
 
-    def __init__(self, top: bytes, before: Files, after: Files) -> None:
-        self.top, self.before, self.after, self.paths = top, before, after, changed(before, after)
+    def __init__(self, top: bytes, before: Files, after: Files, paths: Optional[List[bytes]] = None) -> None:
+        self.top, self.before, self.after = top, before, after
+        self.paths = changed(before, after) if paths is None else paths
         self.stage = os.path.join(top, OWN, b"stage")
         check_names(after)
         self._check_ways()
@@ -144,14 +147,13 @@ class Update:
             if file.mode == EXECUTABLE:
                 os.chmod(place, os.stat(place).st_mode | 0o111)
 
-    def install(self, paths: Optional[List[bytes]] = None) -> None:
+    def install(self) -> None:
         """Moves the new files to their places, and takes the old ones away."""
-        some = set(self.paths if paths is None else paths)
-        for path in sorted(some - self.after.keys() | {it for it in some if self._is_folder(it)}, reverse=True):
+        for path in sorted((it for it in self.paths if it not in self.after or self._is_folder(it)), reverse=True):
             self._remove(path)
         for number, path in enumerate(self.paths):
             place = os.path.join(self.stage, b"%d" % number)
-            if path in some and path in self.after and os.path.lexists(place):
+            if path in self.after and os.path.lexists(place):
                 os.makedirs(os.path.dirname(os.path.join(self.top, path)), exist_ok=True)
                 os.replace(place, os.path.join(self.top, path))
         shutil.rmtree(self.stage, ignore_errors=True)
@@ -184,5 +186,5 @@ def finish(top: bytes, before: Files, after: Files, is_record: bool) -> Dict[byt
         if old[path] is not None:
             moved[path] = path + b".saved"
             os.replace(os.path.join(top, path), os.path.join(top, moved[path]))
-    Update(top, before, after).install(todo)
+    Update(top, before, after, todo).install()
     return moved
