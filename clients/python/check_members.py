@@ -2,23 +2,22 @@
 
     python3 check_members.py sqlite:PATH | etcd:HOST:PORT[,HOST:PORT ..]/PREFIX [--members N] [--calls N] [--wrong NAME]
 
-CAMP_SHELL names the program camp_shell. A fifth of the appends lose their answer: half of these took place. Each member is
+The library is found as `import camp` finds it. A fifth of the appends lose their answer: half of these took place. Each member is
 a thread with a session of its own. `--wrong` plants a member that is wrong in one way (`WRONG`), which the check has to
 find. The exit status is 0 where the replies are as promised, or where what was planted is found."""
 
 import argparse
 import collections
-import os
 import random
 import sys
 import threading
 import time
 
-from logs import Outcome, SqliteLog
-from member import QUESTIONS, Member, Session, Stopped, calls_of, turn
+from camp import Repository
+from camp.logs import Outcome, open_log
+from camp.shared import CALLS, NOT_READ, NOT_TAKEN, Member, Stopped, calls_of, turn, what_if
 
-PROGRAM = os.environ.get("CAMP_SHELL", os.path.join(os.path.dirname(os.path.abspath(__file__)), "../../crates/camp_shell/out/camp_shell"))
-NO_REPLY = (b"stopped\n", b"the log ends before what was seen\n", b"the log refused the entry\n")
+NO_REPLY = (b"stopped\n", NOT_READ, NOT_TAKEN)
 Asked = collections.namedtuple("Asked", "seat turn call at_least asked")
 Answered = collections.namedtuple("Answered", "request answer place answered")
 
@@ -68,18 +67,18 @@ class Early(Member):
 
     def want(self):
         want = super().want()
-        if want[0] == "append" and self.under_way[0][2] is not None:
-            for at, (call, at_least, request) in enumerate(self.under_way):
-                self.answers.append((request, b"ok %d\n" % (self.count + at + 1), (self.index, at)))
-                self.under_way[at] = (call, at_least, None)
+        if want[0] == "append" and self.under_way[0].request is not None:
+            for at, one in enumerate(self.under_way):
+                self.answers.append((one.request, b"ok %d\n" % (self.count + at + 1), (self.index, at)))
+                self.under_way[at] = one._replace(request=None)
         return want
 
 
 class Stale(Member):
     """It answers at what it has read where more was wanted."""
 
-    def ask(self, call, at_least=0, request=None):
-        super().ask(call, 0, request)
+    def ask(self, call, at_least=0, request=None, note=b""):
+        super().ask(call, 0, request, note)
 
 
 class Skips(Member):
@@ -98,15 +97,6 @@ class Twice(Member):
 
 
 WRONG = {"new-tag": NewTag, "early": Early, "stale": Stale, "skips": Skips, "twice": Twice}
-
-
-def open_log(name):
-    kind, _, rest = name.partition(":")
-    if kind == "sqlite":
-        return SqliteLog(rest)
-    from etcd_log import EtcdLog
-    hosts, _, prefix = rest.partition("/")
-    return EtcdLog(hosts.split(","), prefix)
 
 
 def some_call(chance, member, number):
@@ -148,7 +138,7 @@ class Run:
 
     def _member(self, at, kind):
         chance = random.Random("%s %d" % (self.seed, at))
-        member, log = kind(PROGRAM), Lossy(open_log(self.log_name), chance)
+        member, log = kind(), Lossy(open_log(self.log_name), chance)
         asked, answered, alive = 0, 0, time.monotonic() + 100
         try:
             while answered < self.calls and time.monotonic() < alive:
@@ -164,9 +154,9 @@ class Run:
             self._take(member)
             self.stops.append(stopped)
         with self.lock:
-            self.ends.append((member.index, member.session.ask(b"history\n"), member.stopped))
+            self.ends.append((member.index, member.repository.ask(b"history\n"), member.stopped))
             self.lost += log.lost
-        member.session.close()
+        member.repository.close()
         log.close()
 
     def _take(self, member):
@@ -186,7 +176,7 @@ class Replay:
     """The log in one session: the answer at each place, and at each index how many calls were accepted."""
 
     def __init__(self, texts, questions):
-        session, numbers, count = Session(PROGRAM), {}, 0
+        session, numbers, count = Repository(), {}, 0
         self.answers, self.counts, self.requests, self.at_index, self.histories = {}, {}, [], {}, {}
         self.gap, self.length = None, len(texts)
         for index, text in enumerate(texts):
@@ -200,7 +190,7 @@ class Replay:
                     break
                 if int(number) == last + 1:
                     numbers[seat] = int(number)
-                    for place, call in enumerate(calls_of(body)):
+                    for place, (call, _) in enumerate(calls_of(body)):
                         answer = session.ask(call)
                         count += answer.startswith(b"ok")
                         self.answers[index, place], self.counts[index, place] = answer, count
@@ -214,8 +204,8 @@ class Replay:
         self.counts[index] = count
         self.histories[index] = session.ask(b"history\n")
         for call in questions.get(index, ()):
-            question = call.split()[0] in QUESTIONS
-            self.at_index[index, call] = session.ask(call) if question else session.ask(b"whatif " + call).splitlines(keepends=True)[1]
+            question = call.split()[0] not in CALLS
+            self.at_index[index, call] = session.ask(call) if question else what_if(session, call)
 
 
 def check(run, texts):

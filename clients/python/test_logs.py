@@ -1,12 +1,15 @@
-"""Tests SqliteLog: `python3 -m unittest test_logs`, in this folder."""
+"""Tests SqliteLog, RememberedLog and Shared over them: `python3 -m unittest test_logs`, in this folder."""
 
+import contextlib
 import os
 import sqlite3
 import tempfile
 import threading
 import unittest
 
-from logs import TITLE, Damaged, Outcome, SqliteLog
+from camp import Add, Edit, NoBranch, PatchExists
+from camp.logs import TITLE, Away, Damaged, Foreign, Outcome, RememberedLog, SqliteLog, open_log
+from camp.shared import Shared, Stopped
 
 
 class Sqlite(unittest.TestCase):
@@ -21,7 +24,8 @@ class Sqlite(unittest.TestCase):
 
     def test_a_tag_is_appended_once(self):
         self.assertIs(self.log.append("s/1", b"one"), Outcome.APPENDED)
-        self.assertIs(SqliteLog(self.path).append("s/1", b"other"), Outcome.TAKEN)
+        with contextlib.closing(SqliteLog(self.path)) as other:
+            self.assertIs(other.append("s/1", b"other"), Outcome.TAKEN)
         self.assertEqual(self.log.read(0), [TITLE, b"one"])
         self.assertEqual(self.log.length(), 2)
 
@@ -38,7 +42,8 @@ class Sqlite(unittest.TestCase):
         for thread in threads:
             thread.join()
         entries = self.log.read(0)
-        self.assertEqual(entries, SqliteLog(self.path).read(0))
+        with contextlib.closing(SqliteLog(self.path)) as other:
+            self.assertEqual(entries, other.read(0))
         for seat in range(4):
             own = [entry for entry in entries if entry.startswith(b"%d " % seat)]
             self.assertEqual(own, [b"%d %d" % (seat, number) for number in range(20)])
@@ -46,8 +51,9 @@ class Sqlite(unittest.TestCase):
     def test_a_removed_entry_shows(self):
         for number in range(4):
             self.log.append("s/{}".format(number), b"x")
-        with sqlite3.connect(self.path) as base:
+        with contextlib.closing(sqlite3.connect(self.path)) as base:
             base.execute("DELETE FROM entries WHERE at = 2")
+            base.commit()
         with self.assertRaises(Damaged) as damaged:
             self.log.read(0)
         self.assertEqual(damaged.exception.index, 2)
@@ -56,6 +62,86 @@ class Sqlite(unittest.TestCase):
         self.log._base().execute("PRAGMA max_page_count = 1")
         self.assertIs(self.log.append("s/1", b"x" * 100_000), Outcome.REFUSED)
         self.assertEqual(self.log.length(), 1)
+
+    def test_a_file_of_another_program_is_foreign(self):
+        text, other = (os.path.join(self.folder.name, name) for name in ("text", "other"))
+        with open(text, "wb") as file:
+            file.write(b"no database at all, but a text")
+        with contextlib.closing(sqlite3.connect(other)) as base:
+            base.execute("CREATE TABLE other (it)")
+        for path in (text, other):
+            with self.assertRaises(Foreign):
+                open_log("sqlite:" + path)
+
+    def test_what_was_read_is_remembered(self):
+        self.log.append("s/1", b"one")
+        path = os.path.join(self.folder.name, "seen.db")
+        with contextlib.closing(RememberedLog(path, open_log("sqlite:" + self.path))) as log:
+            self.assertEqual(log.read(0), [TITLE, b"one"])
+        with contextlib.closing(RememberedLog(path)) as log:
+            self.assertEqual((log.read(0), log.read(2), log.length()), ([TITLE, b"one"], [], 2))
+            with self.assertRaises(Away):
+                log.append("s/2", b"two")
+        with contextlib.closing(SqliteLog(os.path.join(self.folder.name, "another.db"))) as another:
+            with self.assertRaises(Foreign):
+                RememberedLog(path, another)
+
+
+class SharedRepository(unittest.TestCase):
+    def setUp(self):
+        self.folder = tempfile.TemporaryDirectory()
+        self.address = "sqlite:" + os.path.join(self.folder.name, "log.db")
+        self.logs, self.shares = [], []
+
+    def tearDown(self):
+        for one in self.shares + self.logs:
+            one.close()
+        self.folder.cleanup()
+
+    def share(self):
+        self.logs.append(open_log(self.address))
+        self.shares.append(Shared(self.logs[-1]))
+        self.shares[-1].sync()
+        return self.shares[-1]
+
+    def test_all_have_one_history_with_its_notes(self):
+        anna, ben = self.share(), self.share()
+        self.assertEqual(anna.record("main", "start", [Add("f"), Edit("f", 1, [], ["one"])], "a note\n\nof lines"), 1)
+        self.assertEqual(ben.branch("ben", "main"), 2)
+        self.assertEqual((anna.sync(), anna.branches(), anna.entries), (2, ["main", "ben"], 3))
+        for one in (anna, ben, self.share()):
+            self.assertEqual((one.tree("ben"), one.notes), ({"f": [b"one"]}, {"start": b"a note\n\nof lines"}))
+        self.assertEqual(anna.history(), ben.history())
+
+    def test_a_refusal_is_that_of_the_place(self):
+        anna, ben = self.share(), self.share()
+        anna.record("main", "p", [Add("f")])
+        with self.assertRaises(PatchExists):
+            ben.record("main", "p", [Add("g")])
+        with self.assertRaises(NoBranch):
+            ben.pull("nowhere", "main")
+        self.assertEqual((ben.sync(), ben.tree("main")), (1, {"f": []}))
+
+    def test_several_calls_go_into_one_entry(self):
+        anna = self.share()
+        calls = [(b"branch b%d main\n" % (number % 250), b"") for number in range(255)]
+        self.assertEqual(anna.write_all(calls)[249:252], [b"ok 250\n", b"refused 5 b0\n", b"refused 5 b1\n"])
+        self.assertEqual(anna.entries, 2)
+
+    def test_a_foreign_entry_stops(self):
+        anna = self.share()
+        anna.record("main", "p", [Add("f")])
+        self.logs[0].append("x", b"something else\n")
+        with self.assertRaises(Stopped) as stopped:
+            anna.sync()
+        self.assertEqual((stopped.exception.index, anna.names("main")), (2, ["p"]))
+
+    def test_what_is_executed_here_is_not_in_the_log(self):
+        anna = self.share()
+        self.assertEqual(anna.execute_here([(b"record main p add f\n", b"mine"), (b"branch a nowhere\n", b"")]), [b"ok 1\n", b"refused 4 nowhere\n"])
+        self.assertEqual((anna.names("main"), anna.notes, self.share().names("main")), (["p"], {"p": b"mine"}, []))
+        with self.assertRaises(Stopped):
+            anna.record("main", "q", [Add("g")])
 
 
 if __name__ == "__main__":

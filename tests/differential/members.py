@@ -1,6 +1,7 @@
 """Processes that share one history over a log are answered as one session that replays the log; planted wrong ones are found.
 
-Words: sqlite, etcd name parts; none: both. Without etcd the second is skipped. The processes are those of clients/python/member.py.
+Words: sqlite, etcd name parts; none: both. Without etcd the second is skipped. The processes are those of camp.shared, in
+clients/python; the library is found as golden/clients finds it.
 """
 
 import os
@@ -10,9 +11,10 @@ import tempfile
 from concurrent.futures import ThreadPoolExecutor
 
 from tests.harness import programs
+from tests.harness.clients import built_library
 from tests.harness.paths import TOP
 
-SECONDS, GATE = 25, "after camp_shell"
+SECONDS, GATE = 25, "after camp_c"
 CHECK = f"{TOP}/clients/python/check_members.py"
 # Members that are wrong in one way each, which the check has to find.
 PLANTED = ("new-tag", "early", "stale", "skips", "twice")
@@ -22,7 +24,10 @@ RUNS = 4
 
 def run(report, words):
     parts = {"sqlite": sqlite, "etcd": etcd}
-    environment = {**os.environ, "CAMP_SHELL": programs.path("camp_shell"), "PYTHONDONTWRITEBYTECODE": "1"}
+    library = built_library(report, makes=True)
+    if not library:
+        return
+    environment = {**os.environ, "CAMP_LIB_DIR": library, "PYTHONDONTWRITEBYTECODE": "1"}
     with tempfile.TemporaryDirectory(prefix="members-") as folder:
         for name in words or parts:
             parts[name](report, folder, environment)

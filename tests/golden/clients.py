@@ -62,4 +62,5 @@ def rust(clients):
 
 def python(clients):
     clients.runs("python tests", ["python3", "-W", "error", "clients/python/test_camp.py"])
+    clients.runs("python tests of logs", ["python3", "-W", "error", "clients/python/test_logs.py"])
     clients.writes("clients/python/example.stdout", ["python3", "clients/python/example.py"])

@@ -8,6 +8,8 @@ PLACES = {
     "crates/camp_options/src/help.rt": 'VERSION: &str = "{}"',
     "clients/python/camp/__init__.py": '__version__ = "{}"',
     "clients/python/pyproject.toml": 'version = "{}"',
+    "apps/campvc/campvc/__init__.py": '__version__ = "{}"',
+    "apps/campvc/pyproject.toml": 'version = "{}"',
     "clients/rust/Cargo.toml": 'version = "{}"',
 }
 

@@ -4,7 +4,7 @@ from __future__ import annotations
 
 import re
 from dataclasses import dataclass
-from typing import Iterable, List, Sequence, Tuple, Union
+from typing import Iterable, List, Optional, Sequence, Tuple, Union
 
 Text = Union[str, bytes]
 
@@ -108,3 +108,11 @@ def record_command(branch: str, name: str, changes: Sequence[Change]) -> bytes:
     texts = [change.text() for change in changes]
     body = texts[0] if len(texts) == 1 else b"group\n" + b"".join(texts) + b"done\n"
     return b"record %s %s %s" % (word(branch), word(name), body)
+
+
+def apply(lines: Optional[List[bytes]], change: Change) -> Optional[List[bytes]]:
+    """The lines of a file after a change of it that applies there; None where there is no file."""
+    if not isinstance(change, Edit):
+        return [] if isinstance(change, Add) else None
+    at, old = change.line - 1, lines or []
+    return old[:at] + list(change.new) + old[at + len(change.old):]

@@ -22,25 +22,12 @@ class View(Questions):
         return _opened(LIBRARY.camp_view_again, self)
 
 
-class Repository(Questions):
-    """A repository of named patches. At first it has one branch, `main`, without patches; or what `keep` wrote of another
-    one. A method that writes returns the number of the call among all that were accepted, counted from 1."""
+class Calls(Questions):
+    """What can be asked and written. A method that writes returns the number of the call among all that were accepted, counted
+    from 1."""
 
     _kind = "camp"
     _at_memory = OutcomeUnknown
-
-    def __init__(self, script: Text = b"") -> None:
-        super().__init__()
-        check(LIBRARY.camp_open(self._handle), OutOfMemory("out of memory"))
-        try:
-            self._load(to_bytes(script))
-        except BaseException:
-            self.close()
-            raise
-
-    def view(self) -> View:
-        """A view of the repository as it is now. That takes a count, however large the repository is."""
-        return _opened(LIBRARY.camp_look, self)
 
     def branch(self, new: str, origin: str) -> int:
         """Makes a branch that is a copy of another."""
@@ -67,23 +54,8 @@ class Repository(Questions):
         """Takes patches out of a branch."""
         return self._write(command("obliterate", branch, *list_of("names", names)))
 
-    def history(self) -> List[AcceptedCall]:
-        """The accepted calls, in their order."""
-        return read_history(self._listed("history"))
-
-    def keep(self) -> bytes:
-        """A script that gives the repository back, as `Repository(script)`."""
-        return b"".join(line + b"\n" for line in self._listed("keep").rest())
-
     def _write(self, text: bytes) -> int:
         return self._ask(text).count("ok")
-
-    def _load(self, script: bytes) -> None:
-        """Runs the commands of a script, each of which has to be accepted."""
-        for line in self.ask(script).split(b"\n")[:-1]:
-            words = line.decode("ascii", "replace").split(" ")
-            if words[0] != "ok":
-                raise error_of(words)
 
     def _cause(self, text: bytes) -> str:
         """Asks the command, which changed nothing, once more together with `why`: the lock is still held."""
@@ -93,6 +65,38 @@ class Repository(Questions):
             return ""
         _, _, cause = response.partition(b"\nwhy ")
         return join_lines(cause.split(b"\n")[1:-1])
+
+
+class Repository(Calls):
+    """A repository of named patches. At first it has one branch, `main`, without patches; or what `keep` wrote of another one."""
+
+    def __init__(self, script: Text = b"") -> None:
+        super().__init__()
+        check(LIBRARY.camp_open(self._handle), OutOfMemory("out of memory"))
+        try:
+            self._load(to_bytes(script))
+        except BaseException:
+            self.close()
+            raise
+
+    def view(self) -> View:
+        """A view of the repository as it is now. That takes a count, however large the repository is."""
+        return _opened(LIBRARY.camp_look, self)
+
+    def history(self) -> List[AcceptedCall]:
+        """The accepted calls, in their order."""
+        return read_history(self._listed("history"))
+
+    def keep(self) -> bytes:
+        """A script that gives the repository back, as `Repository(script)`."""
+        return b"".join(line + b"\n" for line in self._listed("keep").rest())
+
+    def _load(self, script: bytes) -> None:
+        """Runs the commands of a script, each of which has to be accepted."""
+        for line in self.ask(script).split(b"\n")[:-1]:
+            words = line.decode("ascii", "replace").split(" ")
+            if words[0] != "ok":
+                raise error_of(words)
 
 
 def _opened(function: Callable[[Handle, Handle], int], of: Questions) -> View:

@@ -5,7 +5,7 @@ import json
 import threading
 from typing import Dict, List, Sequence
 
-from logs import TIMEOUT, TITLE, Away, Damaged, Outcome
+from .logs import TIMEOUT, TITLE, Away, Damaged, Outcome
 
 
 def _text(data: bytes) -> str:

@@ -1,0 +1,194 @@
+"""The page: branches, patches with their graph, files with who wrote each line, conflicts side by side.
+
+It only reads, and serves loopback unless it is told otherwise, and then who has the token. Its HTML is made here, needs no script,
+and names nothing outside of this machine. What users wrote is escaped by jinja2, and what is not printable by `readable`."""
+
+from __future__ import annotations
+
+import hmac
+import os
+import re
+import secrets
+from itertools import groupby
+from typing import Any, Dict, List, Tuple
+
+import jinja2
+from aiohttp import web
+
+from camp import Edit, Fault, Hunk, NoBranch, NoPatch
+from camp.coding import decode_path, encode_path, file_name
+
+from . import Failure, show
+from .conflicts import hunks_of
+from .copy import Copy, find_top
+from .worktree import text
+
+LOOPBACK = ("127.0.0.1", "::1", "localhost")
+PAGE, CONTEXT, LANE = 100, 3, 14
+HEADERS = {
+    "Content-Security-Policy": "default-src 'none'; style-src 'self'; img-src data:; base-uri 'none'; form-action 'none'; frame-ancestors 'none'",
+    "X-Content-Type-Options": "nosniff", "Referrer-Policy": "no-referrer", "Cache-Control": "no-store",
+}
+HERE = os.path.dirname(os.path.abspath(__file__))
+
+
+def readable(line: bytes | str) -> str:
+    """A line as it is shown: what is no text, or not printable, is escaped."""
+    found = line.decode("utf-8", "backslashreplace") if isinstance(line, bytes) else line
+    return "".join(c if c.isprintable() or c == "\t" else c.encode("unicode_escape", "replace").decode() for c in found)
+
+
+class Page:
+    """The views of a working copy. Each request looks whether other commands have changed it."""
+
+    def __init__(self, top: bytes, token: str) -> None:
+        self.top, self.token, self.copy = top, token, Copy(top).open()
+        self.version = self.copy.version()
+        self.templates = jinja2.Environment(loader=jinja2.FileSystemLoader(os.path.join(HERE, "templates")), autoescape=True, trim_blocks=True, lstrip_blocks=True)
+        self.templates.filters["readable"] = readable
+
+    def application(self) -> web.Application:
+        app = web.Application(middlewares=[self.guard])
+        app.add_routes([
+            web.get("/", self.branches), web.get("/style.css", self.style), web.get("/b/{branch}", self.branch), web.get("/b/{branch}/conflicts", self.conflicts),
+            web.get("/b/{branch}/file", self.file), web.get("/b/{branch}/patch/{name}", self.patch)])
+        return app
+
+    @web.middleware
+    async def guard(self, request: web.Request, handler: Any) -> web.StreamResponse:
+        """Who may see the page, what an error says, and the headers of each answer."""
+        try:
+            refused = self._refused(request)
+            response = await handler(request) if refused is None else refused
+        except (NoBranch, NoPatch, Failure) as error:
+            response = self.render("error.html", 404, message=str(error))
+        except (Fault, ValueError):
+            response = self.render("error.html", 404, message="there is nothing of this name")
+        except web.HTTPException as error:
+            response = self.render("error.html", error.status, message=error.reason)
+        response.headers.update(HEADERS)
+        return response
+
+    def _refused(self, request: web.Request) -> web.Response | None:
+        """Other sites' names for this machine are refused, and who does not have the token. A token in the address becomes a cookie."""
+        if not self.token:
+            is_here = re.sub(r":\d+$", "", request.host).strip("[]") in LOOPBACK
+            return None if is_here else self.render("error.html", 403, message="this page answers to localhost alone")
+        given = request.query.get("token", "")
+        if given and hmac.compare_digest(given.encode(), self.token.encode()):
+            response = web.Response(status=303, headers={"Location": request.path})
+            response.set_cookie("token", self.token, httponly=True, samesite="Strict")
+            return response
+        if hmac.compare_digest(request.cookies.get("token", "").encode(), self.token.encode()):
+            return None
+        return self.render("error.html", 403, message="open the address that `campvc web` has printed, with its token")
+
+    def now(self) -> Copy:
+        """The working copy as it is now."""
+        if self.copy.version() != self.version:
+            self.copy.close()
+            self.copy = Copy(self.top).open()
+            self.version = self.copy.version()
+        return self.copy
+
+    def render(self, template: str, status: int = 200, **values: Any) -> web.Response:
+        found = self.templates.get_template(template).render(copy=self.copy, text=text, file_name=file_name, **values)
+        return web.Response(text=found, status=status, content_type="text/html")
+
+    async def style(self, request: web.Request) -> web.StreamResponse:
+        return web.FileResponse(os.path.join(HERE, "templates", "style.css"))
+
+    async def branches(self, request: web.Request) -> web.Response:
+        copy, rows = self.now(), []
+        for name in copy.shared.branches():
+            names = copy.shared.names(name)
+            rows.append((name, len(names), len(copy.shared.open(name)), copy.note(names[-1]) if names else None, "--" in name))
+        return self.render("branches.html", rows=sorted(rows, key=lambda row: row[4]))
+
+    async def branch(self, request: web.Request) -> web.Response:
+        copy, branch = self.now(), request.match_info["branch"]
+        needs, states, first = show.needs_of(copy, branch), show.states_of(copy, branch), max(0, int(request.query.get("from", "0")))
+        rows = list(show.lanes(needs))
+        shown = rows[first:first + PAGE]
+        width = max([len(row[2]) for row in shown] + [len(row[3]) for row in shown] + [1])
+        step = min(LANE, 168 / width)
+        patches = [(row[0], copy.note(row[0]), needs[row[0]], states.get(row[0], ""), lines_of(row, needs[row[0]], step)) for row in shown]
+        files = [(text(file_name(path)), path) for path in copy.shared.tree(branch) if decode_path(path) is not None]
+        return self.render("branch.html", branch=branch, patches=patches, files=files, width=step * width, unresolved=len(copy.shared.open(branch)),
+                           later=max(0, first - PAGE) if first else None, earlier=first + PAGE if first + PAGE < len(rows) else None)
+
+    async def patch(self, request: web.Request) -> web.Response:
+        copy, branch, name = self.now(), request.match_info["branch"], request.match_info["name"]
+        direct, held = show.needs_of(copy, branch).get(name, []), [it for it in copy.shared.held(branch, [name]) if it != name]
+        pairs = [(other, pair in copy.shared.open(branch)) for pair in copy.shared.conflicts(branch) if name in pair for other in pair if other != name]
+        changes = copy.shared.side(branch, name) if pairs else copy.shared.show(branch, name).changes
+        files = [(text(file_name(path)), encode_path(file_name(path)), list(some)) for path, some in groupby(changes, lambda change: change.path)]
+        return self.render("patch.html", branch=branch, name=name, note=copy.note(name), needs=direct, held=held, pairs=pairs, files=files, words=words_of)
+
+    async def file(self, request: web.Request) -> web.Response:
+        copy, branch, path = self.now(), request.match_info["branch"], request.query.get("path", "")
+        lines = copy.shared.annotate(branch, path)
+        if lines is None:
+            raise Failure("there is no such file in {}".format(branch))
+        blocks, at = [], 1
+        for name, some in groupby(lines, lambda line: line.name):
+            block = [line.line for line in some]
+            blocks.append((name, copy.note(name), at, block))
+            at += len(block)
+        return self.render("file.html", branch=branch, path=path, blocks=blocks)
+
+    async def conflicts(self, request: web.Request) -> web.Response:
+        copy, branch = self.now(), request.match_info["branch"]
+        files = [(text(file_name(path)), encode_path(file_name(path)), pairs, places(hunks_of(copy, path, branch))) for path, pairs in copy.unresolved(branch).items()]
+        return self.render("conflicts.html", branch=branch, files=files)
+
+
+Line = Tuple[float, float, float, float]
+
+
+def lines_of(row: show.Row, needs: List[str], step: float) -> Dict[str, Any]:
+    """The lines of a row of the graph, in a box 100 high: from the lanes above to those below, and where its dot is."""
+    name, at, before, after, is_needed = row
+    x = {name: step * (lane + 0.5) for lane, name in enumerate(after)}
+    lines: List[Line] = [(step * (lane + 0.5), 0, x[it], 100) for lane, it in enumerate(before) if it != name]
+    own = step * (at + 0.5)
+    lines += [(own, 50, x[it], 100) for it in needs] + [(own, 0, own, 50)] * is_needed
+    return {"lines": lines, "dot": own}
+
+
+def words_of(change: Any) -> str:
+    """What a change does, in words."""
+    shown = [line.decode() for line, _ in show.change_lines([change])]
+    return shown[0] if shown and not (isinstance(change, Edit) and " line " in shown[0]) else ""
+
+
+def places(hunks: List[bytes | Hunk]) -> List[Tuple[int, List[bytes], Hunk, List[bytes]]]:
+    """The places of a conflict: the number of its line, and a few lines around it."""
+    found, at = [], 1
+    for number, hunk in enumerate(hunks):
+        if isinstance(hunk, bytes):
+            at += 1
+            continue
+        around = [[it for it in some if isinstance(it, bytes)] for some in (hunks[max(0, number - CONTEXT):number], hunks[number + 1:number + 1 + CONTEXT])]
+        if hunk.sides:
+            found.append((at, around[0], hunk, around[1]))
+        at += len(hunk.lines)
+    return found
+
+
+def serve(port: int, host: str) -> int:
+    """Serves until Ctrl-C."""
+    token = "" if host in LOOPBACK else os.environ.get("CAMPVC_TOKEN") or secrets.token_urlsafe(16)
+    page = Page(find_top(), token)
+
+    def tell(line: str) -> None:
+        if "Running on" in line:
+            show.emit("http://{}:{}/{}".format("[{}]".format(host) if ":" in host else host, port, "?token=" + token if token else ""))
+            show.emit("Ctrl-C ends")
+            show.sys.stdout.flush()
+
+    try:
+        web.run_app(page.application(), host=host, port=port, print=tell, access_log=None)
+    except OSError as error:
+        raise Failure("port {} of {} can't be served: {}; take another one with --port".format(port, host, error.strerror), 128) from None
+    return 0

@@ -1,0 +1,200 @@
+"""Carriers of a log that many processes share: the tags are unique, the order is the engine's, nothing is ever removed.
+
+`open_log` makes one from an address. An entry is bytes, and entries are counted from 0; the first is `TITLE`, which a carrier
+writes where the log is empty. `Damaged` is raised where the engine shows that an entry was changed or removed, `Away` where no
+endpoint answers, `Foreign` where something else stands at the address.
+"""
+
+from __future__ import annotations
+
+import enum
+import os
+import sqlite3
+import threading
+import time
+from typing import List, Optional, Protocol
+
+TITLE = b"camp log 1\n"
+TIMEOUT = 0.5
+
+
+class Outcome(enum.Enum):
+    """What is known of an append."""
+    APPENDED = "appended"
+    TAKEN = "the tag is in the log already"
+    REFUSED = "it did not take place, and never will"
+    UNKNOWN = "it may have taken place: ask again under the same tag"
+
+
+class Log(Protocol):
+    """What a carrier is."""
+
+    def append(self, tag: str, text: bytes) -> Outcome:
+        """Appends an entry under a tag, once."""
+
+    def read(self, index: int, wait: float = 0.0) -> List[bytes]:
+        """The entries from an index on, some at a time; waits so many seconds at most for the first."""
+
+    def length(self) -> int:
+        """How many entries the engine has now, with all that were acknowledged to anybody."""
+
+    def close(self) -> None:
+        """Gives up what it holds."""
+
+
+def open_log(address: str) -> Log:
+    """The log at an address: `sqlite:PATH` or `etcd:HOST:PORT[,HOST:PORT ..]/PREFIX`."""
+    kind, _, rest = address.partition(":")
+    if kind == "sqlite" and rest:
+        return SqliteLog(rest)
+    hosts, _, prefix = rest.partition("/")
+    if kind == "etcd" and hosts and prefix:
+        from .etcd_log import EtcdLog
+        return EtcdLog(hosts.split(","), prefix)
+    raise ValueError("no address of a log: {!r}; write sqlite:PATH or etcd:HOST:PORT[,HOST:PORT ..]/PREFIX".format(address))
+
+
+class Damaged(Exception):
+    """An entry was changed or removed. The log can be read up to an index alone."""
+
+    def __init__(self, index: int):
+        self.index = index
+        super().__init__("an entry was changed or removed: the log is read up to entry {} alone".format(index))
+
+
+class Away(Exception):
+    """The engine does not answer."""
+
+
+class Foreign(Exception):
+    """What stands at the address is of another program."""
+
+
+class SqliteLog:
+    """A table of a SQLite file, for the processes of one machine. Each entry is on the disk before it counts."""
+
+    def __init__(self, path: str):
+        self.path = os.fspath(path)
+        self._local = threading.local()
+        try:
+            tables = [row[0] for row in self._once("SELECT name FROM sqlite_master WHERE type = 'table'")]
+        except sqlite3.DatabaseError as error:
+            if "not a database" not in str(error):
+                raise
+            tables = [""]
+        if tables and tables != ["entries"]:
+            raise Foreign("{} is a file of another program".format(self.path))
+        self._once("CREATE TABLE IF NOT EXISTS entries (at INTEGER PRIMARY KEY, tag TEXT UNIQUE NOT NULL, text BLOB NOT NULL)")
+        self.append("log", TITLE)
+
+    def _base(self) -> sqlite3.Connection:
+        if not hasattr(self._local, "base"):
+            base = sqlite3.connect(self.path, timeout=TIMEOUT, isolation_level=None)
+            for pragma in ("journal_mode = WAL", "synchronous = FULL"):
+                _patiently(lambda: base.execute("PRAGMA " + pragma))
+            self._local.base = base
+        return self._local.base
+
+    def _once(self, sql: str, *values):
+        return _patiently(lambda: self._base().execute(sql, values).fetchall())
+
+    def append(self, tag: str, text: bytes) -> Outcome:
+        try:
+            self._base().execute("INSERT INTO entries SELECT coalesce(max(at) + 1, 0), ?, ? FROM entries", (tag, text))
+            return Outcome.APPENDED
+        except sqlite3.IntegrityError:
+            return Outcome.TAKEN
+        except (sqlite3.DataError, OverflowError):
+            return Outcome.REFUSED
+        except sqlite3.Error as error:
+            return Outcome.REFUSED if self._is_refused(error, tag) else Outcome.UNKNOWN
+
+    def _is_refused(self, error: sqlite3.Error, tag: str) -> bool:
+        """Whether the engine took nothing under the tag, for certain: what it wrote of it is rolled back."""
+        if not any(word in str(error) for word in ("full", "too big", "readonly")):
+            return False
+        try:
+            return not self._base().in_transaction and not self._once("SELECT 1 FROM entries WHERE tag = ?", tag)
+        except (sqlite3.Error, Away):
+            return False
+
+    def read(self, index: int, wait: float = 0.0) -> List[bytes]:
+        end = time.monotonic() + wait
+        while True:
+            rows = self._once("SELECT at, text FROM entries WHERE at >= ? ORDER BY at LIMIT 1024", index)
+            for number, row in enumerate(rows, index):
+                if row[0] != number:
+                    raise Damaged(number)
+            if rows or time.monotonic() >= end:
+                return [bytes(row[1]) for row in rows]
+            time.sleep(0.001)
+
+    def length(self) -> int:
+        return self._once("SELECT coalesce(max(at) + 1, 0) FROM entries")[0][0]
+
+    def close(self) -> None:
+        if hasattr(self._local, "base"):
+            self._local.base.close()
+            del self._local.base
+
+
+class RememberedLog:
+    """A log, and what of it was read before, in a SQLite file. Without an engine it has just that, and appends nothing."""
+
+    def __init__(self, path: str, engine: Optional[Log] = None):
+        self.engine = engine
+        self._base = sqlite3.connect(os.fspath(path), timeout=10.0, isolation_level=None, check_same_thread=False)
+        try:
+            self._base.execute("CREATE TABLE IF NOT EXISTS entries (at INTEGER PRIMARY KEY, text BLOB NOT NULL)")
+            self._check()
+        except BaseException:
+            self._base.close()
+            raise
+
+    def known(self) -> int:
+        """How many entries were read before."""
+        return self._base.execute("SELECT count(*) FROM entries").fetchone()[0]
+
+    def _check(self) -> None:
+        """`Foreign` where the engine does not have what was read last."""
+        last = self.known() - 1
+        if last < 0 or self.engine is None:
+            return
+        found = self.engine.read(last, 1.0) if self.engine.length() > last else []
+        if found[:1] != [row[0] for row in self._base.execute("SELECT text FROM entries WHERE at = ?", (last,))]:
+            raise Foreign("this log is another one than that which was read before, or it was cut")
+
+    def append(self, tag: str, text: bytes) -> Outcome:
+        if self.engine is None:
+            raise Away("there is no connection")
+        return self.engine.append(tag, text)
+
+    def read(self, index: int, wait: float = 0.0) -> List[bytes]:
+        known = [row[0] for row in self._base.execute("SELECT text FROM entries WHERE at >= ? ORDER BY at LIMIT 1024", (index,))]
+        if known or self.engine is None:
+            return known
+        found = self.engine.read(index, wait)
+        self._base.execute("BEGIN")
+        self._base.executemany("INSERT OR IGNORE INTO entries VALUES (?, ?)", enumerate(found, index))
+        self._base.execute("COMMIT")
+        return found
+
+    def length(self) -> int:
+        return self.engine.length() if self.engine else self.known()
+
+    def close(self) -> None:
+        self._base.close()
+        if self.engine:
+            self.engine.close()
+
+
+def _patiently(ask, tries: int = 20):
+    """What is asked, asked again while another process holds the file."""
+    for _ in range(tries):
+        try:
+            return ask()
+        except sqlite3.OperationalError as error:
+            if "locked" not in str(error) and "busy" not in str(error):
+                raise
+            time.sleep(0.01)
+    raise Away("the file is locked")

@@ -1,0 +1,447 @@
+"""campvc: sessions at a terminal, copies over SQLite and etcd, mishaps, git both ways, and its page in a browser.
+
+Words: coding, sessions, etcd, mishaps, git, page name parts; none: all. The library is found as golden/clients finds it. Etcd, git, chromium and
+a Python with aiohttp and jinja2 are skipped where they are missing. Pictures of the page are left in out/campvc.
+
+tests/data/campvc has the sessions. A line `session WORDS` begins one, in a folder of its own; `shared` among its words says that it is run over
+etcd too. A line `NAME$ COMMAND` is a command for bash in the folder NAME, by the author of this name; what it writes follows, and
+`[STATUS]` unless that is 0. LOG is the address of a log. In what is written the six digits of a patch's name stand as `#`, the folder of the
+session as FOLDER, and the address as LOG.
+"""
+
+import contextlib
+import functools
+import json
+import os
+import random
+import re
+import shutil
+import signal
+import sys
+import tempfile
+import time
+from concurrent.futures import ThreadPoolExecutor
+
+from tests.harness import programs
+from tests.harness.clients import built_library
+from tests.harness.paths import DATA, TOP, read_text
+
+SECONDS, GATE = 90, "after camp_c"
+PARTS = ("coding", "sessions", "etcd", "mishaps", "git", "page")
+AUTHORS = {"anna": "Anna Berg <anna@example.org>", "ben": "Ben Ole <ben@example.org>"}
+DATE = "2026-11-30T03:00:00+00:00"
+COMMAND = re.compile(r"^(\w+)\$ (.*)$")
+PACKAGES = (f"{TOP}/clients/python", f"{TOP}/apps/campvc")
+
+
+def run(report, words):
+    library = built_library(report, makes=True)
+    if not library:
+        return
+    if not python_with(""):
+        report.skip("Python 3.11")
+        return
+    os.environ["CAMP_LIB_DIR"] = library
+    sys.path[:0] = PACKAGES
+    for name in words or PARTS:
+        with tempfile.TemporaryDirectory(prefix="campvc-") as folder:
+            globals()[name](report, folder)
+
+
+@functools.lru_cache(None)
+def python_with(modules):
+    """A Python 3.11 or later that has some modules, or None."""
+    for it in dict.fromkeys((sys.executable, "/usr/bin/python3")):
+        if os.path.exists(it) and programs.run([it, "-c", f"import sys {modules}; assert sys.version_info >= (3, 11)"]).returncode == 0:
+            return it
+    return None
+
+
+def environment(folder, who="anna", **more):
+    """The environment of a command: `campvc` is on the PATH, and names and dates are the same each time."""
+    own = {"PATH": f"{folder}/bin:{os.environ['PATH']}", "PYTHONPATH": ":".join(PACKAGES), "PYTHONDONTWRITEBYTECODE": "1", "HOME": folder,
+           "CAMPVC_COPY": who, "CAMPVC_AUTHOR": AUTHORS.get(who, who), "CAMPVC_DATE": DATE, "CAMPVC_PATIENCE": "1", "LC_ALL": "C.UTF-8"}
+    return {**os.environ, **own, **more}
+
+
+def prepare(folder):
+    """Puts a command `campvc` into a folder."""
+    os.makedirs(f"{folder}/bin", exist_ok=True)
+    with open(f"{folder}/bin/campvc", "w", encoding="utf-8") as file:
+        file.write(f"#!/bin/sh\nexec {python_with('')} -m campvc \"$@\"\n")
+    os.chmod(f"{folder}/bin/campvc", 0o755)
+
+
+def call(folder, who, command, **more):
+    """Runs a command of bash in the folder of somebody: its output with standard error, and its status."""
+    os.makedirs(f"{folder}/{who}", exist_ok=True)
+    return programs.run(["bash", "-c", f"exec 2>&1\n{command}"], cwd=f"{folder}/{who}", env=environment(folder, who, **more))
+
+
+# Coding.
+
+def random_files(chance):
+    """A tree of files: odd names, modes, links, lines of all lengths."""
+    from camp.coding import EXECUTABLE, LINK, PLAIN, SUBMODULE, File
+    letters = [bytes([it]) for it in (*range(1, 47), *range(48, 256))]
+    files = {}
+    for _ in range(chance.randrange(6)):
+        parts = [b"".join(chance.choices(letters, k=chance.randrange(1, 5))) for _ in range(chance.randrange(1, 4))]
+        content = b"\n".join(chance.choice((b"", b"a", b"\0\r", b"+", b"=", b"x" * chance.choice((4_095, 4_096, 4_097, 8_190, 9_000)))) for _ in range(chance.randrange(5)))
+        files[b"/".join(parts)] = File(chance.choice((PLAIN, PLAIN, EXECUTABLE, LINK, SUBMODULE)), content + chance.choice((b"", b"\n")))
+    return files
+
+
+def coding(report, folder):
+    """Trees of files come back as they were, camp takes their paths and lines, and what is too long is named."""
+    from camp import Add, Edit, Repository, diff
+    from camp.changes import apply
+    from camp.coding import File, PLAIN, Unheld, decode, encode
+    chance = random.Random(1)
+    for number in range(3_000):
+        files = random_files(chance)
+        tree = encode(files)
+        report.expect(f"tree {number}", decode(tree), files)
+        if number % 100 == 0:
+            record_tree(report, tree, Repository, Add, Edit)
+        path, old, new = "f", chance.choice((None, [b"a", b"b", b"c"])), [b"a", b"x", b"c"]
+        lines = old
+        for change in diff(path, old, new):
+            lines = apply(lines, change)
+        report.expect("apply", lines, new)
+        report.count("trees")
+    for name, content in ((b"x" * 198, b""), (b"\xff" * 67, b""), (b"x", b"\n" * 1_000_001)):
+        with contextlib.suppress(Unheld):
+            encode({name: File(PLAIN, content)})
+            report.fail(f"a file that camp can't hold is encoded: {name[:10]}")
+        report.count("files that are too long")
+
+
+def record_tree(report, tree, Repository, Add, Edit):
+    """A repository takes a tree, and answers it."""
+    with Repository() as repository:
+        for number, (path, lines) in enumerate(tree.items()):
+            repository.record("main", f"p{number}", [Add(path), *([Edit(path, 1, [], lines)] if lines else [])])
+        report.expect("tree of the repository", repository.tree("main"), tree)
+
+
+# Sessions.
+
+def sessions_of(text):
+    """The sessions of the table: their words, and steps of who, command and lines."""
+    found = []
+    for line in text.splitlines():
+        step = COMMAND.match(line)
+        if line.startswith("session "):
+            found.append((line.replace(":", "").split()[1:], []))
+        elif step and found:
+            found[-1][1].append((step[1], step[2], []))
+        elif found and found[-1][1]:
+            found[-1][1][-1][2].append(line)
+    return found
+
+
+def shown(done, folder, address):
+    """What a command wrote, without what differs from run to run."""
+    text = done.stdout.decode("utf-8", "backslashreplace").replace(address, "LOG").replace(folder, "FOLDER")
+    lines = re.sub(r"(?<=[a-z0-9])-[0-9a-f]{6}\b", "-#", text).rstrip("\n").split("\n")
+    return [it for it in lines + [f"[{done.returncode}]"] * bool(done.returncode) if it or len(lines) > 1]
+
+
+def play(report, folder, title, steps, address):
+    """Runs the steps of a session, up to the first that writes something else."""
+    prepare(folder)
+    for who, command, wanted in steps:
+        while wanted and not wanted[-1]:
+            wanted.pop()
+        done = call(folder, who, command, LOG=address)
+        if not report.expect(f"{title}: {who}$ {command}", "\n".join(shown(done, folder, address)), "\n".join(wanted)):
+            return
+        report.count("commands")
+    report.count("sessions")
+
+
+def play_all(report, folder, address, is_wanted):
+    """Plays the sessions of the table that are wanted, several at once; the address of a log is made of the number of its session."""
+
+    def play_one(numbered):
+        number, (words, steps) = numbered
+        if is_wanted(words):
+            play(report, f"{folder}/{number}", f"{address}: {' '.join(words)}", steps, address.format(number=number))
+
+    with ThreadPoolExecutor(programs.JOBS) as pool:
+        list(pool.map(play_one, enumerate(sessions_of(read_text(f"{DATA}/campvc")))))
+
+
+def sessions(report, folder):
+    play_all(report, folder, f"sqlite:{folder}/{{number}}/log.db", lambda words: True)
+
+
+@contextlib.contextmanager
+def etcd_servers(report, folder):
+    """The endpoints of three members of etcd, or None where it is missing."""
+    if not shutil.which("etcd"):
+        report.skip("etcd")
+        yield None
+        return
+    how = {"env": {**os.environ, "ETCD_DIR": f"{folder}/etcd"}}
+    started = programs.run([f"{TOP}/clients/etcd", "start"], **how)
+    try:
+        yield started.stdout.decode().strip() if report.expect("clients/etcd start", started.returncode, 0) else None
+    finally:
+        programs.run([f"{TOP}/clients/etcd", "stop"], **how)
+
+
+def etcd(report, folder):
+    """The shared sessions over three members of etcd."""
+    with etcd_servers(report, folder) as endpoints:
+        if endpoints:
+            play_all(report, folder, f"etcd:{endpoints}/s{{number}}", lambda words: "shared" in words)
+
+
+# Mishaps.
+
+def tree_of(folder):
+    """What stands in a working tree: its files, their modes and bytes."""
+    found = {}
+    for place, folders, names in os.walk(folder):
+        folders[:] = [it for it in folders if it != ".camp"]
+        for name in names:
+            path = os.path.join(place, name)
+            with open(path, "rb") as file:
+                found[os.path.relpath(path, folder)] = (os.stat(path).st_mode & 0o777, file.read())
+    return found
+
+
+def mishaps(report, folder):
+    prepare(folder)
+    setup = "campvc init --log $LOG; seq 200 >f; for i in $(seq 60); do echo $i >g$i; done; campvc record -m 'Start'; campvc branch other; campvc switch other;" \
+            "sed -i s/100/hundred/ f; rm g1 g2; echo new >h; campvc record -m 'Other'; campvc switch main"
+    how = {"LOG": f"sqlite:{folder}/log.db"}
+    report.expect("setup", call(folder, "anna", setup, **how).returncode, 0)
+    names_that_lead_out(report, folder, how)
+    interrupted(report, folder, how)
+    full_disk(report, folder, how)
+    at_once(report, folder, how)
+
+
+OUT = """
+import sys
+from camp import Add, Edit
+from camp.logs import open_log
+from camp.shared import Shared
+with Shared(open_log(sys.argv[1])) as shared:
+    shared.sync()
+    for number, path in enumerate(sys.argv[2:]):
+        shared.record("main", f"out-{number}", [Add(path), Edit(path, 1, [], ["/etc"]), *([Add(f"%m/{path}"), Edit(f"%m/{path}", 1, [], ["120000"])] if path == "etc" else [])])
+"""
+
+
+def names_that_lead_out(report, folder, how):
+    """Files that somebody else writes into `.camp`, `.git` or through a link are refused by name, and nothing changes."""
+    call(folder, "anna", f"campvc init ../out --log sqlite:{folder}/out.db; ln -s /tmp ../out/aside; echo aside >../out/.campignore; cd ../out && campvc record -m 'Ignored'")
+    before = tree_of(f"{folder}/out")
+    for number, paths in enumerate(([".camp/state.db"], ["d/.GIT/config"], ["etc", "etc/passwd"], ["aside/x"], ["%2E%2E/x"])):
+        own, where = f"out-{number}", f"sqlite:{folder}/out-{number}.db"
+        shutil.copytree(f"{folder}/out", f"{folder}/{own}", symlinks=True)
+        shutil.copy(f"{folder}/out.db", f"{folder}/{own}.db")
+        report.expect(f"{paths}: recorded", programs.run([sys.executable, "-c", OUT, where, *paths], env=environment(folder)).stderr, b"")
+        done = call(folder, own, f"campvc sync --log {where}")
+        is_nothing = paths == ["%2E%2E/x"]
+        report.expect(f"{paths}: status", done.returncode, 0 if is_nothing else 1)
+        report.expect(f"{paths}: named", is_nothing or paths[0].partition("/x")[0] in done.stdout.decode(), True)
+        report.expect(f"{paths}: the tree", tree_of(f"{folder}/{own}"), before)
+        report.count("names that lead out")
+
+
+def interrupted(report, folder, how):
+    """Ctrl-C or a kill at any moment of a pull and of a taking out: after the next command the tree is one of the two."""
+    before = tree_of(f"{folder}/anna")
+    report.expect("a pull", call(folder, "anna", "campvc pull other", **how).returncode, 0)
+    after = tree_of(f"{folder}/anna")
+    commands, chance, ended = ["campvc obliterate other -y", "campvc pull other"], random.Random(1), 0
+    for number in range(16):
+        process = programs.start(["bash", "-c", f"exec {commands[number % 2]}"], cwd=f"{folder}/anna", env=environment(folder, **how), start_new_session=True)
+        time.sleep(chance.uniform(0.05, 0.45))
+        with contextlib.suppress(ProcessLookupError):
+            os.killpg(process.pid, signal.SIGINT if number % 4 < 2 else signal.SIGKILL)
+        _, error = process.communicate()
+        ended += process.returncode != 0
+        # What Python itself says where it is interrupted before it runs the program is not the program's.
+        report.expect("what an interrupted command says", error[-2000:] if b"/apps/campvc/" in error else b"", b"")
+        report.expect("sync after Ctrl-C", call(folder, "anna", "campvc sync", **how).returncode, 0)
+        found = tree_of(f"{folder}/anna")
+        report.expect("the tree after Ctrl-C is one of the two", found in (before, after), True)
+        report.expect("status after Ctrl-C", b"nothing to record" in call(folder, "anna", "campvc status", **how).stdout, True)
+        call(folder, "anna", commands[number % 2], **how)
+        report.count("interruptions")
+    report.expect("interruptions before the end", ended > 0, True)
+
+
+def full_disk(report, folder, how):
+    """Files that can't grow past a size: words without a trace, the working tree as it was, and all goes on when there is room."""
+    os.makedirs(f"{folder}/anna", exist_ok=True)
+    call(folder, "anna", "campvc switch other; head -c 300000 /dev/urandom >big; campvc record -m 'Big'; campvc switch main", **how)
+    before = tree_of(f"{folder}/anna")
+    for size in (0, 4_096, 100_000, 250_000):
+        done = programs.run(["campvc", "pull", "other"], cwd=f"{folder}/anna", env=environment(folder, **how), preexec_fn=programs.limit_files(size))
+        report.expect(f"a pull where files have {size} bytes: status", done.returncode, 128)
+        report.expect(f"a pull where files have {size} bytes: words", done.stderr.count(b"\n") == 1 and b"Traceback" not in done.stderr, True)
+        report.expect(f"a pull where files have {size} bytes: the tree", tree_of(f"{folder}/anna"), before)
+        report.count("full disks")
+    report.expect("the same with room", call(folder, "anna", "campvc pull other && campvc status", **how).returncode, 0)
+
+
+def at_once(report, folder, how):
+    """Records from several terminals at once: each is there once."""
+    call(folder, "anna", "echo 0 >at-once; campvc record -m 'At once'", **how)
+    how = {**how, "CAMPVC_PATIENCE": "300"}
+    words = ["bash", "-c", "echo $0 >at-once-$0; campvc record -m \"Number $0\" at-once-$0"]
+    started = [programs.start([*words, str(number)], cwd=f"{folder}/anna", env=environment(folder, **how)) for number in range(6)]
+    for process in started:
+        out, error = process.communicate()
+        report.expect("a record of several at once", (process.returncode, error), (0, b""))
+    done = call(folder, "anna", "campvc log; campvc status", **how)
+    report.expect("records at once", sorted(re.findall(rb"Number (\d)", done.stdout)), [b"%d" % it for it in range(6)])
+    report.expect("nothing is left to record", b"nothing to record" in done.stdout, True)
+    report.count("records at once", len(started))
+
+
+# Git.
+
+def git(report, folder):
+    """The trees of commits come in and go out as they are; a second import brings what is new."""
+    if not shutil.which("git"):
+        report.skip("git")
+        return
+    prepare(folder)
+    own = "git -c user.name=Cleo -c user.email=cleo@example.org -c init.defaultBranch=main"
+    commits = (f"{own} init -q .; printf 'one\\ntwo' >f; mkdir d; printf 'a\\0b' >d/b; ln -s f l; {own} add -A; {own} commit -qm 'First'\n"
+               f"chmod +x f; echo three >>f; printf 'x' >'ü \"q\"'; {own} add -A; {own} commit -qm 'Second\n\nwith a body'; {own} commit -q --allow-empty -m 'Nothing'\n"
+               f"{own} checkout -qb side HEAD~1; seq 300 >n; rm l; mkdir l; echo in >l/f; {own} add -A; {own} commit -qm 'Side'; {own} checkout -q main; {own} merge -q -m 'Merge' side")
+    report.expect("commits", call(folder, "git", commits).stdout, b"")
+    done = call(folder, "anna", "campvc init >/dev/null; campvc import ../git; campvc import ../git; campvc status")
+    wanted = b"4 of 4 commits came in\n0 of 4 commits came in\non branch main (copy anna)\n  nothing to record\n"
+    report.expect("import", done.stdout, wanted)
+    report.expect("the working tree", call(folder, "anna", "diff -r --no-dereference -x .git -x .camp . ../git").stdout, b"")
+    call(folder, "anna", "campvc export --to ../out")
+    trees = "git log --first-parent --format='%T %an %ae %at %B' main"
+    report.expect("export", call(folder, "out", trees).stdout, call(folder, "git", trees).stdout)
+    call(folder, "git", f"seq 400 >n; {own} commit -qam 'More'; for i in $(seq 90); do echo $i >m$i; done; {own} add -A; {own} commit -qm 'Much'")
+    report.expect("a second import", call(folder, "anna", "campvc import ../git; campvc export | git -C ../out fast-import --quiet --force").stdout, b"2 of 6 commits came in\n")
+    tree = "git rev-parse main^{tree}"
+    report.expect("the last tree", call(folder, "out", tree).stdout, call(folder, "git", tree).stdout)
+    report.expect("a branch with files takes no import", call(folder, "ben", "campvc init >/dev/null; echo x >x; campvc record -m x >/dev/null; campvc import ../git").returncode, 1)
+    report.count("commits", 6)
+
+
+# The page.
+
+STORY = r"""
+campvc init --log $LOG
+printf 'soup\nbread\ncheese\n' >menu; campvc record -m 'The menu of the week'
+printf '#!/bin/sh\necho "<script>document.title = 1</script>" & \033[31m\xff\n' >'a <b> "c".sh'; campvc record -m 'A script <script>alert(1)</script>
+
+It prints <img src=//example.org/x.png>, which is text.'
+(mkdir ../ben; cd ../ben; export CAMPVC_COPY=ben CAMPVC_AUTHOR='Ben <b>Ole</b> <ben@example.org>'; campvc clone $LOG
+ printf 'soup\nrolls\nand butter, on a line that is so long that no window of 320 pixels shows the whole of it: it has to be broken\ncheese\n' >menu
+ echo 9 to 5 >hours; campvc record -m 'Rolls and butter instead of the bread that nobody eats any more')
+sed -i s/bread/'rye bread'/ menu; echo 10 to 6 >hours; campvc record -m 'Rye bread'; campvc sync; echo wine >>menu; campvc record -m 'Wine'; campvc branch empty-talk
+"""
+
+
+@contextlib.contextmanager
+def server(folder, python, *words, **more):
+    """A page that is served: its address."""
+    command = [python, "-m", "campvc", "web", "--port", str(random.randrange(20_000, 30_000)), *words]
+    process = programs.start(command, cwd=f"{folder}/anna", env=environment(folder, **more), start_new_session=True)
+    try:
+        yield process.stdout.readline().decode().strip()
+    finally:
+        os.kill(process.pid, signal.SIGINT)
+        process.communicate(timeout=60)
+
+
+def fetch(address, **headers):
+    """The status, headers and text of a page."""
+    import urllib.error
+    import urllib.request
+    try:
+        with urllib.request.urlopen(urllib.request.Request(address, headers=headers), timeout=60) as found:
+            return found.status, found.headers, found.read().decode()
+    except urllib.error.HTTPError as error:
+        return error.code, error.headers, error.read().decode()
+
+
+def page(report, folder):
+    python = python_with(", aiohttp, jinja2")
+    if not python:
+        report.skip("aiohttp and jinja2")
+        return
+    prepare(folder)
+    how = {"LOG": f"sqlite:{folder}/log.db"}
+    call(folder, "anna", STORY, **how)
+    with server(folder, python, **how) as address:
+        views(report, address.rstrip("/"))
+        call(folder, "anna", "echo later >later; campvc record -m 'Later than the page'", **how)
+        report.expect("the page shows what was recorded since", "Later than the page" in fetch(f"{address}b/main")[2], True)
+        look(report, folder, python, address.rstrip("/"))
+    with server(folder, python, "--host", "0.0.0.0", CAMPVC_TOKEN="secret", **how) as address:
+        guarded(report, address)
+
+
+def views(report, address):
+    """Each view says what it is for, as text that is escaped; what is not there is 404; names of other sites are refused."""
+    names = {name.rsplit("-", 1)[0]: name for name in re.findall(r'href="/b/main/patch/([^"]*)"', fetch(f"{address}/b/main")[2])}
+    wanted = {
+        "/": ["main", "empty-talk", "main--anna", "unresolved conflict"],
+        "/b/main": ["The menu of the week", "A script &lt;script&gt;alert(1)&lt;/script&gt;", "in conflict with", "<svg", "Ben &lt;b&gt;Ole&lt;/b&gt;", "a &lt;b&gt; &#34;c&#34;.sh"],
+        f"/b/main/patch/{names['wine']}": ["Held by", "no other patch", "+wine", "Anna Berg"],
+        f"/b/main/patch/{names['rye-bread']}": ["Needs", "In conflict with", "unresolved", "-bread", "+rye bread"],
+        "/b/main/file?path=a%2520%3Cb%3E%2520%22c%22.sh": ["&lt;script&gt;document.title = 1&lt;/script&gt;", "\\x1b[31m", "\\xff", "Anna Berg"],
+        "/b/main/conflicts": ["as it is now", "rye bread", "and butter", "10 to 6", "9 to 5"],
+    }
+    for path, words in wanted.items():
+        status, headers, text = fetch(address + path)
+        report.expect(f"{path}: status", status, 200)
+        report.expect(f"{path}: what it lacks", [it for it in words if it not in text], [])
+        report.expect(f"{path}: scripts", "<script" in text or "<img" in text, False)
+        report.expect(f"{path}: policy", headers["Content-Security-Policy"].startswith("default-src 'none'"), True)
+        report.count("views")
+    for path in ("/b/nowhere", "/b/main/patch/nothing", "/b/main/file?path=nothing", "/b/main/file?path=a%20b", "/b/main/file", "/b/A%20b", "/nowhere", "/b/main?from=x"):
+        status, _, text = fetch(address + path)
+        report.expect(f"{path}: status", status, 404)
+        report.expect(f"{path}: no trace", "Traceback" in text or "Internal" in text, False)
+        report.count("wrong addresses")
+    report.expect("the name of another site", fetch(f"{address}/", Host="example.org")[0], 403)
+
+
+def guarded(report, address):
+    """Beyond loopback the page wants its token, which then is a cookie."""
+    bare, _, query = address.replace("0.0.0.0", "127.0.0.1").partition("?")
+    report.expect("the printed address", query, "token=secret")
+    for path, headers, status in (("", {}, 403), ("?token=wrong", {}, 403), ("", {"Cookie": "token=secret"}, 200), ("b/main", {"Cookie": "token=wrong"}, 403), ("style.css", {}, 403)):
+        report.expect(f"{path} with {headers}", fetch(bare + path, **headers)[0], status)
+        report.count("tokens")
+
+
+def look(report, folder, python, address):
+    """The views in Chromium, with pictures: nothing leaves the machine, 320 pixels suffice, links have names and are reached."""
+    if not shutil.which("chromium"):
+        report.skip("chromium")
+        return
+    pictures = f"{TOP}/out/campvc"
+    shutil.rmtree(pictures, ignore_errors=True)
+    os.makedirs(pictures)
+    rye = re.search(r"/b/main/patch/rye-bread-\w*", fetch(f"{address}/b/main")[2])[0]
+    paths = ["/", "/b/main", rye, "/b/main/file?path=menu", "/b/main/file?path=a%2520%3Cb%3E%2520%22c%22.sh", "/b/main/conflicts", "/b/nowhere"]
+    done = programs.run([python, f"{TOP}/tests/harness/browser.py", pictures, address, *paths], env=environment(folder))
+    report.expect("the browser", (done.returncode, done.stderr[-2000:]), (0, b""))
+    for line in done.stdout.decode().splitlines():
+        facts = json.loads(line)
+        path, well = facts["path"], {"headings": 1, "lang": "en", "scripts": 0, "unreached": 0, "nameless": 0, "outside": []}
+        report.expect(f"{path} in the browser", {key: facts[key] for key in well}, well)
+        report.expect(f"{path}: status", facts["status"], [404 if "nowhere" in path else 200])
+        report.expect(f"{path}: words in the console", [it for it in facts["console"] if "404" not in it], [])
+        report.expect(f"{path}: at most 320 pixels wide", facts["width"] <= 320, True)
+        report.count("pictures", 2)
