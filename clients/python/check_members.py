@@ -1,6 +1,6 @@
 """Several members share one log under faults, and a replay of the log in one session checks what each was answered.
 
-    python3 check_members.py sqlite:PATH | etcd:HOST:PORT[,HOST:PORT ..]/PREFIX [--members N] [--calls N] [--wrong NAME]
+    python3 check_members.py sqlite:PATH | etcd:HOST:PORT[,HOST:PORT ..]/PREFIX | postgres:DSN [--members N] [--calls N] [--wrong NAME]
 
 The library is found as `import camp` finds it. A fifth of the appends lose their answer: half of these took place. Each member is
 a thread with a session of its own. `--wrong` plants a member that is wrong in one way (`WRONG`), which the check has to
@@ -139,7 +139,7 @@ class Run:
     def _member(self, at, kind):
         chance = random.Random("%s %d" % (self.seed, at))
         member, log = kind(), Lossy(open_log(self.log_name), chance)
-        asked, answered, alive = 0, 0, time.monotonic() + 100
+        asked, answered, alive = 0, 0, time.monotonic() + 300
         try:
             while answered < self.calls and time.monotonic() < alive:
                 while asked < self.calls and asked - answered < 1 + chance.randrange(8):

@@ -1,11 +1,14 @@
 """Processes that share one history over a log are answered as one session that replays the log; planted wrong ones are found.
 
-Words: sqlite, etcd name parts; none: both. Without etcd the second is skipped. The processes are those of camp.shared, in
-clients/python; the library is found as golden/clients finds it.
+Words: sqlite, etcd, postgres name parts; none: all. A part whose engine is not installed is skipped. The processes are those
+of camp.shared, in clients/python; the library is found as golden/clients finds it.
 """
 
+import contextlib
+import glob
 import os
 import shutil
+import subprocess
 import sys
 import tempfile
 from concurrent.futures import ThreadPoolExecutor
@@ -18,12 +21,14 @@ SECONDS, GATE = 25, "after camp_c"
 CHECK = f"{TOP}/clients/python/check_members.py"
 # Members that are wrong in one way each, which the check has to find.
 PLANTED = ("new-tag", "early", "stale", "skips", "twice")
-# A wrong member is not always wrong where it is seen, so it gets so many runs.
-RUNS = 4
+# A wrong member is not always wrong where it is seen, less so on a busy machine, so it gets so many runs at most.
+RUNS = 12
+# Who runs a server in place of root, which PostgreSQL refuses.
+NOBODY = 65534
 
 
 def run(report, words):
-    parts = {"sqlite": sqlite, "etcd": etcd}
+    parts = {"sqlite": sqlite, "etcd": etcd, "postgres": postgres}
     library = built_library(report, makes=True)
     if not library:
         return
@@ -61,8 +66,40 @@ def etcd(report, folder, environment):
         programs.run([f"{TOP}/clients/etcd", "stop"], env=environment)
 
 
-def check(log, environment, members, calls, seed, *words):
-    return programs.run([sys.executable, CHECK, log, "--members", str(members), "--calls", str(calls), "--seed", str(seed), *words], env=environment)
+def postgres(report, folder, environment):
+    """Three members of a log in one server on this machine."""
+    found = sorted(glob.glob("/usr/lib/postgresql/*/bin"))
+    python = next((it for it in (sys.executable, "/usr/bin/python3") if has_psycopg(it)), None)
+    if not found or not python:
+        report.skip("PostgreSQL with psycopg2")
+        return
+    with server(found[-1]) as dsn:
+        agrees(report, "postgres", check(f"postgres:{dsn}", environment, 3, 25, 1, python=python))
+
+
+def has_psycopg(python):
+    return os.path.exists(python) and programs.run([python, "-c", "import psycopg2"]).returncode == 0
+
+
+@contextlib.contextmanager
+def server(binaries):
+    """A server of PostgreSQL with a socket in a folder of its own; its address."""
+    as_nobody = [] if os.geteuid() else ["setpriv", f"--reuid={NOBODY}", f"--regid={NOBODY}", "--clear-groups"]
+    with tempfile.TemporaryDirectory(prefix="postgres-") as folder:
+        if as_nobody:
+            os.chown(folder, NOBODY, NOBODY)
+        how = {"cwd": folder, "check": True, "stdin": subprocess.DEVNULL, "stdout": subprocess.DEVNULL}
+        control = [*as_nobody, f"{binaries}/pg_ctl", "-D", f"{folder}/data", "-w", "-t", "120"]
+        subprocess.run([*as_nobody, f"{binaries}/initdb", "-D", f"{folder}/data", "-A", "trust", "-U", "camp"], **how)
+        subprocess.run([*control, "-l", f"{folder}/log", "-o", f"-k {folder} -c listen_addresses=''", "start"], **how)
+        try:
+            yield f"host={folder} user=camp dbname=postgres"
+        finally:
+            subprocess.run([*control, "-m", "immediate", "stop"], **how)
+
+
+def check(log, environment, members, calls, seed, *words, python=sys.executable):
+    return programs.run([python, CHECK, log, "--members", str(members), "--calls", str(calls), "--seed", str(seed), *words], env=environment)
 
 
 def agrees(report, name, done):

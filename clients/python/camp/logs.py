@@ -43,7 +43,7 @@ class Log(Protocol):
 
 
 def open_log(address: str) -> Log:
-    """The log at an address: `sqlite:PATH` or `etcd:HOST:PORT[,HOST:PORT ..]/PREFIX`."""
+    """The log at an address: `sqlite:PATH`, `etcd:HOST:PORT[,HOST:PORT ..]/PREFIX`, or `postgres:DSN` as psycopg2 has it."""
     kind, _, rest = address.partition(":")
     if kind == "sqlite" and rest:
         return SqliteLog(rest)
@@ -51,7 +51,10 @@ def open_log(address: str) -> Log:
     if kind == "etcd" and hosts and prefix:
         from .etcd_log import EtcdLog
         return EtcdLog(hosts.split(","), prefix)
-    raise ValueError("no address of a log: {!r}; write sqlite:PATH or etcd:HOST:PORT[,HOST:PORT ..]/PREFIX".format(address))
+    if kind == "postgres" and rest:
+        from .postgres_log import PostgresLog
+        return PostgresLog(rest)
+    raise ValueError("no address of a log: {!r}; write sqlite:PATH, etcd:HOST:PORT[,HOST:PORT ..]/PREFIX or postgres:DSN".format(address))
 
 
 class Damaged(Exception):
