@@ -1,5 +1,5 @@
-//! What holds of readers of one log.
-ghost use Rattle.camp_member.specs.Laws.{EachTagCountsOnce, NothingIsRead, ReadersAgree, ReadersShareOneHistory, ReadsOn, StopsAtForeign};
+//! What holds of readers and members of one log.
+ghost use Rattle.camp_member.specs.Laws.{AcceptedOnce, EachTagCountsOnce, FindsOn, GoesAnyhow, GoesOn, NobodyIsBusy, NothingIsRead, ReadersAgree, ReadersShareOneHistory, ReadsOn, StopsAtForeign};
 ghost use Rattle.camp_object.specs.Objects.{begun};
 
 use camp_object::Object;
@@ -21,4 +21,19 @@ pub fn each_tag_counts_once<State: Object>()
 pub fn readers_share_one_history<State: Object>()
     ensures agree { (first : State) → ReadersAgree (begun State.object first) }
     ensures law { (first : State) → ReadersShareOneHistory (begun State.object first) }
+{}
+
+/// A member has the lawful part of its log: each entry that it finds is read after the others.
+pub fn members_follow_the_log<State: Object>()
+    ensures law { (first : State) → FindsOn (begun State.object first) }
+{}
+
+/// Over a run of a member, each answer says what `Ask` says, each at a history that begins with the one before
+/// it; of the calls of its seat the history gets those that were answered as accepted, each once; and no
+/// answer says that the member is busy.
+pub fn members_are_answered_once<State: Object>()
+    ensures goes_on { (first : State) → GoesOn (begun State.object first) }
+    ensures anyhow { (first : State) → GoesAnyhow (begun State.object first) }
+    ensures once { (first : State) → AcceptedOnce (begun State.object first) }
+    ensures not_busy { NobodyIsBusy State.Reply }
 {}

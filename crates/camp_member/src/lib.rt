@@ -4,11 +4,20 @@
 mod drafts;
 mod entries;
 mod faults;
+mod finding;
 mod laws;
+mod members;
 mod numbers;
 mod readers;
+mod requests;
+mod wanting;
 
 pub use entries::{Entry, MAX_CALLS};
 pub use faults::ReadFault;
-pub use laws::{each_tag_counts_once, readers_follow_the_log, readers_share_one_history};
+pub use laws::{
+    each_tag_counts_once, members_are_answered_once, members_follow_the_log,
+    readers_follow_the_log, readers_share_one_history,
+};
+pub use members::Member;
 pub use readers::Reader;
+pub use requests::{NoReply, Request, Want};

@@ -1,13 +1,13 @@
 //! A reader of a log: it decides each entry where it stands, and each tag once.
-ghost use Rattle.std.specs.Prelude.{◌≡◌, ◌+◌, ◌⊎◌, ℕ, [], Some, length, IfOk, IfErr, OnErr, IfSome, OnOk, IsSome};
+ghost use Rattle.std.specs.Prelude.{◌≡◌, ◌+◌, ◌<◌, ◌^◌, ◌⊎◌, ℕ, [], true, None, Some, MatchOption, length, IfOk, IfErr, OnErr, IfSome, OnOk, IsSome};
 ghost use Rattle.std.specs.Option.{unwrap_or};
-ghost use Rattle.camp_object.specs.Histories.{IsLegal, replay};
+ghost use Rattle.camp_object.specs.Histories.{IsAccepted, IsAnswered, IsLegal, replay};
 ghost use Rattle.camp_object.specs.Objects.{IsFirst, begun};
 
 use crate::drafts::Draft;
 use crate::numbers::{Numbers, no_numbers, number_of, set_number};
 use crate::{Entry, ReadFault};
-use camp_object::Object;
+use camp_object::{Decided, Object};
 use std::alloc::{AllocError, Global};
 use std::marker::Model;
 
@@ -81,6 +81,16 @@ impl<State: Object> Reader<State> {
         &self.history
     }
 
+    /// Returns the number of calls of the history.
+    pub fn position(&self) -> u64
+        ensures exact { result ≡ length self.now.history }
+        ensures room { length self.now.history < 2 ^ 64 }
+        ensures legal { IsLegal (begun State.object self.now.first) self.now.history }
+        ensures first { IsFirst State.object self.now.first }
+    {
+        self.history.len() as u64
+    }
+
     /// Returns the state after the calls of the history.
     pub fn state(&self) -> &State
         ensures exact { replay (begun State.object self.now.first) self.now.history ≡ Some result.now }
@@ -93,6 +103,22 @@ impl<State: Object> Reader<State> {
         ensures exact { result ≡ number_in self.now.numbers seat }
     {
         number_of(&self.numbers, seat)
+    }
+
+    /// Returns the answer to a call at what was read; none if the call is accepted there.
+    pub fn answer_to(&self, call: &State::Call) -> Result<Option<State::Reply>, AllocError>
+        ensures answers { IfOk result (λ answer. MatchOption answer
+            (IsAccepted (begun State.object self.now.first) self.now.history call.now)
+            (IsAnswered (begun State.object self.now.first) self.now.history call.now)) }
+        ensures writes { IfOk result (λ answer. answer ≡ None → State.object.is_writing call.now ≡ true) }
+    {
+        if self.history.len() as u64 == u64::MAX {
+            return Err(AllocError);
+        }
+        match self.state.decide(call)? {
+            Decided::Answer(reply) => Ok(Some(reply)),
+            Decided::Next(_) => Ok(None),
+        }
     }
 
     /// Reads what stands at an index of the log: an entry, or `None` if it is none. Returns the reply to each
