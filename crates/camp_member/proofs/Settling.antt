@@ -4,16 +4,19 @@ use Rattle.std.proofs.lemmas.List.{append_assoc, append-nil, map-append, take-ap
 use Rattle.camp_object.specs.Objects.{Sequential, IsLawfulObject}
 use Rattle.camp_object.specs.Histories.{IsLegal, own}
 use Rattle.camp_object.proofs.Beginnings.{begins_self}
-use Rattle.camp_member.specs.Inside.Settling.{AnswersFirst}
+use Rattle.camp_member.specs.Inside.Settling.{AnswersFirst, IsRest}
 use Rattle.camp_object.specs.Asking.{IsNotBusy}
 use Rattle.camp_member.specs.Laws.{AnyReason, FindsOn, GoesAnyhow}
 use Rattle.camp_member.specs.Members.{Membership, as_answer, refused}
 use Rattle.camp_member.specs.Readings.{Reading}
 use Rattle.camp_member.specs.Telling.{AreTold, Goes, IsTold, Told, answers_in, requests_in}
-use Rattle.camp_member.specs.Wanting.{AfterEnd, Ends, IsAnswerTo, IsStopped}
+use Rattle.camp_member.specs.Wanting.{AfterEnd, Ends, IsAnswerTo, IsNeeded, IsStopped}
 use Rattle.camp_member.specs.declared.requests.NoReply.{NoReply}
 use Rattle.camp_member.specs.declared.requests.NoReply.TheVariants.{Ended}
 use Rattle.camp_member.specs.declared.requests.Request.{Request}
+use Rattle.camp_member.specs.declared.requests.Want.{Want}
+use Rattle.camp_member.specs.declared.requests.Want.TheVariants as want
+use Rattle.camp_member.specs.declared.wanting.Rest.TheVariants.{Sends}
 use Rattle.camp_member.proofs.Reading.{reads_on}
 use Rattle.camp_member.proofs.Telling.{answer_asks, goes_unchanged, no_reply_asks, told-append}
 
@@ -108,6 +111,16 @@ module _ {State Call Reply : Type 0} (object : Sequential State Call Reply) wher
       → OnOk result (new ≡ refused Ended (record old { sent = 1 })) → OnOk result (AfterEnd object old index new)
   ends_so old new index request rest ends (Ok done) is = inl (request, rest, ends, is)
   ends_so old new index request rest ends (Err fault) is = tt
+
+  -- a member that appends has not stopped, and its first request is accepted
+  pub needed_so : (member : Membership State Call Reply) (sent : ℕ) → IsRest object member Sends → (want : Want Call) → IsNeeded object want (record member { sent = sent })
+  needed_so member sent rest want.Nothing = tt
+  needed_so member sent rest (want.Read from) = tt
+  needed_so member sent rest (want.Append entry) = (rest.1, (rest.2.0, rest.2.1, rest.2.2, rest.2.4))
+
+  pub all_so : {A Fault : Type 0} {P : A → Type 0} → ((value : A) → P value) → (result : Result A Fault) → IfOk result P
+  all_so {P = P} so (Ok value) = so value
+  all_so so (Err fault) = tt
 
   -- a wider reason
   told_wider : (narrow wide : NoReply → Type 0) → ((why : NoReply) → narrow why → wide why) → (seat : ℕ) (seen : List (ℕ × Call)) (told : List (Told Call Reply)) (now : List (ℕ × Call)) → AreTold object narrow seat seen told now → AreTold object wide seat seen told now

@@ -56,6 +56,14 @@ module _ {State Call Reply : Type 0} (object : Sequential State Call Reply) wher
       (entry.seat ≡ member.seat) × (entry.number ≡ number_in member.reading.numbers member.seat + 1)
       × (entry.calls ≡ under_way member) × IsBatch member.reading.history (take member.sent member.waiting)
 
+  -- a member begins to append only if it has not stopped, and only if its first request is accepted at what was read
+  abbrev pub IsNeeded : Want Call → Membership State Call Reply → Type 0
+  IsNeeded want.Nothing member = Unit {0}
+  IsNeeded (want.Read from) member = Unit {0}
+  IsNeeded (want.Append entry) member =
+      (member.is_stopped ≡ false)
+      × ((request : Request Call) × (rest : List (Request Call)) × (member.waiting ≡ request ∷ rest) × IsAccepted object member.reading.history request.call)
+
   -- an entry of the member's seat with a new number
   abbrev pub IsOwn : Membership State Call Reply → Tagged Call → Type 0
   IsOwn member entry = (entry.seat ≡ member.seat) × (number_in member.reading.numbers member.seat < entry.number)

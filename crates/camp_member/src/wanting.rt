@@ -5,7 +5,7 @@ ghost use Rattle.camp_object.specs.Objects.{begun};
 ghost use Rattle.camp_member.specs.Entries.{most_calls, number_in};
 ghost use Rattle.camp_member.specs.Members.{calls_of, refused, under_way};
 ghost use Rattle.camp_member.specs.Telling.{Goes};
-ghost use Rattle.camp_member.specs.Wanting.{AfterEnd, IsAnswerTo, IsBatch, IsStopped, Wants};
+ghost use Rattle.camp_member.specs.Wanting.{AfterEnd, IsAnswerTo, IsBatch, IsNeeded, IsStopped, Wants};
 ghost use Rattle.camp_member.specs.declared.requests.NoReply.TheVariants as no_reply;
 
 use crate::{Entry, MAX_CALLS, Member, NoReply, Request, Want};
@@ -44,6 +44,7 @@ impl<State: Object> Member<State> {
     /// under way stays, and what was answered stays answered.
     pub fn want(&mut self, alloc: Global) -> Result<Want<State::Call>, AllocError>
         ensures wants { IfOk result (λ want. Wants State.object want self.new) }
+        ensures needed { IfOk result (λ want. self.old.sent ≡ 0 → IsNeeded (begun State.object self.new.reading.first) want self.new) }
         ensures stays { 0 < self.old.sent → self.new ≡ self.old }
         ensures reading { self.new.reading ≡ self.old.reading }
         ensures is_stopped { self.new.is_stopped ≡ self.old.is_stopped }
@@ -68,6 +69,7 @@ impl<State: Object> Member<State> {
         ensures stays { 0 < self.old.sent → self.new ≡ self.old }
         ensures reading { self.new.reading ≡ self.old.reading }
         ensures is_stopped { self.new.is_stopped ≡ self.old.is_stopped }
+        ensures sent { self.new.sent ≡ self.old.sent }
         ensures goes { Goes (begun State.object self.old.reading.first) (IsStopped self.old) self.old self.new }
     {
         let _position = self.reader.position();

@@ -29,6 +29,7 @@ loop-preserved g c =
       stays = λ some. let none = step.none_sent in let same = ap (λ (m : M). m.sent) (past.stays some) in absurd (omega (arith, some, none, same));
       reading = step.reading ∙ past.reading;
       is_stopped = step.is_stopped ∙ past.is_stopped;
+      sent = step.sent ∙ past.sent;
       goes = goes_through (begun object first) (IsStopped start) start old new legal past.goes
           (answers_goes (begun object first) lawful (IsStopped start) old new legal (λ why is. (is.0, sym past.is_stopped ∙ is.1)) step);
     }

@@ -9,5 +9,6 @@ invariant-loop g l = record {
   stays : 0 < l.fn.self.sent → l.self ≡ l.fn.self;
   reading : l.self.reading ≡ l.fn.self.reading;
   is_stopped : l.self.is_stopped ≡ l.fn.self.is_stopped;
+  sent : l.self.sent ≡ l.fn.self.sent;
   goes : Goes (begun g.State.Object.object l.fn.self.reading.first) (IsStopped l.fn.self) l.fn.self l.self;
 }
