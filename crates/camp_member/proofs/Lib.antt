@@ -1,0 +1,5 @@
+pub mod Counting
+pub mod Deciding
+pub mod Reading
+pub mod Telling
+pub mod Settling

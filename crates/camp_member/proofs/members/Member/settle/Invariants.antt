@@ -1,0 +1,14 @@
+use Rattle.std.proofs.Common.{◌≡◌, ◌<◌}
+use Rattle.camp_object.specs.Objects.{begun}
+use Rattle.camp_member.specs.Telling.{Goes}
+use Rattle.camp_member.specs.Wanting.{IsStopped}
+use Rattle.camp_member.proofs.members.Member.settle.Given as goal
+
+abbrev pub invariant-loop : goal.invariant-loop
+invariant-loop g l = record {
+  stays : 0 < l.fn.self.sent → l.self ≡ l.fn.self;
+  reading : l.self.reading ≡ l.fn.self.reading;
+  is_stopped : l.self.is_stopped ≡ l.fn.self.is_stopped;
+  sent : l.self.sent ≡ l.fn.self.sent;
+  goes : Goes (begun g.State.Object.object l.fn.self.reading.first) (IsStopped l.fn.self) l.fn.self l.self;
+}

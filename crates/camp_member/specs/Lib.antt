@@ -1,0 +1,9 @@
+pub mod Decisions
+pub mod Entries
+pub mod Inside
+pub mod Laws
+pub mod Logs
+pub mod Members
+pub mod Readings
+pub mod Telling
+pub mod Wanting

@@ -1,0 +1,27 @@
+//! Why an entry was not read.
+ghost use Rattle.std.specs.Prelude.{◌≡◌};
+ghost use Rattle.camp_member.specs.declared.faults.ReadFault.TheVariants as fault;
+
+use std::alloc::{AllocError, AllocFailed};
+use thiserror::Error;
+
+/// Why an entry of a log was not read. The reader is then as it was.
+#[derive(Clone, Copy, PartialEq, Eq, Debug, Error)]
+pub enum ReadFault {
+    #[error("out of memory")]
+    Memory,
+    /// Another entry comes next: the one at this index.
+    #[error("the next entry is the one at index {index}")]
+    OutOfOrder { index: usize },
+    /// What stands at the index is no entry of a member, or skips a number of its seat.
+    #[error("no entry of a member stands at index {index}")]
+    Foreign { index: usize },
+}
+
+impl From<AllocError> for ReadFault {
+    ghost from_gives = { λ _ result. result ≡ fault.Memory };
+
+    fn from(_error: AllocError) -> ReadFault {
+        ReadFault::Memory
+    }
+}

@@ -1,0 +1,23 @@
+//! A member of a log that many processes share: what it reads is one history, and it asks without IO.
+#![tactic(auto)]
+
+mod drafts;
+mod entries;
+mod faults;
+mod finding;
+mod laws;
+mod members;
+mod numbers;
+mod readers;
+mod requests;
+mod wanting;
+
+pub use entries::{Entry, MAX_CALLS};
+pub use faults::ReadFault;
+pub use laws::{
+    each_tag_counts_once, members_are_answered_once, members_follow_the_log,
+    readers_follow_the_log, readers_share_one_history,
+};
+pub use members::Member;
+pub use readers::Reader;
+pub use requests::{NoReply, Request, Want};

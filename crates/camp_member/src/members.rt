@@ -1,0 +1,98 @@
+//! A member of a log: who asks over it, without IO.
+ghost use Rattle.std.specs.Prelude.{◌≡◌, ◌++◌, [], ◌∷◌, OnOk, OnErr, IfOk, MatchOption};
+ghost use Rattle.camp_object.specs.Histories.{IsLegal, replay};
+ghost use Rattle.camp_object.specs.Objects.{IsFirst, begun};
+
+use crate::{NoReply, Reader, Request};
+use camp_object::Object;
+use std::alloc::{AllocError, Global};
+use std::marker::Model;
+
+/// One of those who share a log. It says what it wants of the log, and is told what came of it. Contracts see
+/// it as `Membership`.
+#[derive(Drop)]
+pub struct Member<State: Object> {
+    pub(crate) seat: u128,
+    pub(crate) reader: Reader<State>,
+    pub(crate) is_stopped: bool,
+    /// The requests without an answer, in order; the first `sent` are in the entry under way.
+    pub(crate) waiting: Vec<Request<State::Call>>,
+    pub(crate) sent: usize,
+    pub(crate) answers: Vec<(u64, Result<State::Reply, NoReply>)>,
+}
+
+impl<State: Object> Model for Member<State> {
+    ghost use Rattle.std.specs.Prelude.{◌<◌, ◌≤◌, length, take};
+    ghost use Rattle.camp_object.specs.Objects.{begun};
+    ghost use Rattle.camp_member.specs.Members.{Membership};
+    ghost use Rattle.camp_member.specs.Wanting.{IsBatch};
+
+    ghost Value = { Membership State State.Call State.Reply };
+
+    ghost view = { λ m. record {
+      seat = m.seat;
+      reading = m.reader;
+      is_stopped = m.is_stopped;
+      waiting = m.waiting.items;
+      sent = m.sent;
+      answers = m.answers.items;
+    } };
+
+    ghost invariant = { λ m. (m.sent ≤ length m.waiting.items)
+        × (0 < m.sent → IsBatch State.object m.reader.history (take m.sent m.waiting.items)) };
+}
+
+impl<State: Object> Member<State> {
+    ghost use Rattle.camp_member.specs.Members.{new_member};
+
+    /// Makes a member of a seat that nobody else has. Its history begins with a first state.
+    pub fn new(alloc: Global, first: State, seat: u128) -> Member<State>
+        requires { IsFirst State.object first }
+        ensures exact { result ≡ new_member first seat }
+    {
+        Member {
+            seat,
+            reader: Reader::new(alloc, first),
+            is_stopped: false,
+            waiting: Vec::new(alloc),
+            sent: 0,
+            answers: Vec::new(alloc),
+        }
+    }
+
+    /// Returns what it has read of the log: its history and the state after it.
+    pub fn reader(&self) -> &Reader<State>
+        ensures exact { result.now ≡ self.now.reading }
+    {
+        &self.reader
+    }
+
+    /// True if it has found what is no entry of a member, or an entry of another process with its seat. It then
+    /// answers at what it has read, and appends nothing.
+    pub fn is_stopped(&self) -> bool
+        ensures exact { result ≡ self.now.is_stopped }
+    {
+        self.is_stopped
+    }
+
+    /// Asks a request: it waits behind the others for an answer.
+    pub fn ask(&mut self, request: Request<State::Call>) -> Result<(), AllocError>
+        ensures waits { OnOk result (self.new ≡ record self.old { waiting = self.old.waiting ++ request ∷ [] }) }
+        ensures stays { OnErr result (self.new ≡ self.old) }
+    {
+        self.waiting.push(request)?;
+        Ok(())
+    }
+
+    /// Takes the next answer, in the order of the requests, with the number of its request.
+    pub fn answer(&mut self) -> Option<(u64, Result<State::Reply, NoReply>)>
+        ensures exact { MatchOption result
+            ((self.old.answers ≡ []) × (self.new ≡ self.old))
+            (λ answer. self.old ≡ record self.new { answers = answer ∷ self.new.answers }) }
+    {
+        if self.answers.is_empty() {
+            return None;
+        }
+        Some(self.answers.remove(0))
+    }
+}

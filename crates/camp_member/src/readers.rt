@@ -1,0 +1,216 @@
+//! A reader of a log: it decides each entry where it stands, and each tag once.
+ghost use Rattle.std.specs.Prelude.{◌≡◌, ◌+◌, ◌<◌, ◌^◌, ◌⊎◌, ℕ, [], true, None, Some, MatchOption, length, IfOk, IfErr, OnErr, IfSome, OnOk, IsSome};
+ghost use Rattle.std.specs.Option.{unwrap_or};
+ghost use Rattle.camp_object.specs.Histories.{IsAccepted, IsAnswered, IsLegal, replay};
+ghost use Rattle.camp_object.specs.Objects.{IsFirst, begun};
+
+use crate::drafts::Draft;
+use crate::numbers::{Numbers, no_numbers, number_of, set_number};
+use crate::{Entry, ReadFault};
+use camp_object::{Decided, Object};
+use std::alloc::{AllocError, Global};
+use std::marker::Model;
+
+/// A state, and the calls of a log that led to it. Contracts see it as `Reading`.
+#[derive(Drop)]
+pub struct Reader<State: Object> {
+    index: usize,
+    state: State,
+    history: Vec<(u128, State::Call)>,
+    numbers: Numbers,
+}
+
+/// What an entry is where it stands.
+enum Standing {
+    /// It has the next number of its seat.
+    New,
+    /// An entry with its tag counted before.
+    Repeated,
+    /// None of both.
+    Foreign,
+}
+
+impl<State: Object> Model for Reader<State> {
+    ghost use Rattle.std.specs.Prelude.{◌≡◌, Some};
+    ghost use Rattle.camp_object.specs.Histories.{replay};
+    ghost use Rattle.camp_object.specs.Objects.{IsFirst, begun};
+    ghost use Rattle.camp_member.specs.Readings.{Reading};
+
+    ghost Value = { Reading State State.Call };
+
+    ghost view = { λ r. record { first = State.object.first r.state; index = r.index; history = r.history.items; numbers = r.numbers.entries } };
+
+    ghost invariant = { λ r. IsFirst State.object (State.object.first r.state)
+        × (replay (begun State.object (State.object.first r.state)) r.history.items ≡ Some r.state) };
+}
+
+impl<State: Object> Reader<State> {
+    ghost use Rattle.camp_member.specs.Entries.{Counts, number_in};
+    ghost use Rattle.camp_member.specs.Inside.Standings.{IsStanding};
+    ghost use Rattle.camp_member.specs.Readings.{IsReadFault, ReadsNew, Reads};
+
+    /// Makes a reader that has read nothing. Its history begins with a first state.
+    pub fn new(alloc: Global, first: State) -> Reader<State>
+        requires { IsFirst State.object first }
+        ensures first { result.first ≡ first }
+        ensures index { result.index ≡ 0 }
+        ensures history { result.history ≡ [] }
+        ensures numbers { result.numbers ≡ [] }
+    {
+        Reader {
+            index: 0,
+            state: first,
+            history: Vec::new(alloc),
+            numbers: no_numbers(alloc),
+        }
+    }
+
+    /// Returns the index of the entry that it reads next.
+    pub fn index(&self) -> usize
+        ensures exact { result ≡ self.now.index }
+    {
+        self.index
+    }
+
+    /// Returns the accepted calls in order, each under its seat.
+    pub fn history(&self) -> &[(u128, State::Call)]
+        ensures value { result.now ≡ self.now.history }
+        ensures legal { IsLegal (begun State.object self.now.first) self.now.history }
+        ensures first { IsFirst State.object self.now.first }
+    {
+        &self.history
+    }
+
+    /// Returns the number of calls of the history.
+    pub fn position(&self) -> u64
+        ensures exact { result ≡ length self.now.history }
+        ensures room { length self.now.history < 2 ^ 64 }
+        ensures legal { IsLegal (begun State.object self.now.first) self.now.history }
+        ensures first { IsFirst State.object self.now.first }
+    {
+        self.history.len() as u64
+    }
+
+    /// Returns the state after the calls of the history.
+    pub fn state(&self) -> &State
+        ensures exact { replay (begun State.object self.now.first) self.now.history ≡ Some result.now }
+    {
+        &self.state
+    }
+
+    /// Returns the number of the last entry of a seat that counted; 0 if none did.
+    pub fn last(&self, seat: u128) -> u64
+        ensures exact { result ≡ number_in self.now.numbers seat }
+    {
+        number_of(&self.numbers, seat)
+    }
+
+    /// Returns the answer to a call at what was read; none if the call is accepted there.
+    pub fn answer_to(&self, call: &State::Call) -> Result<Option<State::Reply>, AllocError>
+        ensures answers { IfOk result (λ answer. MatchOption answer
+            (IsAccepted (begun State.object self.now.first) self.now.history call.now)
+            (IsAnswered (begun State.object self.now.first) self.now.history call.now)) }
+        ensures writes { IfOk result (λ answer. answer ≡ None → State.object.is_writing call.now ≡ true) }
+    {
+        if self.history.len() as u64 == u64::MAX {
+            return Err(AllocError);
+        }
+        match self.state.decide(call)? {
+            Decided::Answer(reply) => Ok(Some(reply)),
+            Decided::Next(_) => Ok(None),
+        }
+    }
+
+    /// Reads what stands at an index of the log: an entry, or `None` if it is none. Returns the reply to each
+    /// call of an entry that counts, and nothing for one whose tag counted before. After a fault the reader is
+    /// as it was.
+    pub fn take(
+        &mut self,
+        alloc: Global,
+        index: usize,
+        found: &Option<Entry<State::Call>>,
+    ) -> Result<Vec<State::Reply>, ReadFault>
+        ensures reads { IfOk result (λ replies. IfSome found.now (λ entry. Reads (begun State.object self.old.first) self.old entry replies.items self.new)) }
+        ensures some { IfOk result (λ _. IsSome found.now) }
+        ensures next { IfOk result (λ _. index ≡ self.old.index) }
+        ensures stays { OnErr result (self.new ≡ self.old) }
+        ensures fault { IfErr result (IsReadFault self.old index found.now) }
+    {
+        if index != self.index {
+            return Err(ReadFault::OutOfOrder { index: self.index });
+        }
+        let Some(entry) = found else {
+            return Err(ReadFault::Foreign { index });
+        };
+        match self.standing(entry) {
+            Standing::New => Ok(self.decide(alloc, entry)?),
+            Standing::Repeated => {
+                self.index = self.next_index()?;
+                Ok(Vec::new(alloc))
+            }
+            Standing::Foreign => Err(ReadFault::Foreign { index }),
+        }
+    }
+
+    // Says what an entry is where it stands next.
+    fn standing(&self, entry: &Entry<State::Call>) -> Standing
+        ensures { IsStanding (number_in self.now.numbers) entry.now result }
+    {
+        let last = number_of(&self.numbers, entry.seat());
+        if !entry.is_entry() {
+            return Standing::Foreign;
+        }
+        if entry.number() <= last {
+            return Standing::Repeated;
+        }
+        if entry.number() - 1 == last {
+            return Standing::New;
+        }
+        Standing::Foreign
+    }
+
+    // Returns the index after the next; none as if out of memory.
+    fn next_index(&self) -> Result<usize, AllocError>
+        ensures { IfOk result (λ next. next ≡ self.now.index + 1) }
+    {
+        self.index.checked_add(1).ok_or(AllocError)
+    }
+
+    // Decides the calls of an entry that counts.
+    fn decide(
+        &mut self,
+        alloc: Global,
+        entry: &Entry<State::Call>,
+    ) -> Result<Vec<State::Reply>, AllocError>
+        requires { Counts (number_in self.old.numbers) entry.now }
+        ensures first { self.new.first ≡ self.old.first }
+        ensures index { OnOk result (self.new.index ≡ self.old.index + 1) }
+        ensures reads { IfOk result (λ replies. ReadsNew (begun State.object self.old.first) self.old entry.now replies.items self.new) }
+        ensures stays { OnErr result (self.new ≡ self.old) }
+    {
+        let next = self.next_index()?;
+        let before = self.history.len() as u64;
+        let (seat, number) = (entry.seat(), entry.number());
+        let draft = Draft::of_calls(alloc, &self.state, before, seat, entry.calls())?;
+        let Draft {
+            next: state,
+            mut accepted,
+            replies,
+        } = draft;
+        self.history.reserve(accepted.len())?;
+        set_number(&mut self.numbers, seat, number)?;
+        self.history.append(&mut accepted)?;
+        advance(&mut self.state, state);
+        self.index = next;
+        Ok(replies)
+    }
+}
+
+// Replaces a state by the next, if there is one.
+fn advance<State: Object>(state: &mut State, next: Option<State>)
+    ensures { state.new ≡ unwrap_or next state.old }
+{
+    if let Some(next) = next {
+        *state = next;
+    }
+}
