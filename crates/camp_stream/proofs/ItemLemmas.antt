@@ -1,6 +1,6 @@
 -- Items that are written are read.
-use Rattle.std.proofs.Common.{◌≡◌, ℕ, suc, ◌+◌, ◌-◌, ◌*◌, ◌^◌, ◌<◌, ◌≤◌, Bool, true, false, true≢false, not, cond, ◌&&◌, ◌==◌, List, [], ◌∷◌, ◌++◌, length, take, drop, refl, sym, ◌∙◌, ap, subst, Option, None, Some, Result, Ok, Err, ⊎_elim, arith, rules, append_assoc, append-nil, length-append, take_at, drop-drop}
-use Rattle.std.specs.Prelude.{bytes_eq, codes, fold, nat_lt, nat_le, unwrap_or}
+use Rattle.std.proofs.Common.{◌≡◌, ℕ, ◌+◌, ◌-◌, ◌*◌, ◌^◌, ◌<◌, ◌≤◌, Bool, true, false, true≢false, not, cond, ◌==◌, List, [], ◌∷◌, ◌++◌, length, take, drop, refl, sym, ◌∙◌, ap, Option, None, Some, Result, Ok, Err, ⊎_elim, arith, rules, append_assoc, length-append, take_at, drop-drop}
+use Rattle.std.specs.Prelude.{codes, fold, nat_lt, nat_le, unwrap_or}
 use Rattle.std.specs.Fmt.{decimal}
 use Rattle.std.specs.List.{list_all, position, position_or_len}
 use Rattle.std.proofs.lemmas.Bool.{and_from, and_parts, cond-true, cond-false, cases_Bool, eqb-true, le-ltb, lt-ltb, le-leb}
@@ -14,12 +14,12 @@ use Rattle.camp_base.specs.Signs.{is_between, is_digit, newline, space}
 use Rattle.camp_coding.specs.Modes.{mode_text}
 use Rattle.camp_coding.specs.declared.modes.Mode.{Mode}
 use Rattle.camp_coding.specs.declared.modes.Mode.TheVariants.{Regular, Executable, Symlink, Submodule}
-use Rattle.camp_stream.specs.StreamValues.{ItemValue, Bare, Blank, Data, Delete, Mark, Modify, Text}
-use Rattle.camp_stream.specs.StreamItems.{ItemAndRest, ItemsComeBack, bare_item, bare_word, cut_at, data_item, decimal_value, has_no, is_data_length, is_mark, item_at, item_text, line_item, mark_item, mode_of_digits, modify_item, read_or, spaced_item, text_item, text_word, word_item}
+use Rattle.camp_stream.specs.StreamValues.{Bare, Blank, Data, Delete, Mark, Modify, Text}
+use Rattle.camp_stream.specs.StreamItems.{ItemAndRest, ItemsComeBack, bare_item, bare_word, cut_at, data_item, decimal_value, has_no, is_data_length, is_mark, item_at, line_item, mode_of_digits, modify_item, read_or, spaced_item, text_item, text_word, word_item}
 use Rattle.camp_stream.specs.declared.items.BareItem.{BareItem}
 use Rattle.camp_stream.specs.declared.items.BareItem.TheVariants.{Blob, Checkpoint, DeleteAll, Done}
 use Rattle.camp_stream.specs.declared.items.StreamFaultKind.{StreamFaultKind}
-use Rattle.camp_stream.specs.declared.items.StreamFaultKind.TheVariants.{BadLength, BadMark, BadMode, BadModify, CopyOrRename, CutOff, UnknownCommand}
+use Rattle.camp_stream.specs.declared.items.StreamFaultKind.TheVariants.{BadMode, BadModify, CutOff, UnknownCommand}
 use Rattle.camp_stream.specs.declared.items.TextItem.{TextItem}
 use Rattle.camp_stream.specs.declared.items.TextItem.TheVariants as text
 

@@ -1,2 +1,4 @@
+pub mod CommandLaws
+pub mod CommandLemmas
 pub mod ItemLemmas
 pub mod QuoteLemmas

@@ -1,13 +1,12 @@
 -- Quoted paths are read as the paths.
-use Rattle.std.proofs.Common.{◌≡◌, ℕ, ◌+◌, ◌-◌, ◌*◌, ◌/◌, ◌%◌, ◌<◌, ◌≤◌, Bool, true, false, true≢false, List, [], ◌∷◌, ◌++◌, Option, None, Some, ◌==◌, refl, sym, ◌∙◌, ap, ⊎_elim, arith, append_assoc}
-use Rattle.std.specs.Prelude.{option_map}
+use Rattle.std.proofs.Common.{◌≡◌, ℕ, ◌+◌, ◌-◌, ◌/◌, ◌%◌, ◌<◌, ◌≤◌, true, false, true≢false, List, [], ◌∷◌, ◌++◌, Option, None, Some, ◌==◌, refl, sym, ◌∙◌, ap, ⊎_elim, arith, append_assoc}
 use Rattle.std.specs.List.{flat_map}
 use Rattle.std.proofs.lemmas.Bool.{and_from, cond-true, cond-false, cases_Bool, eqb-true, le-leb}
 use Rattle.std.proofs.lemmas.List.Elements.{All-head, All-tail}
 use Rattle.camp_base.specs.Signs.{backslash, is_between, quote}
 use Rattle.camp_stream.specs.QuotedPaths.{QuotedPathsComeBack, needs_no_escape, octal_more, onto_path, quoted_path_byte, unquoted_from}
 use Rattle.camp_stream.specs.Inside.Steps.{behind_path}
-use Rattle.camp_stream.specs.declared.unquoting.EscapeState.TheVariants.{Plain, Backslash, OneDigit, TwoDigits}
+use Rattle.camp_stream.specs.declared.unquoting.EscapeState.TheVariants.{Plain}
 
 abbrev pub IsByte : ℕ → Type 0
 IsByte byte = byte < 256

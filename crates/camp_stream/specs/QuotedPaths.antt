@@ -1,5 +1,5 @@
 -- Paths in quotes, as C has strings.
-use Rattle.std.specs.Prelude.{◌≡◌, ℕ, ◌+◌, ◌-◌, ◌*◌, ◌/◌, ◌%◌, Bool, not, ◌&&◌, ◌==◌, if◌then◌else◌, List, [], ◌∷◌, ◌++◌, Option, None, Some, option_map}
+use Rattle.std.specs.Prelude.{◌≡◌, ℕ, ◌+◌, ◌-◌, ◌*◌, ◌/◌, ◌%◌, Bool, not, ◌&&◌, ◌==◌, if◌then◌else◌, List, [], ◌∷◌, ◌++◌, length, Option, None, Some, option_map}
 use Rattle.std.specs.List.{flat_map}
 use Rattle.camp_base.specs.Signs.{backslash, is_between, is_printing, quote}
 use Rattle.camp_coding.specs.GitPaths.{AreBytes}
@@ -65,3 +65,13 @@ abbrev pub QuotedPathsComeBack : Type 0
 QuotedPathsComeBack =
     (path rest : List ℕ) → AreBytes path
     → unquoted_from Plain (flat_map quoted_path_byte path ++ quote ∷ rest) ≡ Some (path, rest)
+
+-- a path that was read to the end of its text
+abbrev pub ended_path : Option (List ℕ × List ℕ) → Option (List ℕ)
+ended_path None = None
+ended_path (Some read) = if length read.1 == 0 then Some read.0 else None
+
+-- the path that a text is: in quotes, which end it, or as it is
+abbrev pub path_of_text : List ℕ → Option (List ℕ)
+path_of_text [] = Some []
+path_of_text (byte ∷ bytes) = if byte == quote then ended_path (unquoted_from Plain bytes) else Some (byte ∷ bytes)

@@ -1,5 +1,5 @@
 -- Items of a stream: its lines, and data with their bytes.
-use Rattle.std.specs.Prelude.{ℕ, List, Option, None, Some}
+use Rattle.std.specs.Prelude.{ℕ, List}
 use Rattle.camp_coding.specs.declared.modes.Mode.{Mode}
 use Rattle.camp_stream.specs.declared.items.BareItem.{BareItem}
 use Rattle.camp_stream.specs.declared.items.TextItem.{TextItem}

@@ -77,4 +77,7 @@ pub enum StreamFaultKind {
     /// `C` and `R` are not taken.
     #[error("copies and renames are not taken: export without -M and -C")]
     CopyOrRename,
+    /// The item can't follow what stands before it, as a mark outside a command.
+    #[error("misplaced command")]
+    Misplaced,
 }

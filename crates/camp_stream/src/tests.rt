@@ -1,6 +1,9 @@
 //! Items as git writes them, and paths as it quotes them.
 
-use crate::{StreamFaultKind, append_item, quote_path, read_item, unquote_path};
+use crate::{
+    Command, ReadError, StreamFaultKind, append_command, append_item, line_of, quote_path,
+    read_command, read_item, read_path, read_stream, unquote_path,
+};
 use std::alloc::Global;
 use std::process::Abort;
 use std::test::Fail;
@@ -120,6 +123,140 @@ fn faults_of_items(rt: HostRuntime) -> Result<(), Fail> {
         (b"R a b\n".as_slice(), StreamFaultKind::CopyOrRename),
     ] {
         assert_eq!(rt; read_item(stream).err(), Some(kind));
+    }
+    Ok(())
+}
+
+/// Two commits, as `git fast-export` writes them: the second one merges two others, and has no LF after its
+/// message.
+const COMMITS: &[u8] =
+    b"blob\nmark :1\ndata 2\na\n\nreset refs/heads/main\ncommit refs/heads/main\nmark :2\nauthor A <a@b> 1 +0000\ncommitter B <b@c> 2 +0000\nencoding latin1\ndata 2\nm\nM 100755 :1 \"a\\tb\"\n\ncommit refs/heads/main\nmark :3\ncommitter B <b@c> 3 +0000\ndata 1\nnfrom :2\nmerge :4\nmerge :5\ndeleteall\nD c d\n\n";
+
+#[test]
+fn commits(rt: HostRuntime) -> Result<(), Fail> {
+    let (commands, rest) = read_stream(rt.alloc(), COMMITS).ok().ok_or("a fault")?;
+    assert_eq!(rt; rest.len(), 0);
+    assert_eq!(rt; commands.len(), 4);
+    let [_, _, Command::Commit(first), Command::Commit(second)] = commands.as_slice() else {
+        return Err("no commits".into());
+    };
+    assert_eq!(rt; first.author, Some(b"A <a@b> 1 +0000".as_slice()));
+    assert_eq!(rt; first.encoding, Some(b"latin1".as_slice()));
+    assert_eq!(rt; first.changes.len(), 1);
+    assert_eq!(rt; second.author, None);
+    assert_eq!(rt; second.message, b"n".as_slice());
+    assert_eq!(rt; second.from, Some(b":2".as_slice()));
+    assert_eq!(rt;
+        second.merges.as_slice(),
+        [b":4".as_slice(), b":5".as_slice()].as_slice()
+    );
+    assert_eq!(rt; second.changes.len(), 2);
+    Ok(())
+}
+
+/// The commands of a stream, written and read again, are written as the same bytes.
+#[test]
+fn written_again(rt: HostRuntime) -> Result<(), Fail> {
+    let once = rewritten(rt.alloc(), COMMITS)?;
+    let twice = rewritten(rt.alloc(), &once)?;
+    assert_eq!(rt; once.as_slice(), twice.as_slice());
+    Ok(())
+}
+
+fn rewritten(alloc: Global, stream: &[u8]) -> Result<Vec<u8>, Fail> {
+    let (commands, _) = read_stream(alloc, stream).ok().ok_or("a fault")?;
+    let mut text = Vec::new(alloc);
+    for command in &commands {
+        append_command(&mut text, command)?;
+    }
+    Ok(text)
+}
+
+/// A fault is that of the first item that is wrong, on its line; line feeds within data count.
+#[test]
+fn faults_of_commands(rt: HostRuntime) -> Result<(), Fail> {
+    for (stream, kind, line) in [
+        (b"mark :1\n".as_slice(), StreamFaultKind::Misplaced, 1),
+        (
+            b"blob\nauthor x\n".as_slice(),
+            StreamFaultKind::Misplaced,
+            2,
+        ),
+        (
+            b"blob\ndata 4\na\nb\nblub\n".as_slice(),
+            StreamFaultKind::UnknownCommand,
+            5,
+        ),
+        (
+            b"blob\ndata 2\na\n\n\n".as_slice(),
+            StreamFaultKind::Misplaced,
+            5,
+        ),
+        (
+            b"commit x\ndata 0\n".as_slice(),
+            StreamFaultKind::Misplaced,
+            2,
+        ),
+        (
+            b"commit x\ncommitter y\ndata 0\nM 1 :1 a\n".as_slice(),
+            StreamFaultKind::BadMode,
+            4,
+        ),
+        (
+            b"commit x\ncommitter y\n".as_slice(),
+            StreamFaultKind::CutOff,
+            3,
+        ),
+        (
+            b"tag x\ntagger y\ndata 0\n".as_slice(),
+            StreamFaultKind::Misplaced,
+            2,
+        ),
+    ] {
+        match read_stream(rt.alloc(), stream) {
+            Err(ReadError::Fault(fault)) => {
+                assert_eq!(rt; fault.kind, kind, "in {stream:?}");
+                assert_eq!(rt; line_of(stream, fault.left), line, "in {stream:?}");
+            }
+            _ => return Err("no fault".into()),
+        }
+    }
+    Ok(())
+}
+
+/// What follows `done` is not read.
+#[test]
+fn after_done(rt: HostRuntime) -> Result<(), Fail> {
+    let (commands, rest) = read_stream(rt.alloc(), b"feature done\ndone\nblub")
+        .ok()
+        .ok_or("a fault")?;
+    assert_eq!(rt; commands.len(), 1);
+    assert_eq!(rt; rest, b"blub".as_slice());
+    let read = read_command(rt.alloc(), b"progress half\n\ncheckpoint\n");
+    let (_, rest) = read.ok().ok_or("a fault")?;
+    assert_eq!(rt; rest, b"checkpoint\n".as_slice());
+    Ok(())
+}
+
+#[test]
+fn paths_of_commands(rt: HostRuntime) -> Result<(), Fail> {
+    let alloc = rt.alloc();
+    for (text, path) in [
+        (b"a b".as_slice(), b"a b".as_slice()),
+        (b"a\"b".as_slice(), b"a\"b".as_slice()),
+        (b"\"a\\tb\"".as_slice(), b"a\tb".as_slice()),
+        (b"".as_slice(), b"".as_slice()),
+        (b"\"\"".as_slice(), b"".as_slice()),
+    ] {
+        let read = read_path(alloc, text)?.ok_or("no path")?;
+        assert_eq!(rt; read.as_slice(), path);
+    }
+    for text in [
+        b"\"a".as_slice(),
+        b"\"a\"b".as_slice(),
+        b"\"\\q\"".as_slice(),
+    ] {
+        assert!(rt; read_path(alloc, text)?.is_none(), "in {text:?}");
     }
     Ok(())
 }

@@ -1,0 +1,160 @@
+-- Changes of one file, one after another.
+use Rattle.std.proofs.Common.{◌≡◌, ℕ, ◌+◌, ◌<◌, ◌≤◌, List, [], ◌∷◌, ◌++◌, length, drop, refl, sym, ap, subst, ◌∙◌, append_assoc, append-nil, arith, inl, inr, ⊎_elim, Option, None, Some, Result, Ok, Err}
+use Rattle.std.proofs.Common.{add-one, drop-cons, get_or, length-drop}
+use Rattle.std.proofs.lemmas.List.{nil_from_length}
+use Rattle.std.specs.FinMap.{get, insert, remove}
+use Rattle.std.specs.List.{AllByRecursion}
+use Rattle.camp_base.specs.Trees.{Files, Lines}
+use Rattle.camp_coding.proofs.PlaceLemmas.{inserted_at, inserted_other, removed_at, removed_other}
+use Rattle.camp_diff.specs.EditScripts.{AppliesHunk, AppliesInOrder, IsEditScript, IsTightHunk}
+use Rattle.camp_diff.specs.declared.hunks.DiffHunk.{DiffHunk}
+use Rattle.camp_prim.specs.declared.primitives.Primitive.{Primitive}
+use Rattle.camp_prim.specs.declared.primitives.Primitive.TheVariants.{Add, Remove}
+use Rattle.camp_import.specs.TreeChanges.{LeadThrough}
+use Rattle.camp_import.specs.declared.edits.ChangeFault.{ChangeFault}
+use Rattle.camp_import.specs.declared.edits.ChangeFault.TheVariants.{Memory, TooManyLines}
+use Rattle.camp_import.specs.Inside.Growing.{AreTooMany, GrowsByFile, GrowsByFileOr, LeadToFile, SetsFile, primitive_of}
+
+-- changes after changes
+pub lead_on : (first second : List Primitive) (old mid new : Files) → LeadThrough first old mid → LeadThrough second mid new → LeadThrough (first ++ second) old new
+lead_on [] second old mid new a b = subst (λ (f : Files). LeadThrough second f new) (sym a) b
+lead_on (change ∷ first) second old mid new a b = (a.0, a.1, lead_on first second a.0 mid new a.2 b)
+
+sets_again : (path : List ℕ) (lines more : Option Lines) (old mid new : Files) → SetsFile path lines old mid → SetsFile path more mid new → SetsFile path more old new
+sets_again path lines more old mid new a b = record { at = b.at; other = λ another differs. b.other another differs ∙ a.other another differs }
+
+-- changes that lead from these lines at a path to those
+abbrev pub FromTo : List ℕ → (old new : Option Lines) → List Primitive → Type 0
+FromTo path old new changes = (files : Files) → get files path ≡ old → LeadToFile path new changes files
+
+pub from_to_both : (path : List ℕ) (l0 l1 l2 : Option Lines) (first second : List Primitive) → FromTo path l0 l1 first → FromTo path l1 l2 second → FromTo path l0 l2 (first ++ second)
+from_to_both path l0 l1 l2 first second f g files is =
+    let a = f files is in
+    let b = g a.after a.sets.at in
+    record {
+      after = b.after;
+      lead = lead_on first second files a.after b.after a.lead b.lead;
+      sets = sets_again path l1 l2 files a.after b.after a.sets b.sets;
+    }
+
+pub from_to_none : (path : List ℕ) (lines : Option Lines) → FromTo path lines lines []
+from_to_none path lines files is = record { after = files; lead = refl; sets = record { at = is; other = λ another differs. refl } }
+
+from_to_hunk : (path : List ℕ) (old new : Lines) (hunk : DiffHunk) (before after : Lines) → AppliesHunk old new hunk before after → FromTo path (Some before) (Some after) (primitive_of path old new hunk ∷ [])
+from_to_hunk path old new hunk before after applies files is = record {
+  after = insert files path after;
+  lead = (insert files path after, record { lines = before; changed = after; found = is; splices = applies; becomes = refl }, refl);
+  sets = record { at = inserted_at files path after; other = inserted_other files path after };
+}
+
+from_to_remove : (path : List ℕ) → FromTo path (Some []) None (Remove path ∷ [])
+from_to_remove path files is = record {
+  after = remove files path;
+  lead = (remove files path, record { empty = is; becomes = refl }, refl);
+  sets = record { at = removed_at files path; other = removed_other files path };
+}
+
+from_to_add : (path : List ℕ) → FromTo path None (Some []) (Add path ∷ [])
+from_to_add path files is = record {
+  after = insert files path [];
+  lead = (insert files path [], record { absent = is; becomes = refl }, refl);
+  sets = record { at = inserted_at files path []; other = inserted_other files path [] };
+}
+
+-- the hunks before the rest of an edit script were appended
+pub record EditsSoFar (path : List ℕ) (old new : Lines) (rest : List DiffHunk) (before after : List Primitive) : Type 0 where
+  pub more : List Primitive
+  pub grows : after ≡ before ++ more
+  pub mid : Lines
+  pub changes : FromTo path (Some old) (Some mid) more
+  pub left : AppliesInOrder old new rest mid new
+  pub tight : AllByRecursion (IsTightHunk old new) rest
+
+pub edits_start : (path : List ℕ) (old new : Lines) (hunks : List DiffHunk) (before : List Primitive) → IsEditScript old new hunks → EditsSoFar path old new hunks before before
+edits_start path old new hunks before script = record {
+  more = [];
+  grows = sym (append-nil before);
+  mid = old;
+  changes = from_to_none path (Some old);
+  left = script.leads;
+  tight = script.tight;
+}
+
+pub one_more_hunk : (path : List ℕ) (old new : Lines) (hunk : DiffHunk) (rest : List DiffHunk) (before after longer : List Primitive)
+    → EditsSoFar path old new (hunk ∷ rest) before after → longer ≡ after ++ primitive_of path old new hunk ∷ [] → EditsSoFar path old new rest before longer
+one_more_hunk path old new hunk rest before after longer so_far is =
+    let step = so_far.left in
+    record {
+      more = so_far.more ++ primitive_of path old new hunk ∷ [];
+      grows = is ∙ ap (λ (l : List Primitive). l ++ primitive_of path old new hunk ∷ []) so_far.grows ∙ append_assoc before so_far.more (primitive_of path old new hunk ∷ []);
+      mid = step.0;
+      changes = from_to_both path (Some old) (Some so_far.mid) (Some step.0) so_far.more (primitive_of path old new hunk ∷ []) so_far.changes (from_to_hunk path old new hunk so_far.mid step.0 step.1);
+      left = step.2;
+      tight = so_far.tight.1;
+    }
+
+pub edits_done : (path : List ℕ) (old new : Lines) (before after : List Primitive) → EditsSoFar path old new [] before after → GrowsByFile path (Some old) (Some new) before after
+edits_done path old new before after so_far = record {
+  more = so_far.more;
+  grows = so_far.grows;
+  changes = subst (λ (l : Lines). FromTo path (Some old) (Some l) so_far.more) so_far.left so_far.changes;
+}
+
+pub grows_removed : (path : List ℕ) (old : Lines) (before after longer : List Primitive)
+    → GrowsByFile path (Some old) (Some []) before after → longer ≡ after ++ Remove path ∷ [] → GrowsByFile path (Some old) None before longer
+grows_removed path old before after longer grown is = record {
+  more = grown.more ++ Remove path ∷ [];
+  grows = is ∙ ap (λ (l : List Primitive). l ++ Remove path ∷ []) grown.grows ∙ append_assoc before grown.more (Remove path ∷ []);
+  changes = from_to_both path (Some old) (Some []) None grown.more (Remove path ∷ []) grown.changes (from_to_remove path);
+}
+
+pub grows_added : (path : List ℕ) (new : Lines) (before between after : List Primitive)
+    → between ≡ before ++ Add path ∷ [] → GrowsByFile path (Some []) (Some new) between after → GrowsByFile path None (Some new) before after
+grows_added path new before between after is grown = record {
+  more = (Add path ∷ []) ++ grown.more;
+  grows = grown.grows ∙ ap (λ (l : List Primitive). l ++ grown.more) is ∙ append_assoc before (Add path ∷ []) grown.more;
+  changes = from_to_both path None (Some []) (Some new) (Add path ∷ []) grown.more (from_to_add path) grown.changes;
+}
+
+pub grows_none : (path : List ℕ) (before : List Primitive) → GrowsByFile path None None before before
+grows_none path before = record { more = []; grows = sym (append-nil before); changes = from_to_none path None }
+
+-- the same where the changes of the lines may have failed
+pub added_or : (path : List ℕ) (new lines : Lines) (before between after : List Primitive) (result : Result (Unit {0}) ChangeFault)
+    → between ≡ before ++ Add path ∷ [] → lines ≡ new → GrowsByFileOr path (Some []) (Some lines) between result after → GrowsByFileOr path None (Some new) before result after
+added_or path new lines before between after (Ok done) is same grown =
+    grows_added path new before between after is (subst (λ (l : Lines). GrowsByFile path (Some []) (Some l) between after) same grown)
+added_or path new lines before between after (Err TooManyLines) is same many =
+    ⊎_elim (λ none. absurd (omega (arith, none))) (λ long. inr (subst (λ (l : Lines). AreTooMany (Some l)) same long)) many
+added_or path new lines before between after (Err Memory) is same out = tt
+
+-- removing the file failed as changing its lines did
+pub not_removed : (path : List ℕ) (old lines : Lines) (before after : List Primitive) (fault : ChangeFault)
+    → lines ≡ old → GrowsByFileOr path (Some lines) (Some []) before (Err fault) after → GrowsByFileOr path (Some old) None before (Err fault) after
+not_removed path old lines before after TooManyLines same many =
+    ⊎_elim (λ long. inl (subst (λ (l : Lines). AreTooMany (Some l)) same long)) (λ none. absurd (omega (arith, none))) many
+not_removed path old lines before after Memory same out = tt
+
+-- the next hunk of an edit script was appended
+pub next_hunk : (path : List ℕ) (old new : Lines) (hunks : List DiffHunk) (index : ℕ) (before after longer : List Primitive) (none : DiffHunk)
+    → index < length hunks → EditsSoFar path old new (drop index hunks) before after
+    → longer ≡ after ++ primitive_of path old new (get_or hunks index none) ∷ []
+    → EditsSoFar path old new (drop (index + 1) hunks) before longer
+next_hunk path old new hunks index before after longer none within so_far is =
+    let cut : drop index hunks ≡ get_or hunks index none ∷ drop (index + 1) hunks =
+    drop-cons hunks index none within ∙ ap (λ (k : ℕ). get_or hunks index none ∷ drop k hunks) (sym (add-one index)) in
+    one_more_hunk path old new (get_or hunks index none) (drop (index + 1) hunks) before after longer
+    (subst (λ (rest : List DiffHunk). EditsSoFar path old new rest before after) cut so_far) is
+
+-- all hunks of an edit script were appended
+pub no_hunk : (path : List ℕ) (old new : Lines) (hunks : List DiffHunk) (index : ℕ) (before after : List Primitive)
+    → length hunks ≤ index → EditsSoFar path old new (drop index hunks) before after → EditsSoFar path old new [] before after
+no_hunk path old new hunks index before after past so_far =
+    subst (λ (rest : List DiffHunk). EditsSoFar path old new rest before after)
+    (nil_from_length (drop index hunks) (omega (arith, length-drop index hunks))) so_far
+
+-- the file was removed after its lines
+pub removed : (path : List ℕ) (old lines : Lines) (before after longer : List Primitive)
+    → lines ≡ old → GrowsByFile path (Some lines) (Some []) before after → longer ≡ after ++ Remove path ∷ [] → GrowsByFile path (Some old) None before longer
+removed path old lines before after longer same grown is =
+    grows_removed path old before after longer (subst (λ (l : Lines). GrowsByFile path (Some l) (Some []) before after) same grown) is

@@ -1,0 +1,3 @@
+pub mod FileLemmas
+pub mod PartLemmas
+pub mod TreeLemmas

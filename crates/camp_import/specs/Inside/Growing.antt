@@ -1,0 +1,45 @@
+-- Lists of changes that grow by the changes of one file.
+use Rattle.std.specs.Prelude.{◌≡◌, ℕ, ◌+◌, ◌<◌, ◌⊎◌, List, ◌++◌, length, Option, Some, None, Result, Ok, Err}
+use Rattle.std.specs.FinMap.{get}
+use Rattle.camp_base.specs.Trees.{Files, Lines}
+use Rattle.camp_diff.specs.EditScripts.{lines_between}
+use Rattle.camp_diff.specs.declared.hunks.DiffHunk.{DiffHunk}
+use Rattle.camp_prim.specs.Hunks.{hunk_of}
+use Rattle.camp_prim.specs.declared.primitives.Primitive.{Primitive}
+use Rattle.camp_prim.specs.declared.primitives.Primitive.TheVariants.{Hunk}
+use Rattle.camp_import.specs.TreeChanges.{LeadThrough, most_lines}
+use Rattle.camp_import.specs.declared.edits.ChangeFault.{ChangeFault}
+use Rattle.camp_import.specs.declared.edits.ChangeFault.TheVariants.{Memory, TooManyLines}
+
+-- a path has these lines now, or no file; all other paths are as they were
+pub record SetsFile (path : List ℕ) (lines : Option Lines) (old new : Files) : Type 0 where
+  pub at : get new path ≡ lines
+  pub other : (another : List ℕ) → ¬ (another ≡ path) → get new another ≡ get old another
+
+-- changes lead from a tree to one in which a path has these lines, or no file
+pub record LeadToFile (path : List ℕ) (lines : Option Lines) (changes : List Primitive) (old : Files) : Type 0 where
+  pub after : Files
+  pub lead : LeadThrough changes old after
+  pub sets : SetsFile path lines old after
+
+-- a list grows by changes that lead from each tree with these lines at a path to one with those
+pub record GrowsByFile (path : List ℕ) (old new : Option Lines) (before after : List Primitive) : Type 0 where
+  pub more : List Primitive
+  pub grows : after ≡ before ++ more
+  pub changes : (files : Files) → get files path ≡ old → LeadToFile path new more files
+
+-- the primitive of a hunk of an edit script
+abbrev pub primitive_of : List ℕ → (old new : Lines) → DiffHunk → Primitive
+primitive_of path old new hunk =
+    Hunk (hunk_of path (hunk.new_start + 1) (lines_between hunk.old_start hunk.old_end old) (lines_between hunk.new_start hunk.new_end new))
+
+-- lines that may be there are too many
+abbrev pub AreTooMany : Option Lines → Type 0
+AreTooMany None = ⊥
+AreTooMany (Some lines) = most_lines < length lines
+
+-- the list grows by the changes of a file; or one of the two sides is too long; or memory ran out
+abbrev pub GrowsByFileOr : List ℕ → (old new : Option Lines) → List Primitive → Result (Unit {0}) ChangeFault → List Primitive → Type 0
+GrowsByFileOr path old new before (Ok done) after = GrowsByFile path old new before after
+GrowsByFileOr path old new before (Err TooManyLines) after = AreTooMany old ⊎ AreTooMany new
+GrowsByFileOr path old new before (Err Memory) after = Unit {0}

@@ -1,0 +1,30 @@
+//! The changes between two trees.
+
+ghost use Rattle.std.specs.Prelude.{◌≡◌};
+ghost use Rattle.camp_import.specs.TreeChanges.{DifferWithin, GivesChanges};
+
+use crate::edits::ChangeFault;
+use crate::file_changes::append_file_changes;
+use camp_base::{Path, Tree};
+use camp_prim::Primitive;
+use camp_share::SharedMap;
+use std::alloc::Global;
+
+/// Returns the changes that lead from one tree to another. The two trees may differ only at the given paths;
+/// changes come in the order of their paths, and an unchanged file has none.
+pub fn changes_between(
+    alloc: Global,
+    paths: &SharedMap<Path, ()>,
+    old: &Tree,
+    new: &Tree,
+) -> Result<Vec<Primitive>, ChangeFault>
+    requires within { DifferWithin paths.now old.now new.now }
+    ensures exact { GivesChanges old.now new.now result }
+{
+    let mut changes = Vec::new(alloc);
+    'paths: for entry in paths.iter() {
+        let path = &entry.0;
+        append_file_changes(alloc, &mut changes, path, old.file(path), new.file(path))?;
+    }
+    Ok(changes)
+}
