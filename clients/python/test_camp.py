@@ -136,6 +136,20 @@ class Texts(unittest.TestCase):
             self.assertEqual(repository.names("main"), [])
 
 
+class Limits(unittest.TestCase):
+    def test_a_repository_has_the_limits_that_it_is_given(self):
+        repository = Repository(catches=1, branches=2)
+        repository.record("main", "a", [Add("f")])
+        self.assertRaises(camp.TooLarge, repository.record, "main", "b", [Add("g")])
+        repository.branch("x", "main")
+        self.assertRaises(camp.TooLarge, repository.branch, "y", "main")
+
+    def test_limits_are_in_range(self):
+        for catches, branches in ((0, 1), (16777217, 1), (1, 0), (1, 65537), (-1, 1)):
+            self.assertRaises(ValueError, Repository, catches=catches, branches=branches)
+        self.assertEqual(Repository(catches=16777216, branches=65536).record("main", "a", [Add("f")]), 1)
+
+
 class Errors(unittest.TestCase):
     def test_a_refusal_has_its_names_and_its_cause(self):
         with two_branches() as repository:

@@ -52,7 +52,7 @@ def limits(camp, part=""):
         if title.startswith(part) and wanted.startswith(b"!"):
             camp.faults(title, script, wanted[1:-1], [[]])
         elif title.startswith(part):
-            camp.answers(title, script, wanted)
+            camp.answers(title, script, wanted, *([flags] if flags else []))
 
 
 def prefixes(camp):

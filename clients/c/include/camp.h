@@ -49,12 +49,17 @@ typedef struct camp_view {
 enum {
     CAMP_DONE = 0,     /* each command has its answer */
     CAMP_NOT_OPEN = 1, /* the handle is closed or of the other kind, or the one to be opened is open; nothing has changed */
-    CAMP_MEMORY = 2    /* there was not enough memory */
+    CAMP_MEMORY = 2,   /* there was not enough memory */
+    CAMP_LIMITS = 3    /* a limit is out of range; the handle stays closed */
 };
 
 /* Opens a closed handle on a new repository: one branch `main` without patches.
  * CAMP_NOT_OPEN: it is open already, and stays as it is. CAMP_MEMORY: it stays closed. */
 int32_t camp_open(camp *repository);
+
+/* The same, with other limits than 4,096 changes in a branch and 256 branches: catches is 1 to 16,777,216 changes in a
+ * branch, branches 1 to 65,536. CAMP_LIMITS: one of them is not, and the handle stays closed. */
+int32_t camp_open_with(camp *repository, size_t catches, size_t branches);
 
 /* Asks the commands of a text, which is a conversation of its own: docs/conversation.md has the commands and their answers. The
  * answer is that of each command, one behind another; a refusal or a fault is an answer as any other. A body that is not

@@ -51,6 +51,23 @@ static void closed(void) {
     CHECK(!repository.is_open && !view.is_open);
 }
 
+/* A repository has the limits that it was opened with; one that is out of range opens nothing. */
+static void limits(void) {
+    camp repository = CAMP_CLOSED;
+    CHECK(camp_open_with(&repository, 0, 1) == CAMP_LIMITS && !repository.is_open);
+    CHECK(camp_open_with(&repository, 16777217, 1) == CAMP_LIMITS && !repository.is_open);
+    CHECK(camp_open_with(&repository, 1, 0) == CAMP_LIMITS && !repository.is_open);
+    CHECK(camp_open_with(&repository, 1, 65537) == CAMP_LIMITS && !repository.is_open);
+    CHECK(camp_open_with(&repository, 1, 2) == CAMP_DONE && repository.is_open);
+    CHECK(camp_open_with(&repository, 0, 0) == CAMP_NOT_OPEN && camp_open_with(&repository, 1, 1) == CAMP_NOT_OPEN);
+    CHECK(ask(&repository, "record main a add f\nrecord main b add g\n") == CAMP_DONE && answers(&repository, "ok 1\nrefused 9\n"));
+    CHECK(ask(&repository, "branch x main\nbranch y main\n") == CAMP_DONE && answers(&repository, "ok 2\nrefused 9\n"));
+    camp_close(&repository);
+    CHECK(camp_open_with(&repository, 16777216, 65536) == CAMP_DONE && ask(&repository, "record main a add f\n") == CAMP_DONE);
+    CHECK(answers(&repository, "ok 1\n"));
+    camp_close(&repository);
+}
+
 /* An open handle isn't opened again, and is closed once. */
 static void open_handles(void) {
     camp repository = CAMP_CLOSED;
@@ -179,6 +196,7 @@ static void texts(void) {
 int main(void) {
     closed();
     open_handles();
+    limits();
     questions_alone();
     conflicts();
     other_kind();

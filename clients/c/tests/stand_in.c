@@ -9,6 +9,11 @@ int32_t camp_open(camp *repository) {
     return CAMP_DONE;
 }
 
+int32_t camp_open_with(camp *repository, size_t catches, size_t branches) {
+    (void)catches, (void)branches;
+    return camp_open(repository);
+}
+
 int32_t camp_ask(camp *repository, const uint8_t *text, size_t length) {
     (void)repository, (void)text;
     return ask(length);

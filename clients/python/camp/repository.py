@@ -22,6 +22,10 @@ class View(Questions):
         return _opened(LIBRARY.camp_view_again, self)
 
 
+DEFAULT_CATCHES, DEFAULT_BRANCHES = 4096, 256
+_MOST_CATCHES, _MOST_BRANCHES = 1 << 24, 1 << 16
+
+
 class Calls(Questions):
     """What can be asked and written. A method that writes returns the number of the call among all that were accepted, counted
     from 1."""
@@ -68,11 +72,14 @@ class Calls(Questions):
 
 
 class Repository(Calls):
-    """A repository of named patches. At first it has one branch, `main`, without patches; or what `keep` wrote of another one."""
+    """A repository of named patches. At first it has one branch, `main`, without patches; or what `keep` wrote of another
+    one. A branch has at most `catches` changes, 1 to 16,777,216, and there are at most `branches` branches, 1 to 65,536."""
 
-    def __init__(self, script: Text = b"") -> None:
+    def __init__(self, script: Text = b"", *, catches: int = DEFAULT_CATCHES, branches: int = DEFAULT_BRANCHES) -> None:
         super().__init__()
-        check(LIBRARY.camp_open(self._handle), OutOfMemory("out of memory"))
+        if not (1 <= catches <= _MOST_CATCHES and 1 <= branches <= _MOST_BRANCHES):
+            raise ValueError("catches is 1 to 16777216, branches 1 to 65536")
+        check(LIBRARY.camp_open_with(self._handle, catches, branches), OutOfMemory("out of memory"))
         try:
             self._load(to_bytes(script))
         except BaseException:

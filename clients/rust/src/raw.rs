@@ -12,6 +12,7 @@ use std::ptr;
 
 const DONE: i32 = 0;
 const MEMORY: i32 = 2;
+const LIMITS: i32 = 3;
 
 // `camp` and `camp_view` of camp.h, which have the same members.
 #[repr(C)]
@@ -31,6 +32,7 @@ impl Handle {
 
 extern "C" {
     fn camp_open(repository: *mut Handle) -> i32;
+    fn camp_open_with(repository: *mut Handle, catches: usize, branches: usize) -> i32;
     fn camp_ask(repository: *mut Handle, text: *const u8, length: usize) -> i32;
     fn camp_answer_length(repository: *mut Handle) -> usize;
     fn camp_answer(repository: *mut Handle, buffer: *mut u8, length: usize) -> usize;
@@ -78,6 +80,16 @@ impl RawRepository {
         // SAFETY: the handle is closed, and lives through the call.
         done(unsafe { camp_open(&mut handle) }, Error::OutOfMemory)?;
         Ok(RawRepository(handle))
+    }
+
+    // A repository with these limits; none where one of them is out of range.
+    pub(crate) fn open_with(catches: usize, branches: usize) -> Result<Option<RawRepository>, Error> {
+        let mut handle = Handle::closed();
+        // SAFETY: the handle is closed, and lives through the call.
+        match unsafe { camp_open_with(&mut handle, catches, branches) } {
+            LIMITS => Ok(None),
+            code => done(code, Error::OutOfMemory).map(|()| Some(RawRepository(handle))),
+        }
     }
 
     // The answer to a text. Where memory runs out some of its commands may have been done.

@@ -1,7 +1,7 @@
 use crate::answers::Answer;
 use crate::changes::{record_command, Change};
 use crate::errors::Error;
-use crate::names::Name;
+use crate::names::{Malformed, Name};
 use crate::questions::{command, pull_some_command, run, Questions};
 use crate::raw::{RawRepository, RawView};
 use crate::results::AcceptedCall;
@@ -14,6 +14,15 @@ impl Repository {
     /// A new repository: one branch, `main`, without patches.
     pub fn new() -> Result<Repository, Error> {
         Ok(Repository(RawRepository::open()?))
+    }
+
+    /// A new repository whose branches have at most `catches` changes, 1 to 16,777,216, and that has at most `branches`
+    /// branches, 1 to 65,536; [`Repository::new`] allows 4,096 and 256.
+    pub fn with_limits(catches: usize, branches: usize) -> Result<Repository, Error> {
+        match RawRepository::open_with(catches, branches)? {
+            Some(repository) => Ok(Repository(repository)),
+            None => Err(Malformed::new("limit", format!("{catches} {branches}").as_bytes()).into()),
+        }
     }
 
     /// A new repository in which a script is run, as [`keep`](Repository::keep) writes it. Each command has to be accepted.

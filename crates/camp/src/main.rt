@@ -3,24 +3,31 @@
 //! if memory ran out or input or output failed; standard error says why.
 #![tactic(auto)]
 
-ghost use Rattle.std.specs.Prelude.{IfOk, ◌≤◌};
+ghost use Rattle.std.specs.Prelude.{◌≡◌, ◌≤◌, IfOk, Ok};
+ghost use Rattle.std.specs.Option.{option_map_or};
+ghost use Rattle.camp_options.specs.Limits.{limits_in};
 ghost use Rattle.camp_options.specs.Options.{most_tries};
+ghost use Rattle.camp_repo.specs.Limits.{default_bounds};
 
 mod runs;
 mod stops;
 
 use camp_options::{Options, WordsFault, command_line, options};
+use camp_repo::Limits;
 use runs::run;
-use std::env::Env;
+use std::alloc::Global;
 use std::process::ExitCode;
 use stops::Stop;
 
 fn main(rt: HostRuntime) -> ExitCode {
-    let ended = match asked(&rt) {
-        Ok(options) => {
-            let (mut reader, mut writer) = (rt.stdin(), rt.stdout());
-            run(&rt, rt.alloc(), &options, &mut reader, &mut writer).map_err(Stop::Run)
-        }
+    let ended = match command_line(&rt) {
+        Ok(words) => match asked(rt.alloc(), words.as_slice()) {
+            Ok((options, limits)) => {
+                let (mut reader, mut writer) = (rt.stdin(), rt.stdout());
+                run(&rt, rt.alloc(), limits, &options, &mut reader, &mut writer).map_err(Stop::Run)
+            }
+            Err(fault) => Err(Stop::Words(fault)),
+        },
         Err(fault) => Err(Stop::Words(fault)),
     };
     match ended {
@@ -29,10 +36,12 @@ fn main(rt: HostRuntime) -> ExitCode {
     }
 }
 
-// Executes what the command line asks for.
-fn asked<R: Env + AllocGlobal>(rt: &R) -> Result<Options, WordsFault>
-    ensures { IfOk result (λ options. (1 ≤ options.tries) × (options.tries ≤ most_tries)) }
+// Reads what the command line asks for: the options, and the limits of the repository.
+fn asked<'a>(alloc: Global, words: &'a [String]) -> Result<(Options<'a>, Limits), WordsFault>
+    ensures tries { IfOk result (λ asked. (1 ≤ asked.0.tries) × (asked.0.tries ≤ most_tries)) }
+    ensures limits { IfOk result (λ asked. option_map_or (λ text. limits_in text.now) asked.0.limits (Ok default_bounds) ≡ Ok asked.1) }
 {
-    let words = command_line(rt)?;
-    Ok(options(rt.alloc(), words.as_slice())?)
+    let asked = options(alloc, words)?;
+    let limits = asked.limits()?;
+    Ok((asked, limits))
 }

@@ -1,7 +1,10 @@
 -- The effect of each export on a handle, by the value of the handle: none, a repository or a view. The codes are 0,
--- done; 1, a handle is closed or of the other kind, or the one to be opened is open; 2, out of memory.
+-- done; 1, a handle is closed or of the other kind, or the one to be opened is open; 2, out of memory; 3, a limit is
+-- out of range.
 use Rattle.std.specs.Prelude.{◌≡◌, ◌⊎◌, ℕ, ℤ, pos, List, [], Option, Some, None, Result, Ok, Err}
-use Rattle.camp_session.specs.Sessions.{Asks, Repository, Sees, Snapshot, Views}
+use Rattle.camp_repo.specs.Limits.{Bounds}
+use Rattle.camp_repo.specs.declared.faults.LimitFault.{LimitFault}
+use Rattle.camp_session.specs.Sessions.{Asks, Repository, Sees, Snapshot, Views, new_repository}
 use Rattle.camp_talk.specs.declared.faults.TalkFault.{TalkFault}
 use Rattle.camp_c.specs.declared.kept.Kept.{Kept}
 use Rattle.camp_c.specs.declared.kept.Kept.TheVariants.{Session, View}
@@ -10,19 +13,21 @@ use Rattle.camp_c.specs.declared.kept.Kept.TheVariants.{Session, View}
 abbrev pub Stand : Type 0
 Stand = Option Kept
 
--- a new repository: no call was accepted, and nothing was asked
-abbrev pub new_repository : Repository
-new_repository = record { history = []; answer = [] }
-
 -- nothing is done, and the value of the handle is unchanged
 abbrev pub IsRefused : Stand → ℤ → Stand → Type 0
 IsRefused old code now = (code ≡ pos 1) × (now ≡ old)
 
--- a closed handle is opened on a new repository, or memory ran out
-abbrev pub OpensRepository : Stand → ℤ → Stand → Type 0
-OpensRepository None code now =
-    ((code ≡ pos 0) × (now ≡ Some (Session new_repository))) ⊎ ((code ≡ pos 2) × (now ≡ None))
-OpensRepository old code now = IsRefused old code now
+-- a closed handle is opened on a new repository with these limits, or memory ran out
+abbrev pub OpensRepository : Bounds → Stand → ℤ → Stand → Type 0
+OpensRepository limits None code now =
+    ((code ≡ pos 0) × (now ≡ Some (Session (new_repository limits)))) ⊎ ((code ≡ pos 2) × (now ≡ None))
+OpensRepository limits old code now = IsRefused old code now
+
+-- the same if the numbers are limits; else the handle stays closed, if it is, and a code says so
+abbrev pub OpensWithin : Result Bounds LimitFault → Stand → ℤ → Stand → Type 0
+OpensWithin (Ok limits) old code now = OpensRepository limits old code now
+OpensWithin (Err fault) None code now = (code ≡ pos 3) × (now ≡ None)
+OpensWithin (Err fault) old code now = IsRefused old code now
 
 -- the code for how much of a text was executed
 abbrev pub code_of : Result (Unit {0}) TalkFault → ℤ

@@ -8,3 +8,6 @@ pub(crate) const CLOSED: i32 = 1;
 
 /// Out of memory.
 pub(crate) const MEMORY: i32 = 2;
+
+/// A limit is out of range.
+pub(crate) const LIMITS: i32 = 3;

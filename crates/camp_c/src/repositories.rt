@@ -1,25 +1,51 @@
 //! Repositories: opened, asked and closed.
 ghost use Rattle.std.specs.Prelude.{◌≡◌, ◌++◌, None, Some, length, take, drop, min, IfOk};
-ghost use Rattle.camp_c.specs.Handles.{AsksRepository, OpensRepository, answer_of, new_repository};
+ghost use Rattle.camp_c.specs.Handles.{AsksRepository, OpensRepository, OpensWithin, answer_of};
+ghost use Rattle.camp_repo.specs.Limits.{bounded, default_bounds};
+ghost use Rattle.camp_session.specs.Sessions.{new_repository};
 ghost use Rattle.camp_c.specs.declared.kept.Kept.TheVariants.{Session as OfSession};
 
-use crate::codes::{CLOSED, DONE, MEMORY};
+use crate::codes::{CLOSED, DONE, LIMITS, MEMORY};
 use crate::handles::Handle;
 use crate::kept::Kept;
-use camp_session::Session;
+use camp_session::{Limits, Session};
 use std::alloc::{AllocError, Global};
 
-/// Opens a closed handle on a new repository: one branch `main` without a patch.
+/// Opens a closed handle on a new repository with the default limits: one branch `main` without a patch.
 #[unsafe(no_mangle)]
 pub extern "C" fn camp_open(alloc: Global, handle: &mut Handle) -> i32
-    ensures { OpensRepository handle.old.keeper.held result handle.new.keeper.held }
+    ensures { OpensRepository default_bounds handle.old.keeper.held result handle.new.keeper.held }
+{
+    open(alloc, handle, Limits::default())
+}
+
+/// Opens a closed handle on a new repository with these limits: 1 to 16,777,216 catches of a branch, and 1 to
+/// 65,536 branches.
+#[unsafe(no_mangle)]
+pub extern "C" fn camp_open_with(
+    alloc: Global,
+    handle: &mut Handle,
+    catches: usize,
+    branches: usize,
+) -> i32
+    ensures { OpensWithin (bounded catches branches) handle.old.keeper.held result handle.new.keeper.held }
+{
+    match Limits::new(catches, branches) {
+        Ok(limits) => open(alloc, handle, limits),
+        Err(_) if handle.is_open() => CLOSED,
+        Err(_) => LIMITS,
+    }
+}
+
+fn open(alloc: Global, handle: &mut Handle, limits: Limits) -> i32
+    ensures { OpensRepository limits handle.old.keeper.held result handle.new.keeper.held }
 {
     match handle.take(alloc) {
         Some(kept) => {
             handle.put(kept);
             CLOSED
         }
-        None => match begin(alloc) {
+        None => match begin(alloc, limits) {
             Ok(kept) => {
                 handle.put(kept);
                 DONE
@@ -29,10 +55,10 @@ pub extern "C" fn camp_open(alloc: Global, handle: &mut Handle) -> i32
     }
 }
 
-fn begin(alloc: Global) -> Result<Box<Kept>, AllocError>
-    ensures { IfOk result (λ kept. kept.value ≡ OfSession new_repository) }
+fn begin(alloc: Global, limits: Limits) -> Result<Box<Kept>, AllocError>
+    ensures { IfOk result (λ kept. kept.value ≡ OfSession (new_repository limits)) }
 {
-    let session = Session::new(alloc)?;
+    let session = Session::with_limits(alloc, limits)?;
     Ok(Box::new(alloc, Kept::Session(session))?)
 }
 

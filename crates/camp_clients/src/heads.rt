@@ -12,6 +12,7 @@ ghost use Rattle.camp_clients.specs.Sections.{most_sections, most_tries, Section
 ghost use Rattle.camp_object.specs.Histories.{own};
 ghost use Rattle.camp_object.specs.Objects.{IsFirst, begun};
 
+use crate::firsts::initial;
 use crate::gates::SectionGate;
 use crate::meetings::{each_meets, meet_all};
 use crate::sections::{Answers, ask_all, put_apart};
@@ -77,14 +78,6 @@ where
         (lists_of run.answers.items) (history_of run.opener)) }
 {
     shared_from(alloc, initial(alloc)?, plan)
-}
-
-/// Returns the initial state, with which a history can begin.
-fn initial<State: Object>(alloc: Global) -> Result<State, AllocError>
-    ensures exact { IfOk result (λ state. state ≡ State.object.initial) }
-    ensures first { IfOk result (IsFirst State.object) }
-{
-    State::initial(alloc)
 }
 
 /// Runs sections of calls over a head with a seat for each: the first alone, and then each further one in a

@@ -3,6 +3,7 @@
 
 mod comparisons;
 mod faults;
+mod firsts;
 mod gates;
 mod heads;
 mod laws;
@@ -16,6 +17,6 @@ pub use faults::LockFault;
 pub use gates::SectionGate;
 pub use heads::{HeadPlan, HeadRun, shared, shared_from};
 pub use laws::{done_was_accepted, locked_is_serial, opening_is_alone, shared_is_serial};
-pub use locks::locked;
-pub use one_by_one::{BookRun, serial};
+pub use locks::{locked, locked_from};
+pub use one_by_one::{BookRun, serial, serial_from};
 pub use sections::{Answers, ask_all};

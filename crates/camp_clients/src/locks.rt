@@ -5,9 +5,11 @@ ghost use Rattle.std.specs.Thread.{IsSync};
 ghost use Rattle.camp_clients.specs.Answers.{HasMemory};
 ghost use Rattle.camp_clients.specs.Runs.{IsLocked, SaysSomewhere, lists_of, section_of};
 ghost use Rattle.camp_clients.specs.Sections.{most_sections};
+ghost use Rattle.camp_object.specs.Objects.{IsFirst, begun};
 
 use crate::comparisons::has_exactly;
 use crate::faults::LockFault;
+use crate::firsts::{begins_with, initial};
 use crate::one_by_one::{BookRun, at_seat};
 use crate::sections::{Answers, gather, unless_memory};
 use camp_object::{Book, Fault, Object};
@@ -16,9 +18,8 @@ use std::sync::{Mutex, Wait};
 use std::thread;
 use std::thread::Threads;
 
-/// Runs sections of calls over a book, section k at seat k: the first alone, then each further one in a
-/// thread of its own, under a lock. Afterwards the history is compared with the replies.
-pub fn locked<R: Threads + Wait + Sync, State: Object + Send>(
+/// Runs sections of calls over a new book, as [`locked_from`] does.
+pub fn locked<R: Threads + Wait + Sync, State: Object + Send + Sync>(
     rt: &R,
     alloc: Global,
     sections: &[Vec<State::Call>],
@@ -28,15 +29,43 @@ where
     State::Reply: Send,
     requires { (0 < length sections.now) × (length sections.now ≤ most_sections) }
     ensures locked { IfOk result (λ run.
-        IsLocked State.object (lists_of sections.now) (lists_of run.answers.items) run.book) }
+        IsLocked State.object (lists_of sections.now) (lists_of run.answers.items) run.book.calls) }
 {
-    let mut book = Book::<State>::new(alloc)?;
+    let first = initial::<State>(alloc)?;
+    let same = initial::<State>(alloc)?;
+    locked_from(rt, alloc, first, &same, sections)
+}
+
+/// Runs sections of calls over a book that begins with a state, section k at seat k: the first alone, and then
+/// each further one in a thread of its own, under a lock. Afterwards the history is compared with the replies.
+/// A lock forgets what its book began with, so each thread compares that with the same state.
+pub fn locked_from<R: Threads + Wait + Sync, State: Object + Send + Sync>(
+    rt: &R,
+    alloc: Global,
+    first: State,
+    same: &State,
+    sections: &[Vec<State::Call>],
+) -> Result<BookRun<State>, LockFault>
+where
+    State::Call: Send + Sync,
+    State::Reply: Send,
+    requires few { (0 < length sections.now) × (length sections.now ≤ most_sections) }
+    requires is_first { IsFirst State.object first }
+    requires is_same { same.now ≡ first }
+    ensures begins { IfOk result (λ run. run.book.first ≡ first) }
+    ensures locked { IfOk result (λ run.
+        IsLocked (begun State.object first) (lists_of sections.now) (lists_of run.answers.items) run.book.calls) }
+{
+    let mut book = Book::begun(alloc, first);
     let opening = at_seat::<State>(alloc, &mut book, 0, &sections[0])?;
-    let first = vec![in alloc; opening]?;
+    let opened = vec![in alloc; opening]?;
     let lock = Mutex::new(book);
-    let clients = in_threads::<R, State>(rt, alloc, &lock, sections)?;
-    let answers = gather(first, clients)?;
+    let clients = in_threads::<R, State>(rt, alloc, &lock, same, sections)?;
+    let answers = gather(opened, clients)?;
     let book = lock.into_inner();
+    if !begins_with(&book, same) {
+        return Err(LockFault::Foreign);
+    }
     if !has_exactly::<State>(book.history(), sections, &answers) {
         return Err(LockFault::Foreign);
     }
@@ -44,30 +73,32 @@ where
 }
 
 /// Runs each section but the first in a thread of its own.
-fn in_threads<R: Threads + Wait + Sync, State: Object + Send>(
+fn in_threads<R: Threads + Wait + Sync, State: Object + Send + Sync>(
     rt: &R,
     alloc: Global,
     lock: &Mutex<Book<State>>,
+    first: &State,
     sections: &[Vec<State::Call>],
-) -> Result<Vec<Result<Answers<State>, AllocError>>, AllocError>
+) -> Result<Vec<Result<Answers<State>, LockFault>>, AllocError>
 where
     State::Call: Send + Sync,
     State::Reply: Send,
-    requires { (0 < length sections.now) × (length sections.now ≤ most_sections) }
+    requires few { (0 < length sections.now) × (length sections.now ≤ most_sections) }
+    requires is_first { IsFirst State.object first.now }
     ensures as_many { IfOk result (λ made. length made.items + 1 ≡ length sections.now) }
     ensures each { IfOk result (λ made. (k : ℕ) (d : _) → k < length made.items →
         IfOk (slice_index_or made.items k d) (λ answers.
-        AllZip (SaysSomewhere State.object) (section_of (lists_of sections.now) (k + 1)) answers.items)) }
+        AllZip (SaysSomewhere (begun State.object first.now)) (section_of (lists_of sections.now) (k + 1)) answers.items)) }
 {
     thread::map_indices(
         rt,
         alloc,
         sections.len() - 1,
-        &|k: usize| -> Result<Answers<State>, AllocError>
-            requires { IsSync R.row × (k + 1 < length sections.now) × (length sections.now ≤ most_sections) }
+        &|k: usize| -> Result<Answers<State>, LockFault>
+            requires { IsSync R.row × (k + 1 < length sections.now) × (length sections.now ≤ most_sections) × IsFirst State.object first.now }
             ensures { IfOk result (λ answers.
-                AllZip (SaysSomewhere State.object) (section_of (lists_of sections.entry.now) (k + 1)) answers.items) }
-        { ask_locked::<R, State>(rt, alloc, lock, k as u32 + 1, &sections[k + 1]) },
+                AllZip (SaysSomewhere (begun State.object first.entry.now)) (section_of (lists_of sections.entry.now) (k + 1)) answers.items) }
+        { ask_locked::<R, State>(rt, alloc, lock, first, k as u32 + 1, &sections[k + 1]) },
     )
 }
 
@@ -76,26 +107,35 @@ fn ask_locked<R: Wait, State: Object>(
     rt: &R,
     alloc: Global,
     lock: &Mutex<Book<State>>,
+    first: &State,
     seat: u32,
     calls: &[State::Call],
-) -> Result<Answers<State>, AllocError>
-    ensures { IfOk result (λ answers. AllZip (SaysSomewhere State.object) calls.now answers.items) }
+) -> Result<Answers<State>, LockFault>
+    requires { IsFirst State.object first.now }
+    ensures { IfOk result (λ answers. AllZip (SaysSomewhere (begun State.object first.now)) calls.now answers.items) }
 {
     let mut answers = Vec::with_capacity(alloc, calls.len())?;
     for call in calls {
-        answers.push_reserved(unless_memory(ask_once::<R, State>(rt, lock, seat, call))?);
+        let answer = ask_once::<R, State>(rt, lock, first, seat, call)?;
+        answers.push_reserved(unless_memory(answer)?);
     }
     Ok(answers)
 }
 
-/// Executes one call under the lock.
+/// Executes one call under the lock, if its book begins with the state.
 fn ask_once<R: Wait, State: Object>(
     rt: &R,
     lock: &Mutex<Book<State>>,
+    first: &State,
     seat: u32,
     call: &State::Call,
-) -> Result<State::Reply, Fault>
-    ensures { HasMemory result → SaysSomewhere State.object call.now result }
+) -> Result<Result<State::Reply, Fault>, LockFault>
+    requires { IsFirst State.object first.now }
+    ensures { IfOk result (λ answer. HasMemory answer → SaysSomewhere (begun State.object first.now) call.now answer) }
 {
-    lock.lock(rt).ask(seat, call)
+    let mut book = lock.lock(rt);
+    if !begins_with(&book, first) {
+        return Err(LockFault::Foreign);
+    }
+    Ok(book.ask(seat, call))
 }

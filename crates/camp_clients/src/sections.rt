@@ -7,6 +7,7 @@ ghost use Rattle.camp_clients.specs.Answers.{Asks, HasMemory};
 ghost use Rattle.camp_clients.specs.Gathering.{ArePutApart, Gathers};
 ghost use Rattle.camp_clients.specs.Sections.{Section};
 
+use crate::faults::LockFault;
 use camp_object::{Desk, Fault, Object};
 use std::alloc::{AllocError, Global};
 
@@ -48,11 +49,11 @@ pub(crate) fn unless_memory<Reply>(
     }
 }
 
-/// Appends the results of threads to earlier values, or returns out of memory if a thread did.
+/// Appends the results of threads to earlier values, or returns the first fault of a thread.
 pub(crate) fn gather<X: Drop>(
     first: Vec<X>,
-    made: Vec<Result<X, AllocError>>,
-) -> Result<Vec<X>, AllocError>
+    made: Vec<Result<X, LockFault>>,
+) -> Result<Vec<X>, LockFault>
     ensures { IfOk result (λ all. Gathers first.items made.items all.items) }
 {
     let mut all = first;

@@ -2,7 +2,7 @@
 use Rattle.std.proofs.Common.{◌≡◌, ◌⊎◌, inl, inr, ◌+◌, ◌≤◌, ◌<◌, ◌^◌, min, nat_lt, ℕ, Bool, true, false, List, [], ◌∷◌, ◌++◌, length, map, refl, sym, ◌∙◌, ap, subst, arith, append_assoc, length-append}
 use Rattle.std.proofs.lemmas.Bool.{ltb-false, ltb-true}
 use Rattle.camp_call.specs.declared.calls.Call.{Call}
-use Rattle.camp_kept.specs.Accepting.{alone}
+use Rattle.camp_kept.specs.Accepting.{History, alone}
 use Rattle.camp_kept.specs.Faults.{IsDamagedAt, IsNumber, IsOfNoCall}
 use Rattle.camp_kept.specs.Keeping.{call_texts, store_texts, title}
 use Rattle.camp_kept.specs.Replaying.{AreAsked, AsksAgain}
@@ -56,7 +56,7 @@ part before (text ∷ texts) others bytes (behind, block, more) =
     }
 
 -- a file of a title and of texts, one of which is of no call that is accepted there
-pub damaged_there : (done : List (List ℕ)) (text : List ℕ) (rest : List (List ℕ)) (history after : List (ℕ × Call)) → AreAsked done history → AsksAgain history text false after
+pub damaged_there : (done : List (List ℕ)) (text : List ℕ) (rest : List (List ℕ)) (history after : History) → AreAsked done history → AsksAgain history text false after
     → (call at : ℕ) → IsNumber call (length done + 1) → IsNumber at (40 + size done) → (file : List ℕ) → Stands (title ∷ (done ++ text ∷ rest)) file → IsDamagedAt call at file
 damaged_there done text rest history after asked none call at call_is at_is file stands =
     let parted = part first_digest (title ∷ done) (text ∷ rest) stands.front stands.are in
@@ -75,6 +75,6 @@ damaged_there done text rest history after asked none call at call_is at_is file
         text = text;
         behind = parted.more.0 ++ stands.end;
         block = block_more (chain first_digest (title ∷ done)) text parted.more.0 stands.end parted.rest parted.more.1;
-        none = subst (λ (h : List (ℕ × Call)). AsksAgain h text false after) asked.is none;
+        none = subst (λ (h : History). AsksAgain h text false after) asked.is none;
       });
     }

@@ -1,15 +1,23 @@
 -- Calls by their texts, and the calls of a file.
 use Rattle.std.proofs.Common.{◌≡◌, inl, inr, Bool, true, false, List, [], ◌∷◌, ◌++◌, length, map, refl, sym, ◌∙◌, ap, subst, arith, append_assoc, Result, Ok, Err, IsSome, IfSome, Option, None, Some, ◌≢◌, ℕ, Vec, Global, option_to_list}
 use Rattle.std.specs.List.{AllByRecursion}
+use Rattle.std.specs.Option.{option_and_then}
+use Rattle.std.proofs.Common.{MatchOption, is_some, true≢false}
 use Rattle.std.proofs.lemmas.List.{map-append}
 use Rattle.camp_call.specs.declared.calls.Call.{Call}
-use Rattle.camp_kept.specs.Accepting.{AreAccepted, alone}
+use Rattle.camp_call.specs.declared.replies.Reply.{Reply}
+use Rattle.camp_kept.specs.Accepting.{AreAccepted, History, Stored, alone}
 use Rattle.camp_kept.specs.Keeping.{AreTexts, Tells, call_texts, title}
-use Rattle.camp_kept.specs.Replaying.{AreAsked, AreRecalled, AsksAgain, AsksCall, IsOnly}
-use Rattle.camp_object.specs.Histories.{IsAccepted, IsBeginning, IsLegal}
+use Rattle.camp_kept.specs.Replaying.{AreAsked, AreRecalled, AsksAgain, AsksCall, CanBeNext, IsOnly, new_with, then_call}
+use Rattle.camp_object.specs.Asking.{Accepts, AddsNothing, alone_at}
+use Rattle.camp_object.specs.Books.{AsksBook}
+use Rattle.camp_object.specs.Histories.{IsAccepted, IsAnswered, IsBeginning, IsLegal}
+use Rattle.camp_object.specs.Objects.{begun}
+use Rattle.camp_object.proofs.SameBooks.{same_book}
 use Rattle.camp_object.proofs.Replays.{legal_front, replay_more}
-use Rattle.camp_repo.specs.Objects.{repository}
-use Rattle.camp_repo.specs.States.{Contents}
+use Rattle.camp_repo.specs.Limits.{Bounds}
+use Rattle.camp_repo.specs.Objects.{number_told, repository, repository_within}
+use Rattle.camp_repo.specs.States.{Contents, initial}
 use Rattle.camp_script.specs.Canonical.{IsScriptCall, call_text}
 use Rattle.camp_script.specs.Keeping.{calls_of}
 use Rattle.camp_script.specs.Reading.{script_of}
@@ -67,26 +75,27 @@ stands_behind (d ∷ done) (c ∷ calls) text rest can could e =
     }
 
 -- accepted calls that have the texts of others, and one more: the call of that one is accepted after the others
-pub accepted_behind : (done calls : List Call) (text : List ℕ) (rest : List (List ℕ)) → AllByRecursion IsScriptCall done → AreAccepted calls
-    → call_texts calls ≡ call_texts done ++ text ∷ rest → (call : Call) × IsScriptCall call × (call_text call ≡ text) × IsAccepted repository (alone done) call
-accepted_behind done calls text rest can accepted e =
-    let behind = stands_behind done calls text rest can accepted.can e in
+pub accepted_behind : (done : List Call) (stored : Stored) (text : List ℕ) (rest : List (List ℕ)) → AllByRecursion IsScriptCall done → AreAccepted stored
+    → call_texts stored.calls ≡ call_texts done ++ text ∷ rest → (call : Call) × IsScriptCall call × (call_text call ≡ text) × IsAccepted repository (alone done) call
+accepted_behind done stored text rest can accepted e =
+    let behind = stands_behind done stored.calls text rest can accepted.can e in
     let c = behind.call in
-    let makes : (alone done ++ (0, c) ∷ []) ++ alone behind.more ≡ alone calls =
+    let makes : (alone done ++ (0, c) ∷ []) ++ alone behind.more ≡ alone stored.calls =
     append_assoc (alone done) ((0, c) ∷ []) (alone behind.more)
     ∙ sym (map-append (λ (call : Call). (0, call)) done (c ∷ behind.more))
     ∙ ap alone (sym behind.is) in
-    let front : IsBeginning (alone done ++ (0, c) ∷ []) (alone calls) = record { rest = alone behind.more; makes = makes } in
-    let legal : IsLegal repository (alone done ++ (0, c) ∷ []) = legal_front repository front accepted.legal in
+    let front : IsBeginning (alone done ++ (0, c) ∷ []) (alone stored.calls) = record { rest = alone behind.more; makes = makes } in
+    let all : IsLegal repository (alone stored.calls) = subst (λ (limits : Bounds). IsLegal (repository_within limits) (alone stored.calls)) accepted.default accepted.legal in
+    let legal : IsLegal repository (alone done ++ (0, c) ∷ []) = legal_front repository front all in
     (c, behind.can, behind.text_is, subst (λ (o : Option Contents). IsSome o) (replay_more repository (alone done) (0, c)) legal)
 
 -- the calls of a file with a title
-pub told_texts : (texts : List (List ℕ)) (calls : List Call) (file : List ℕ) → Stands (title ∷ texts) file → Tells calls file → call_texts calls ≡ texts
-told_texts texts calls file stands told = from told.are where
+pub told_texts : (texts : List (List ℕ)) (stored : Stored) (file : List ℕ) → Stands (title ∷ texts) file → Tells stored file → call_texts stored.calls ≡ texts
+told_texts texts stored file stands told = from told.are where
   same : title ∷ texts ≡ told.texts
   same = stands_once (title ∷ texts) told.texts file stands told.stands
 
-  from : AreTexts told.texts calls → call_texts calls ≡ texts
+  from : AreTexts told.texts stored → call_texts stored.calls ≡ texts
   from (inl are) = sym (ap other_texts (same ∙ are))
   from (inr none) = absurd (no_texts title texts (same ∙ none.0))
 
@@ -126,16 +135,37 @@ is_only text sections (Some call) reads alone stand = (
 pub is_none : (text : List ℕ) → ((sections : List (List Call)) → script_of text ≢ Ok sections) → IsOnly text None
 is_none text none = λ call can is. none ((call ∷ []) ∷ []) (ap script_of (sym is) ∙ text_reads call can)
 
+-- a call is executed on a book, and its reply tells whether it was accepted
+module _ (before after : History) (call : Call) (asked : Reply) (asks : AsksBook repository 0 before call (Ok asked) after) where
+  accepted_last : {at : ℕ} → number_told asked ≡ Some at → after ≡ then_call before call
+  accepted_last {at} is =
+      let done : Accepts (alone_at 0) before.calls call at after.calls = subst (λ (told : Option ℕ). MatchOption told (AddsNothing (alone_at 0) before.calls after.calls × IsAnswered (begun repository before.first) after.calls call asked) (λ n. Accepts (alone_at 0) before.calls call n after.calls)) is asks.asks.says in
+      same_book after (then_call before call) asks.first (done.ends ∙ ap (λ (l : List (ℕ × Call)). l ++ (0, call) ∷ []) (done.exact refl))
+
+  answered_only : number_told asked ≡ None → ¬ (CanBeNext before call)
+  answered_only is accepted =
+      let says : AddsNothing (alone_at 0) before.calls after.calls × IsAnswered (begun repository before.first) after.calls call asked = subst (λ (told : Option ℕ). MatchOption told (AddsNothing (alone_at 0) before.calls after.calls × IsAnswered (begun repository before.first) after.calls call asked) (λ n. Accepts (alone_at 0) before.calls call n after.calls)) is asks.asks.says in
+      let here : IsAccepted (begun repository before.first) after.calls call = subst (λ (l : List (ℕ × Call)). IsAccepted (begun repository before.first) l call) (sym (says.0.exact refl)) accepted in
+      let none : IsSome (option_and_then (λ (state : Contents). repository.after state call) (Some says.1.state)) = subst (λ (found : Option Contents). IsSome (option_and_then (λ state. repository.after state call) found)) says.1.replays here in
+      absurd (true≢false (sym (subst (λ (found : Option Contents). IsSome found) says.1.stays none)))
+
+  by_told : (told : Option ℕ) → number_told asked ≡ told → AsksCall before call (is_some told) after
+  by_told (Some at) is = accepted_last is
+  by_told None is = answered_only is
+
+  pub asks_call : (accepted : Bool) → accepted ≡ is_some (number_told asked) → AsksCall before call accepted after
+  asks_call accepted is = subst (λ (b : Bool). AsksCall before call b after) (sym is) (by_told (number_told asked) refl)
+
 -- a call that was found by its text is executed
-pub asks_again : (before after : List (ℕ × Call)) (text : List ℕ) (call : Call) (yes : Bool) → (call_text call ≡ text) × IsScriptCall call → AsksCall before call yes after → AsksAgain before text yes after
+pub asks_again : (before after : History) (text : List ℕ) (call : Call) (yes : Bool) → (call_text call ≡ text) × IsScriptCall call → AsksCall before call yes after → AsksAgain before text yes after
 asks_again before after text call true found asks = (call, found.1, found.0, asks)
-asks_again before after text call false found asks = λ other can is. subst (λ (c : Call). IsAccepted repository before c → ⊥) (one_call call other found.1 can (found.0 ∙ sym is)) asks
+asks_again before after text call false found asks = λ other can is. subst (λ (c : Call). CanBeNext before c → ⊥) (one_call call other found.1 can (found.0 ∙ sym is)) asks
 
 -- one more call is executed
-pub asked_more : (texts : List (List ℕ)) (text : List ℕ) (before after : List (ℕ × Call)) → AreAsked texts before → AsksAgain before text true after → AreAsked (texts ++ text ∷ []) after
+pub asked_more : (texts : List (List ℕ)) (text : List ℕ) (before after : History) → AreAsked texts before → AsksAgain before text true after → AreAsked (texts ++ text ∷ []) after
 asked_more texts text before after asked (call, can, text_is, grows) = record {
   calls = asked.calls ++ call ∷ [];
-  is = grows ∙ ap (λ (h : List (ℕ × Call)). h ++ (0, call) ∷ []) asked.is ∙ alone-push asked.calls call;
+  is = grows ∙ ap (λ (h : History). then_call h call) asked.is ∙ ap (λ (l : List (ℕ × Call)). record { first = initial; calls = l }) (alone-push asked.calls call);
   can = all_more IsScriptCall asked.calls call asked.can can;
   texts_are = ap (λ (l : List (List ℕ)). l ++ text ∷ []) asked.texts_are
       ∙ ap (λ (t : List ℕ). call_texts asked.calls ++ t ∷ []) (sym text_is)
@@ -143,13 +173,18 @@ asked_more texts text before after asked (call, can, text_is, grows) = record {
 }
 
 -- the calls that were executed, after a title
-pub recalled : (texts : List (List ℕ)) (history : List (ℕ × Call)) → AreAsked texts history → AreRecalled (title ∷ texts) history
+pub recalled : (texts : List (List ℕ)) (history : History) → AreAsked texts history → AreRecalled (title ∷ texts) history
 recalled texts history asked =
-    let calls : calls_of history ≡ asked.calls = ap (λ (h : List (ℕ × Call)). calls_of h) asked.is ∙ calls_alone asked.calls in
+    let calls : calls_of history.calls ≡ asked.calls = ap (λ (h : History). calls_of h.calls) asked.is ∙ calls_alone asked.calls in
     record {
+      first = ap (λ (h : History). h.first) asked.is;
       are = inl (ap (λ (l : List (List ℕ)). title ∷ l) (asked.texts_are ∙ ap call_texts (sym calls)));
       can = subst (λ (l : List Call). AllByRecursion IsScriptCall l) (sym calls) asked.can;
     }
+
+-- no texts are those of a repository without calls
+pub none_recalled : (history : History) → history ≡ new_with [] → AreRecalled [] history
+none_recalled history is = subst (λ (h : History). AreRecalled [] h) (sym is) (record { first = refl; are = inr (refl, refl); can = tt })
 
 abbrev items_of : List (Vec Call Global) → List (List Call)
 items_of sections = map (λ section. section.items) sections

@@ -2,7 +2,7 @@
 use Rattle.std.proofs.Common.{◌≡◌, ◌≢◌, ◌≤◌, ◌+◌, inl, inr, ℕ, zero, suc, Bool, false, List, [], ◌∷◌, ◌++◌, length, Result, Ok, Err, IfErr, IsErrAnd, IsTrue, sym, ◌∙◌, ap, subst, arith, length-append, true≢false}
 use Rattle.camp_call.specs.declared.calls.Call.{Call}
 use Rattle.camp_kept.specs.Faults.{IsOfContents, IsRefusal, IsUnopened, IsUntitled, ReportsDisk, fault_of}
-use Rattle.camp_kept.specs.Accepting.{AreAccepted}
+use Rattle.camp_kept.specs.Accepting.{AreAccepted, History, Stored, none_stored}
 use Rattle.camp_kept.specs.Keeping.{LeavesKept, Tells, call_texts, most_unbegun, store_texts, title}
 use Rattle.camp_kept.specs.Replaying.{AreAsked, AsksAgain}
 use Rattle.camp_kept.specs.declared.faults.KeptFault.{KeptFault}
@@ -39,7 +39,7 @@ damage_is_refused (store.Damaged (suc n) at) file of damage = (
     at_is = inl damage.at_is;
     wrong = inl (record { no_end = damage.no_end; no_block = damage.no_block });
   },
-  λ calls accepted told. damage_is_no_store (suc n) at file damage told.texts told.stands,
+  λ stored accepted told. damage_is_no_store (suc n) at file damage told.texts told.stands,
 )
 damage_is_refused store.Failed file of damage = absurd of
 
@@ -79,18 +79,18 @@ untitled_unopened usable (kept.Store store.TooLong) file untitled = absurd untit
 untitled_unopened usable (kept.Store (store.Damaged count at)) file untitled = absurd untitled
 
 -- a title has a length, and fits in a file without texts
-title_fits : AllFit (store_texts [])
+title_fits : AllFit (store_texts none_stored)
 title_fits = (omega arith, tt)
 
-short_title : (digest : List ℕ) → length (blocks digest (store_texts [])) + 1 ≤ most_unbegun
+short_title : (digest : List ℕ) → length (blocks digest (store_texts none_stored)) + 1 ≤ most_unbegun
 short_title digest = omega (arith, length-append (body digest title) [], length-append (head digest title) title, length-head digest title)
 
-pub title_ends : {D : Type 0} (seen : D → List ℕ) (may_leave : D → List ℕ → Type 0) (log : Log D) → KeepsTexts seen may_leave [] log → end_with log (store_texts []) ≤ most_unbegun
+pub title_ends : {D : Type 0} (seen : D → List ℕ) (may_leave : D → List ℕ → Type 0) (log : Log D) → KeepsTexts seen may_leave [] log → end_with log (store_texts none_stored) ≤ most_unbegun
 title_ends seen may_leave log keeps = omega (arith, short_title log.digest, keeps.length_is, ap (λ (l : List ℕ). length l) keeps.are)
 
 -- why a title is not appended to a log that has not failed
 pub title_is_unput : {D : Type 0} (seen : D → List ℕ) (may_leave : D → List ℕ → Type 0) (is_usable : D → Bool) (log : Log D) (why : StoreFault) → KeepsTexts seen may_leave [] log
-    → IsOpen is_usable log → IsOfPutting is_usable log (store_texts []) why → IsUntitled (fault_of why)
+    → IsOpen is_usable log → IsOfPutting is_usable log (store_texts none_stored) why → IsUntitled (fault_of why)
 title_is_unput seen may_leave is_usable log store.Memory keeps open_ of = tt
 title_is_unput seen may_leave is_usable log (store.Disk error) keeps open_ of = tt
 title_is_unput seen may_leave is_usable log store.TooLong keeps open_ (inl unfit) = absurd (unfit title_fits)
@@ -108,13 +108,13 @@ another_title text texts other file stands = record {
 }
 
 -- a file of texts, one of which is of no call that is accepted there
-pub not_accepted : (done : List (List ℕ)) (text : List ℕ) (rest : List (List ℕ)) (history after : List (ℕ × Call)) → AreAsked done history → AsksAgain history text false after
-    → (file : List ℕ) → Stands (title ∷ (done ++ text ∷ rest)) file → (calls : List Call) → AreAccepted calls → Tells calls file → ⊥
-not_accepted done text rest history after asked none file stands calls accepted told =
-    let e : call_texts calls ≡ call_texts asked.calls ++ text ∷ rest =
-    told_texts (done ++ text ∷ rest) calls file stands told ∙ ap (λ (l : List (List ℕ)). l ++ text ∷ rest) asked.texts_are in
-    let next = accepted_behind asked.calls calls text rest asked.can accepted e in
-    subst (λ (h : List (ℕ × Call)). AsksAgain h text false after) asked.is none next.0 next.1 next.2 next.3
+pub not_accepted : (done : List (List ℕ)) (text : List ℕ) (rest : List (List ℕ)) (history after : History) → AreAsked done history → AsksAgain history text false after
+    → (file : List ℕ) → Stands (title ∷ (done ++ text ∷ rest)) file → (stored : Stored) → AreAccepted stored → Tells stored file → ⊥
+not_accepted done text rest history after asked none file stands stored accepted told =
+    let e : call_texts stored.calls ≡ call_texts asked.calls ++ text ∷ rest =
+    told_texts (done ++ text ∷ rest) stored file stands told ∙ ap (λ (l : List (List ℕ)). l ++ text ∷ rest) asked.texts_are in
+    let next = accepted_behind asked.calls stored text rest asked.can accepted e in
+    subst (λ (h : History). AsksAgain h text false after) asked.is none next.0 next.1 next.2 next.3
 
 -- what a batch that is not appended leaves of a repository
 leaves_kept : {D : Type 0} (why : StoreFault) (old : Kept D) (new : Log D) → LeavesAfter why old.log new → LeavesKept (fault_of why) old (record old { log = new })

@@ -2,7 +2,7 @@
 use Rattle.std.proofs.Common.{◌≡◌, inl, inr, ℕ, Bool, List, [], ◌∷◌, refl, ap, sym, subst, arith, ◌∙◌}
 use Rattle.std.specs.List.{AllByRecursion}
 use Rattle.camp_call.specs.declared.calls.Call.{Call}
-use Rattle.camp_kept.specs.Accepting.{AreAccepted}
+use Rattle.camp_kept.specs.Accepting.{AreAccepted, Stored}
 use Rattle.camp_kept.specs.Endings.{LeavesOut}
 use Rattle.camp_kept.specs.Faults.{IsNoStore, IsOfDisk, IsUnopened}
 use Rattle.camp_kept.specs.Keeping.{AreTexts, Tells, call_texts, title}
@@ -29,19 +29,23 @@ same_texts (c ∷ one) (d ∷ two) can could same =
 left_stands : (texts : List (List ℕ)) (file : List ℕ) (count : ℕ) → LeavesOut texts file count → Stands texts file
 left_stands texts file count leaves = record { front = leaves.front; end = leaves.end; split = leaves.split; are = leaves.are; ends = leaves.ends }
 
-just_these : (calls found : List Call) (texts : List (List ℕ)) → AreAccepted calls → AreAccepted found → AreTexts texts calls → AreTexts texts found → found ≡ calls
-just_these calls found texts accepted more (inl is) (inl are) = same_texts found calls more.can accepted.can (ap other_texts (sym are ∙ is))
-just_these calls found texts accepted more (inl is) (inr none) = absurd (no_texts title (call_texts calls) (sym is ∙ none.0))
-just_these calls found texts accepted more (inr none) (inl are) = absurd (no_texts title (call_texts found) (sym are ∙ none.0))
+same_stored : (one other : Stored) → one.limits ≡ other.limits → one.calls ≡ other.calls → one ≡ other
+same_stored one other limits calls = λ k. record { limits = limits k; calls = calls k }
+
+just_these : (calls found : Stored) (texts : List (List ℕ)) → AreAccepted calls → AreAccepted found → AreTexts texts calls → AreTexts texts found → found ≡ calls
+just_these calls found texts accepted more (inl is) (inl are) =
+    same_stored found calls (more.default ∙ sym accepted.default) (same_texts found.calls calls.calls more.can accepted.can (ap other_texts (sym are ∙ is)))
+just_these calls found texts accepted more (inl is) (inr none) = absurd (no_texts title (call_texts calls.calls) (sym is ∙ none.0))
+just_these calls found texts accepted more (inr none) (inl are) = absurd (no_texts title (call_texts found.calls) (sym are ∙ none.0))
 just_these calls found texts accepted more (inr none) (inr nor) = nor.1 ∙ sym none.1
 
 -- a file that decodes to calls is a store, or one being created
-is_some_store : (calls : List Call) (file : List ℕ) (told : Tells calls file) → AreTexts told.texts calls → IsNoStore file → ⊥
-is_some_store calls file told (inl are) none = none.untitled (call_texts calls) (subst (λ (ts : List (List ℕ)). Stands ts file) are told.stands)
+is_some_store : (calls : Stored) (file : List ℕ) (told : Tells calls file) → AreTexts told.texts calls → IsNoStore file → ⊥
+is_some_store calls file told (inl are) none = none.untitled (call_texts calls.calls) (subst (λ (ts : List (List ℕ)). Stands ts file) are told.stands)
 is_some_store calls file told (inr no_calls) none =
     absurd (omega (arith, told.short no_calls.0, none.long (subst (λ (ts : List (List ℕ)). Stands ts file) no_calls.0 told.stands)))
 
-by_disk : (calls : List Call) (file : List ℕ) → AreAccepted calls → Tells calls file → (usable : Bool) (why : KeptFault) → IsUnopened usable why file → IsOfDisk usable why
+by_disk : (calls : Stored) (file : List ℕ) → AreAccepted calls → Tells calls file → (usable : Bool) (why : KeptFault) → IsUnopened usable why file → IsOfDisk usable why
 by_disk calls file accepted told usable kept.Memory refused = tt
 by_disk calls file accepted told usable kept.NoStore refused = absurd (is_some_store calls file told told.are refused)
 by_disk calls file accepted told usable (kept.Damaged call at) refused = absurd (refused.1 calls accepted told)

@@ -1,16 +1,43 @@
 -- Calls that a store can contain.
-use Rattle.std.specs.Prelude.{ℕ, List, map}
+use Rattle.std.specs.Prelude.{◌≡◌, ℕ, List, [], map}
 use Rattle.std.specs.List.{AllByRecursion}
 use Rattle.camp_call.specs.declared.calls.Call.{Call}
-use Rattle.camp_object.specs.Histories.{IsLegal}
-use Rattle.camp_repo.specs.Objects.{repository}
+use Rattle.camp_object.specs.Books.{Booked}
+use Rattle.camp_object.specs.Histories.{IsBeginning, IsLegal}
+use Rattle.camp_repo.specs.Limits.{Bounds, default_bounds}
+use Rattle.camp_repo.specs.Objects.{repository_within}
+use Rattle.camp_repo.specs.States.{Contents, initial}
 use Rattle.camp_script.specs.Canonical.{IsScriptCall}
+use Rattle.camp_script.specs.Keeping.{calls_of}
 
 -- calls of one seat
 abbrev pub alone : List Call → List (ℕ × Call)
 alone calls = map (λ call. (0, call)) calls
 
--- calls that a script can contain, each accepted after those before it
-pub record AreAccepted (calls : List Call) : Type 0 where
-  pub can : AllByRecursion IsScriptCall calls
-  pub legal : IsLegal repository (alone calls)
+-- the history of a repository: the state that it began with, and its accepted calls
+abbrev pub History : Type 0
+History = Booked Contents Call
+
+-- what a repository has accepted: its limits, and its calls
+pub record Stored : Type 0 where
+  pub limits : Bounds
+  pub calls : List Call
+
+-- a repository without given limits, and without calls
+abbrev pub none_stored : Stored
+none_stored = record { limits = default_bounds; calls = [] }
+
+-- what the repository of a history has accepted
+abbrev pub stored_of : History → Stored
+stored_of history = record { limits = history.first.limits; calls = calls_of history.calls }
+
+-- a repository at an earlier moment: the same limits, and the first calls
+pub record IsFrontOf (part whole : Stored) : Type 0 where
+  pub limits : part.limits ≡ whole.limits
+  pub calls : IsBeginning part.calls whole.calls
+
+-- calls that a script can contain, each accepted after those before it, by a repository without given limits
+pub record AreAccepted (stored : Stored) : Type 0 where
+  pub default : stored.limits ≡ default_bounds
+  pub can : AllByRecursion IsScriptCall stored.calls
+  pub legal : IsLegal (repository_within stored.limits) (alone stored.calls)

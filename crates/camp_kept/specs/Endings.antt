@@ -1,6 +1,6 @@
 -- The end of a file after its texts.
 use Rattle.std.specs.Prelude.{◌≡◌, ◌≤◌, ℕ, ◌+◌, ◌==◌, List, [], ◌∷◌, ◌++◌, length, if◌then◌else◌}
-use Rattle.camp_call.specs.declared.calls.Call.{Call}
+use Rattle.camp_kept.specs.Accepting.{Stored}
 use Rattle.camp_kept.specs.Keeping.{AreTexts, most_unbegun}
 use Rattle.camp_kept.specs.declared.inspections.Inspection.{Inspection}
 use Rattle.camp_store.specs.Blocks.{AreBlocks, IsEnd, chain, closed_gate, first_digest}
@@ -24,9 +24,9 @@ pub record LeavesOut (texts : List (List ℕ)) (file : List ℕ) (count : ℕ) :
 -- the result of an inspection: the number of calls of the file, the digest of their texts, and the number of its
 -- bytes that do not count
 pub record IsInspection (file : List ℕ) (found : Inspection) : Type 0 where
-  pub calls : List Call
+  pub stored : Stored
   pub texts : List (List ℕ)
-  pub are : AreTexts texts calls
-  pub count_is : found.calls ≡ length calls
+  pub are : AreTexts texts stored
+  pub count_is : found.calls ≡ length stored.calls
   pub digest_is : found.digest ≡ chain first_digest texts
   pub leaves : LeavesOut texts file found.left_out

@@ -1,8 +1,8 @@
 -- Why a file is no store, or is not kept.
 use Rattle.std.specs.Prelude.{◌≡◌, ◌⊎◌, ◌<◌, ◌≤◌, ◌^◌, ℕ, zero, suc, Bool, false, List, [], ◌∷◌, ◌++◌, length, Result, MatchResult}
 use Rattle.camp_call.specs.declared.calls.Call.{Call}
-use Rattle.camp_kept.specs.Accepting.{AreAccepted, alone}
-use Rattle.camp_kept.specs.Keeping.{Tells, most_unbegun, store_texts, title}
+use Rattle.camp_kept.specs.Accepting.{AreAccepted, Stored, alone}
+use Rattle.camp_kept.specs.Keeping.{Tells, call_texts, most_unbegun, title}
 use Rattle.camp_kept.specs.declared.faults.KeptFault.{KeptFault}
 use Rattle.camp_kept.specs.declared.faults.KeptFault.TheVariants as kept
 use Rattle.camp_object.specs.Histories.{IsAccepted}
@@ -35,7 +35,7 @@ pub record IsNoBlock (texts : List (List ℕ)) (rest : List ℕ) : Type 0 where
 -- after a store of calls the file has here the block of a text that decodes to no call accepted after them
 pub record IsOfNoCall (texts : List (List ℕ)) (rest : List ℕ) : Type 0 where
   pub calls : List Call
-  pub are : texts ≡ store_texts calls
+  pub are : texts ≡ title ∷ call_texts calls
   pub text : List ℕ
   pub behind : List ℕ
   pub block : IsBlock (chain first_digest texts) text behind rest
@@ -63,7 +63,7 @@ abbrev pub IsRefusal : KeptFault → List ℕ → Type 0
 IsRefusal kept.Memory file = Unit {0}
 IsRefusal kept.NoStore file = IsNoStore file
 IsRefusal (kept.Damaged call at) file =
-    IsDamagedAt call at file × ((calls : List Call) → AreAccepted calls → ¬ (Tells calls file))
+    IsDamagedAt call at file × ((stored : Stored) → AreAccepted stored → ¬ (Tells stored file))
 IsRefusal (kept.Store fault) file = ⊥
 
 -- a file is refused because of its bytes: they are not a store, or damaged

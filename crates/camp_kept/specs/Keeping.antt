@@ -1,13 +1,11 @@
 -- The accepted calls of a repository, as a store has them.
 use Rattle.std.specs.Prelude.{◌≡◌, ◌⊎◌, ◌≤◌, ℕ, Bool, false, List, [], ◌∷◌, length, map, codes}
 use Rattle.camp_call.specs.declared.calls.Call.{Call}
-use Rattle.camp_kept.specs.Accepting.{AreAccepted}
+use Rattle.camp_kept.specs.Accepting.{AreAccepted, IsFrontOf, Stored, none_stored, stored_of}
 use Rattle.camp_kept.specs.declared.faults.KeptFault.{KeptFault}
 use Rattle.camp_kept.specs.declared.faults.KeptFault.TheVariants as fault
 use Rattle.camp_kept.specs.declared.kept.Kept.{Kept}
-use Rattle.camp_object.specs.Histories.{IsBeginning}
 use Rattle.camp_script.specs.Canonical.{call_text}
-use Rattle.camp_script.specs.Keeping.{calls_of}
 use Rattle.camp_store.specs.Blocks.{Stands}
 use Rattle.camp_store.specs.Logs.{KeepsTexts, disk_of, may_go_on}
 use Rattle.camp_store.specs.declared.faults.StoreFault.TheVariants as store
@@ -25,53 +23,53 @@ abbrev pub call_texts : List Call → List (List ℕ)
 call_texts calls = map call_text calls
 
 -- the texts of a store: its title, and those of its calls
-abbrev pub store_texts : List Call → List (List ℕ)
-store_texts calls = title ∷ call_texts calls
+abbrev pub store_texts : Stored → List (List ℕ)
+store_texts stored = title ∷ call_texts stored.calls
 
 -- these texts are a store of these calls; or there are no texts yet, and no calls
-abbrev pub AreTexts : List (List ℕ) → List Call → Type 0
-AreTexts texts calls = (texts ≡ store_texts calls) ⊎ ((texts ≡ []) × (calls ≡ []))
+abbrev pub AreTexts : List (List ℕ) → Stored → Type 0
+AreTexts texts stored = (texts ≡ store_texts stored) ⊎ ((texts ≡ []) × (stored ≡ none_stored))
 
 -- the file decodes to these calls: it has the texts of their store; or no text and few bytes, and then no calls
-pub record Tells (calls : List Call) (file : List ℕ) : Type 0 where
+pub record Tells (stored : Stored) (file : List ℕ) : Type 0 where
   pub texts : List (List ℕ)
-  pub are : AreTexts texts calls
+  pub are : AreTexts texts stored
   pub stands : Stands texts file
   pub short : texts ≡ [] → length file ≤ most_unbegun
 
 -- the file is a store of these calls: it has its title and their texts, and each is accepted after those before it
-pub record IsStoreOf (calls : List Call) (file : List ℕ) : Type 0 where
-  pub stands : Stands (store_texts calls) file
-  pub accepted : AreAccepted calls
+pub record IsStoreOf (stored : Stored) (file : List ℕ) : Type 0 where
+  pub stands : Stands (store_texts stored) file
+  pub accepted : AreAccepted stored
 
 -- two properties of a disk: what a read returns, and what a crash may leave
 module _ {D : Type 0} (seen : D → List ℕ) (may_leave : D → List ℕ → Type 0) where
   -- these calls, each accepted after those before it, are durable, after the title, and this number of them is known
   -- to be
-  pub record Holds (calls : List Call) (kept : Kept D) : Type 0 where
-    pub accepted : AreAccepted calls
-    pub keeps : KeepsTexts seen may_leave (store_texts calls) kept.log
-    pub count_is : kept.count ≡ length calls
+  pub record Holds (stored : Stored) (kept : Kept D) : Type 0 where
+    pub accepted : AreAccepted stored
+    pub keeps : KeepsTexts seen may_leave (store_texts stored) kept.log
+    pub count_is : kept.count ≡ length stored.calls
 
   -- whatever a crash leaves decodes to these calls
-  abbrev pub LeavesTold : List Call → D → Type 0
-  LeavesTold calls disk = (c : List ℕ) → may_leave disk c → Tells calls c
+  abbrev pub LeavesTold : Stored → D → Type 0
+  LeavesTold stored disk = (c : List ℕ) → may_leave disk c → Tells stored c
 
 -- the disk of a durable repository
 abbrev pub disk_in : {D : Type 0} → Kept D → D
 disk_in kept = disk_of kept.log
 
--- the accepted calls of a durable repository, persisted or not
-abbrev pub calls_in : {D : Type 0} → Kept D → List Call
-calls_in kept = calls_of kept.book
+-- what a durable repository has accepted, persisted or not
+abbrev pub stored_in : {D : Type 0} → Kept D → Stored
+stored_in kept = stored_of kept.book
 
 -- the number of bytes of the file that did not count when it was opened
 abbrev pub left_out_in : {D : Type 0} → Kept D → ℕ
 left_out_in kept = kept.left_out
 
 -- the first calls of a durable repository
-abbrev pub AreFirst : {D : Type 0} → List Call → Kept D → Type 0
-AreFirst calls kept = IsBeginning calls (calls_in kept)
+abbrev pub AreFirst : {D : Type 0} → Stored → Kept D → Type 0
+AreFirst stored kept = IsFrontOf stored (stored_in kept)
 
 -- the number of accepted calls that are known to be durable
 abbrev pub known_in : {D : Type 0} → Kept D → ℕ

@@ -1,6 +1,6 @@
 //! The durable repository.
 ghost use Rattle.std.specs.Prelude.{◌≡◌, ◌⊎◌, ◌-◌, List, Err, false, length, IfErr, IfOk, IsTrue, MatchResult, OnOk, ℕ};
-ghost use Rattle.camp_call.specs.declared.calls.Call.{Call};
+ghost use Rattle.camp_kept.specs.Accepting.{Stored};
 ghost use Rattle.camp_kept.specs.Faults.{CountsDisk, IsOfContents, IsUnkept, IsUnopened, ReportsDisk};
 ghost use Rattle.camp_kept.specs.declared.faults.KeptFault.TheVariants as fault;
 ghost use Rattle.camp_kept.specs.Keeping.{IsStoreOf, IsUntouched, LeavesTold};
@@ -25,26 +25,26 @@ pub struct Kept<D: Disk> {
 
 impl<D: Disk> Kept<D> {
     ghost use Rattle.camp_kept.specs.Endings.{LeavesOut};
-    ghost use Rattle.camp_kept.specs.Keeping.{AreFirst, AreTexts, Holds, LeavesKept, calls_in, disk_in, known_in, left_out_in, may_commit};
+    ghost use Rattle.camp_kept.specs.Keeping.{AreFirst, AreTexts, Holds, LeavesKept, stored_in, disk_in, known_in, left_out_in, may_commit};
 
     /// Opens the repository that a disk persists, and writes the title of a store if there is none. A crash
     /// may come meanwhile too.
     pub fn open(alloc: Global, mut disk: D) -> Result<Kept<D>, (KeptFault, D)>
-        ensures holds { IfOk result (λ kept. IsTrue (D.Disk.is_clean (disk_in kept)) → Holds D.Disk.seen D.Disk.may_leave (calls_in kept) kept) }
+        ensures holds { IfOk result (λ kept. IsTrue (D.Disk.is_clean (disk_in kept)) → Holds D.Disk.seen D.Disk.may_leave (stored_in kept) kept) }
         ensures told { IfOk result (λ kept. IsTrue (D.Disk.is_clean (disk_in kept)) → (texts : List (List ℕ))
-            × AreTexts texts (calls_in kept) × LeavesOut texts (D.Disk.seen disk) (left_out_in kept)) }
+            × AreTexts texts (stored_in kept) × LeavesOut texts (D.Disk.seen disk) (left_out_in kept)) }
         ensures refused { IfErr result (λ e. IsTrue (D.Disk.is_clean e.1) → IsUnopened (D.Disk.is_usable disk) e.0 (D.Disk.seen disk)) }
         // A file that is not a store, or is damaged, is unchanged.
         ensures untouched { IfErr result (λ e. IsOfContents e.0 → IsUntouched D.Disk.seen D.Disk.may_leave disk e.1) }
-        ensures known { IfOk result (λ kept. known_in kept ≡ length (calls_in kept)) }
+        ensures known { IfOk result (λ kept. known_in kept ≡ length (stored_in kept).calls) }
         ensures open_to_commits { IfOk result (λ kept. IsTrue (may_commit kept)) }
         ensures faults { IfOk result (λ kept. D.Disk.faults (disk_in kept) ≡ D.Disk.faults disk) }
         ensures faults_err { IfErr result (λ e. ReportsDisk e.0 (D.Disk.faults disk) (D.Disk.faults e.1)) }
         // A crash leaves a file with the same calls.
-        ensures crash { IfOk result (λ kept. (calls : List Call) → LeavesTold D.Disk.seen D.Disk.may_leave calls disk
-            → IsTrue (D.Disk.is_clean (disk_in kept)) → LeavesTold D.Disk.seen D.Disk.may_leave calls (disk_in kept)) }
-        ensures crash_err { IfErr result (λ e. (calls : List Call) → LeavesTold D.Disk.seen D.Disk.may_leave calls disk
-            → IsTrue (D.Disk.is_clean e.1) → LeavesTold D.Disk.seen D.Disk.may_leave calls e.1) }
+        ensures crash { IfOk result (λ kept. (stored : Stored) → LeavesTold D.Disk.seen D.Disk.may_leave stored disk
+            → IsTrue (D.Disk.is_clean (disk_in kept)) → LeavesTold D.Disk.seen D.Disk.may_leave stored (disk_in kept)) }
+        ensures crash_err { IfErr result (λ e. (stored : Stored) → LeavesTold D.Disk.seen D.Disk.may_leave stored disk
+            → IsTrue (D.Disk.is_clean e.1) → LeavesTold D.Disk.seen D.Disk.may_leave stored e.1) }
     {
         let (reading, book) = match recover(alloc, &mut disk) {
             Ok(found) => found,
@@ -75,8 +75,8 @@ impl<D: Disk> Kept<D> {
     /// Returns the number of accepted calls that are not known to be durable, also after a commit that has
     /// failed.
     pub fn waiting(&self) -> usize
-        ensures known { result ≡ length (calls_in self.now) - known_in self.now }
-        ensures held { (calls : List Call) → Holds D.Disk.seen D.Disk.may_leave calls self.now → result ≡ length (calls_in self.now) - length calls }
+        ensures known { result ≡ length (stored_in self.now).calls - known_in self.now }
+        ensures held { (stored : Stored) → Holds D.Disk.seen D.Disk.may_leave stored self.now → result ≡ length (stored_in self.now).calls - length stored.calls }
     {
         self.book.history().len().saturating_sub(self.count)
     }
@@ -85,14 +85,14 @@ impl<D: Disk> Kept<D> {
     /// file with them. After an `Err` a crash leaves those from before the call, or all of them. If the disk
     /// has failed, no later commit uses it: each returns `Failed` and changes nothing.
     pub fn commit(&mut self, alloc: Global) -> Result<(), KeptFault>
-        ensures acknowledged { (calls : List Call) → AreFirst calls self.old → Holds D.Disk.seen D.Disk.may_leave calls self.old
-            → OnOk result (Holds D.Disk.seen D.Disk.may_leave (calls_in self.old) self.new) }
-        ensures crash { (calls : List Call) → AreFirst calls self.old → Holds D.Disk.seen D.Disk.may_leave calls self.old
-            → (c : List ℕ) → D.Disk.may_leave (disk_in self.new) c → IsStoreOf calls c ⊎ IsStoreOf (calls_in self.old) c }
+        ensures acknowledged { (stored : Stored) → AreFirst stored self.old → Holds D.Disk.seen D.Disk.may_leave stored self.old
+            → OnOk result (Holds D.Disk.seen D.Disk.may_leave (stored_in self.old) self.new) }
+        ensures crash { (stored : Stored) → AreFirst stored self.old → Holds D.Disk.seen D.Disk.may_leave stored self.old
+            → (c : List ℕ) → D.Disk.may_leave (disk_in self.new) c → IsStoreOf stored c ⊎ IsStoreOf (stored_in self.old) c }
         ensures book { self.new.book ≡ self.old.book }
         ensures leaves { IfErr result (λ why. LeavesKept why self.old self.new) }
         ensures stopped { may_commit self.old ≡ false → (result ≡ Err (fault.Store store_fault.Failed)) × (self.new ≡ self.old) }
-        ensures known { MatchResult result (λ _. known_in self.new ≡ length (calls_in self.new)) (λ _. known_in self.new ≡ known_in self.old) }
+        ensures known { MatchResult result (λ _. known_in self.new ≡ length (stored_in self.new).calls) (λ _. known_in self.new ≡ known_in self.old) }
         ensures faults { CountsDisk result (D.Disk.faults (disk_in self.old)) (D.Disk.faults (disk_in self.new)) }
         ensures unkept { IfErr result IsUnkept }
         ensures clean { D.Disk.is_clean (disk_in self.new) ≡ D.Disk.is_clean (disk_in self.old) }

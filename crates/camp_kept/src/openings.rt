@@ -1,6 +1,6 @@
 //! Opening a store.
 ghost use Rattle.std.specs.Prelude.{◌≡◌, ◌≤◌, [], List, ℕ, length, IfErr, IfOk, IsTrue};
-ghost use Rattle.camp_call.specs.declared.calls.Call.{Call};
+ghost use Rattle.camp_kept.specs.Accepting.{Stored, none_stored};
 ghost use Rattle.camp_kept.specs.Endings.{LeavesOut};
 ghost use Rattle.camp_kept.specs.Faults.{CountsDisk, IsNotOfDisk, IsOfContents, IsRefusal, IsUnopened, IsUntitled, ReportsDisk};
 ghost use Rattle.camp_kept.specs.Keeping.{AreTexts, Tells, most_unbegun, store_texts};
@@ -69,13 +69,13 @@ pub(crate) fn begin<D: Disk>(
     log: Log<D>,
     texts: &[Vec<u8>],
 ) -> Result<Log<D>, (KeptFault, D)>
-    ensures keeps { IfOk result (λ new. (calls : List Call) → AreTexts (texts_of texts.now) calls
+    ensures keeps { IfOk result (λ new. (stored : Stored) → AreTexts (texts_of texts.now) stored
         → KeepsTexts D.Disk.seen D.Disk.may_leave (texts_of texts.now) log
-        → KeepsTexts D.Disk.seen D.Disk.may_leave (store_texts calls) new) }
-    ensures crash { IfErr result (λ e. (calls : List Call) → AreTexts (texts_of texts.now) calls
+        → KeepsTexts D.Disk.seen D.Disk.may_leave (store_texts stored) new) }
+    ensures crash { IfErr result (λ e. (stored : Stored) → AreTexts (texts_of texts.now) stored
         → KeepsTexts D.Disk.seen D.Disk.may_leave (texts_of texts.now) log
         → (texts_of texts.now ≡ [] → length (D.Disk.seen (disk_of log)) ≤ most_unbegun)
-        → (c : List ℕ) → D.Disk.may_leave e.1 c → Tells calls c) }
+        → (c : List ℕ) → D.Disk.may_leave e.1 c → Tells stored c) }
     ensures clean { IfOk result (λ new. D.Disk.is_clean (disk_of new) ≡ D.Disk.is_clean (disk_of log)) }
     ensures clean_err { IfErr result (λ e. D.Disk.is_clean e.1 ≡ D.Disk.is_clean (disk_of log)) }
     ensures untitled { IfErr result (λ e. KeepsTexts D.Disk.seen D.Disk.may_leave (texts_of texts.now) log → IsOpen D.Disk.is_usable log → IsUntitled e.0) }
@@ -92,9 +92,9 @@ pub(crate) fn begin<D: Disk>(
 
 fn put_title<D: Disk>(alloc: Global, mut log: Log<D>) -> Result<Log<D>, (KeptFault, D)>
     ensures keeps { IfOk result (λ new. KeepsTexts D.Disk.seen D.Disk.may_leave [] log
-        → KeepsTexts D.Disk.seen D.Disk.may_leave (store_texts []) new) }
+        → KeepsTexts D.Disk.seen D.Disk.may_leave (store_texts none_stored) new) }
     ensures crash { IfErr result (λ e. KeepsTexts D.Disk.seen D.Disk.may_leave [] log
-        → length (D.Disk.seen (disk_of log)) ≤ most_unbegun → (c : List ℕ) → D.Disk.may_leave e.1 c → Tells [] c) }
+        → length (D.Disk.seen (disk_of log)) ≤ most_unbegun → (c : List ℕ) → D.Disk.may_leave e.1 c → Tells none_stored c) }
     ensures clean { IfOk result (λ new. D.Disk.is_clean (disk_of new) ≡ D.Disk.is_clean (disk_of log)) }
     ensures clean_err { IfErr result (λ e. D.Disk.is_clean e.1 ≡ D.Disk.is_clean (disk_of log)) }
     ensures untitled { IfErr result (λ e. KeepsTexts D.Disk.seen D.Disk.may_leave [] log → IsOpen D.Disk.is_usable log → IsUntitled e.0) }
@@ -113,7 +113,7 @@ fn put_title<D: Disk>(alloc: Global, mut log: Log<D>) -> Result<Log<D>, (KeptFau
 }
 
 fn title_texts(alloc: Global) -> Result<Vec<Vec<u8>>, KeptFault>
-    ensures title { IfOk result (λ texts. texts_of texts.items ≡ store_texts []) }
+    ensures title { IfOk result (λ texts. texts_of texts.items ≡ store_texts none_stored) }
     ensures memory { IfErr result (λ why. why ≡ fault.Memory) }
 {
     let mut texts = Vec::new(alloc);

@@ -2,7 +2,7 @@
 ghost use Rattle.std.specs.Prelude.{◌≡◌, ◌↔◌, [], ◌∷◌, List, ℕ, IfErr, IfOk, IsTrue};
 ghost use Rattle.camp_kept.specs.Faults.{IsNotOfDisk, IsRefusal};
 ghost use Rattle.camp_kept.specs.Keeping.{title};
-ghost use Rattle.camp_kept.specs.Replaying.{AreAsked, AreRecalled, AsksAgain, AsksCall};
+ghost use Rattle.camp_kept.specs.Replaying.{AreAsked, AreRecalled, AsksAgain, AsksCall, new_with};
 ghost use Rattle.camp_store.specs.Blocks.{Stands};
 ghost use Rattle.camp_store.specs.Logs.{texts_of};
 
@@ -15,6 +15,7 @@ use std::alloc::{AllocError, Global};
 const BEFORE_TEXT: usize = 27;
 
 /// Replays the book of the calls with these texts, which come after the title.
+#[tactic(auto, using(crate::proofs::Recalling::none_recalled))]
 pub(crate) fn replay(alloc: Global, texts: &[Vec<u8>]) -> Result<Book<State>, KeptFault>
     ensures recalled { IfOk result (AreRecalled (texts_of texts.now)) }
     ensures refused { IfErr result (λ why. (file : List ℕ) → Stands (texts_of texts.now) file → IsRefusal why file) }
@@ -48,7 +49,7 @@ fn ask_all(alloc: Global, texts: &[Vec<u8>]) -> Result<Book<State>, KeptFault>
 
 // Executes the calls with these texts on a new book.
 fn ask_each(alloc: Global, book: &mut Book<State>, texts: &[Vec<u8>]) -> Result<(), KeptFault>
-    requires { book.old ≡ [] }
+    requires { book.old ≡ new_with [] }
     ensures texts { IfOk result (λ _. AreAsked (texts_of texts.now) book.new) }
     ensures refused { IfErr result (λ why. (file : List ℕ) → Stands (title ∷ texts_of texts.now) file → IsRefusal why file) }
     ensures not_disk { IfErr result IsNotOfDisk }
@@ -76,6 +77,7 @@ fn ask_again(alloc: Global, book: &mut Book<State>, text: &[u8]) -> Result<bool,
 }
 
 // Executes a call; true if it was accepted.
+#[tactic(auto, using(crate::proofs::Recalling::asks_call))]
 fn accept(book: &mut Book<State>, call: &Call) -> Result<bool, AllocError>
     ensures { IfOk result (λ yes. AsksCall book.old call.now yes book.new) }
 {

@@ -2,23 +2,12 @@
 use Rattle.std.proofs.Common.{◌≡◌, ◌⊎◌, inl, inr, ℕ, Bool, true, false, List, [], ◌∷◌, ◌++◌, Option, None, Some, OnSome, refl, sym, ◌∙◌, ap, subst, append_assoc, append-nil, flat_map}
 use Rattle.std.proofs.KnownBytes.{Appends-kept, Appends-trans, Consumes-trans}
 use Rattle.std.proofs.lemmas.Grind.{flat_map-append}
-use Rattle.std.proofs.lemmas.List.{map-append}
 use Rattle.std.specs.Io.KnownBytes.{Appends, Consumes, IsAtEnd, Keeps, append_known}
-use Rattle.camp_call.specs.declared.calls.Call.{Call}
 use Rattle.camp_kept_talk.specs.Promises.{AnswersLast, Told}
-use Rattle.camp_object.specs.Histories.{IsBeginning}
-use Rattle.camp_script.specs.Keeping.{calls_of}
 use Rattle.camp_talk.specs.Answers.{Answers, Standing}
-use Rattle.camp_talk.specs.Entries.{Entries}
 use Rattle.camp_talk.specs.Cutting.{IsCommand, IsLeft}
 use Rattle.camp_talk.specs.Talks.{AppendsSome, Exchange, Follow, ReadsCommand}
 use Rattle.camp_talk.specs.Talks.{Holds as HoldsSo}
-
-pub calls_front : (before after : Entries) → IsBeginning before after → IsBeginning (calls_of before) (calls_of after)
-calls_front before after front = record {
-  rest = calls_of front.rest;
-  makes = sym (map-append (λ (e : ℕ × Call). e.1) before front.rest) ∙ ap (λ (l : Entries). calls_of l) front.makes;
-}
 
 follow-append : (first middle last : Standing) (one two : List Exchange) → Follow first one middle → Follow middle two last → Follow first (one ++ two) last
 follow-append first middle last [] two follow more = subst (λ (s : Standing). Follow s two last) (sym follow) more

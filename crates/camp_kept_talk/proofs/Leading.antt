@@ -2,18 +2,16 @@
 use Rattle.std.proofs.Common.{◌≡◌, ◌⊎◌, inl, inr, ℕ, Bool, true, false, List, [], IsErrAnd, Option, Some, OnSome, Result, Ok, Err, MatchResult, refl, sym, ◌∙◌, ap, subst}
 use Rattle.std.proofs.KnownBytes.{Consumes-nil}
 use Rattle.std.specs.Io.KnownBytes.{Appends, Consumes, IsAtEnd, Keeps, append_known}
-use Rattle.camp_call.specs.declared.calls.Call.{Call}
-use Rattle.camp_kept.specs.Keeping.{Holds, IsStoreOf, calls_in, store_texts}
+use Rattle.camp_kept.specs.Accepting.{IsFrontOf, Stored, stored_of}
+use Rattle.camp_kept.specs.Keeping.{Holds, IsStoreOf, stored_in, store_texts}
 use Rattle.camp_kept.specs.declared.kept.Kept.{Kept}
 use Rattle.camp_kept.proofs.Committing.{holds_leave}
 use Rattle.camp_kept_talk.specs.Going.{AllAreKept, Comes, ComesSettled, Goes, IsUnwritten, MayBeKept, Settles, Stays, StopsSo, StopsUnkept, StopsUnwritten, TalksKept, as_told}
 use Rattle.camp_kept_talk.specs.Promises.{Promises}
 use Rattle.camp_kept_talk.specs.declared.faults.StoredFault.{StoredFault}
 use Rattle.camp_kept_talk.specs.declared.faults.StoredFault.TheVariants as fault
-use Rattle.camp_kept_talk.proofs.Answering.{IsLast, appends_behind, appends_known, appends_some, calls_front, holds_kept, holds_trans, keeps_behind, last_read, told_more, told_of, told_trans, told_unseen}
-use Rattle.camp_object.specs.Histories.{IsBeginning}
-use Rattle.camp_object.proofs.Beginnings.{begins_through, begins_self}
-use Rattle.camp_script.specs.Keeping.{calls_of}
+use Rattle.camp_kept_talk.proofs.Answering.{IsLast, appends_behind, appends_known, appends_some, holds_kept, holds_trans, keeps_behind, last_read, told_more, told_of, told_trans, told_unseen}
+use Rattle.camp_kept.proofs.Parts.{part_grows, part_self, part_through}
 use Rattle.camp_store.specs.Logs.{KeepsTexts}
 use Rattle.camp_talk.specs.Accounts.{Account}
 use Rattle.camp_talk.specs.Answers.{Answers, Standing}
@@ -36,16 +34,16 @@ reads_none b = record { some = []; reads = Consumes-nil b; is = tt }
 
 module _ {D : Type 0} (seen : D → List ℕ) (may_leave : D → List ℕ → Type 0) (a old now : Option (List ℕ)) (first : Standing) (kept : Kept D) where
   -- at first
-  pub begins : (lines : ℕ) (cause : Account) → Holds seen may_leave (calls_in kept) kept → Goes seen may_leave a a now now [] (at kept.book lines cause) (at kept.book lines cause) kept
+  pub begins : (lines : ℕ) (cause : Account) → Holds seen may_leave (stored_in kept) kept → Goes seen may_leave a a now now [] (at kept.book lines cause) (at kept.book lines cause) kept
   begins lines cause holds = record {
     middle = at kept.book lines cause;
     left = a;
     told = begins_so a now (at kept.book lines cause);
     behind = begins_so a (Some []) (at kept.book lines cause);
-    calls = calls_in kept;
+    calls = stored_in kept;
     holds = holds;
-    since = begins_self (calls_in kept);
-    within = begins_self (calls_in kept);
+    since = part_self (stored_in kept);
+    within = part_self (stored_in kept);
   }
 
   module _ (b : Option (List ℕ)) (held : List ℕ) (lines : ℕ) (cause : Account) (goes : Goes seen may_leave a b old now held first (at kept.book lines cause) kept) where
@@ -74,10 +72,10 @@ module _ {D : Type 0} (seen : D → List ℕ) (may_leave : D → List ℕ → Ty
       told = subst (λ (h : Entries). HoldsSo a b old after first (at h lines cause)) (sym same)
           (holds_trans a goes.left b old now after held first goes.middle (at kept.book lines cause) goes.told goes.behind grows);
       behind = subst (λ (l : List ℕ). HoldsSo b b (Some []) (Some l) (at new.book lines cause) (at new.book lines cause)) (sym none) (begins_so b (Some []) (at new.book lines cause));
-      calls = calls_in kept;
+      calls = stored_in kept;
       holds = keeps goes.calls goes.within goes.holds;
-      since = subst (λ (h : Entries). IsBeginning (calls_of h) (calls_in kept)) (sym same) (begins_self (calls_in kept));
-      within = subst (λ (h : Entries). IsBeginning (calls_in kept) (calls_of h)) (sym same) (begins_self (calls_in kept));
+      since = subst (λ (h : Entries). IsFrontOf (stored_of h) (stored_in kept)) (sym same) (part_self (stored_in kept));
+      within = subst (λ (h : Entries). IsFrontOf (stored_in kept) (stored_of h)) (sym same) (part_self (stored_in kept));
     }
 
     module _ (c : Option (List ℕ)) (more : List ℕ) (new : Kept D) (same_log : new.log ≡ kept.log) (same_count : new.count ≡ kept.count) where
@@ -99,7 +97,7 @@ module _ {D : Type 0} (seen : D → List ℕ) (may_leave : D → List ℕ → Ty
         calls = goes.calls;
         holds = holds_still;
         since = goes.since;
-        within = begins_through goes.within (calls_front kept.book new.book (answers_grow (at kept.book lines cause) _ _ (at new.book after learnt) turns.answers));
+        within = part_through goes.within (part_grows kept.book new.book (answers_grow (at kept.book lines cause) _ _ (at new.book after learnt) turns.answers));
       }
 
       -- one was answered, perhaps in part
@@ -116,7 +114,7 @@ module _ {D : Type 0} (seen : D → List ℕ) (may_leave : D → List ℕ → Ty
         calls = goes.calls;
         holds = holds_still;
         since = goes.since;
-        within = begins_through goes.within (calls_front kept.book next.history (answers_grow (at kept.book lines cause) said.command said.answer next answers));
+        within = part_through goes.within (part_grows kept.book next.history (answers_grow (at kept.book lines cause) said.command said.answer next answers));
         is = is;
       }
 
@@ -189,28 +187,28 @@ module _ {D : Type 0} (seen : D → List ℕ) (may_leave : D → List ℕ → Ty
       })
 
   module _ (come : Option (List ℕ)) (held : List ℕ) (stays : Stays seen may_leave a come old now held first kept) where
-    within_book : IsBeginning stays.calls (calls_in kept)
-    within_book = subst (λ (h : Entries). IsBeginning stays.calls (calls_of h)) stays.is stays.within
+    within_book : IsFrontOf stays.calls (stored_in kept)
+    within_book = subst (λ (h : Entries). IsFrontOf stays.calls (stored_of h)) stays.is stays.within
 
     -- all accepted calls are durable
-    pub holds_all : (new : Kept D) → new.book ≡ kept.book → AllAreKept seen may_leave kept new → Holds seen may_leave (calls_in new) new
+    pub holds_all : (new : Kept D) → new.book ≡ kept.book → AllAreKept seen may_leave kept new → Holds seen may_leave (stored_in new) new
     holds_all new same keeps =
-        subst (λ (h : Entries). Holds seen may_leave (calls_of h) new) (sym same) (keeps stays.calls within_book stays.holds)
+        subst (λ (h : Entries). Holds seen may_leave (stored_of h) new) (sym same) (keeps stays.calls within_book stays.holds)
 
     module _ (new : Kept D) (after : Option (List ℕ)) (same : new.book ≡ kept.book) where
       -- all calls are persisted, and a prefix of the buffered answers is written
       promised_all : AllAreKept seen may_leave kept new → AppendsSome now after held → Promises seen may_leave a old after first new
       promised_all keeps grows =
-          let all : Holds seen may_leave (calls_in kept) new = keeps stays.calls within_book stays.holds in
+          let all : Holds seen may_leave (stored_in kept) new = keeps stays.calls within_book stays.holds in
           record {
             left = stays.right;
             last = stays.last;
             told = told_trans a stays.left stays.right old now after held first stays.middle stays.last stays.told stays.behind grows;
             crash = λ c left. (
-              calls_in kept,
-              holds_leave seen may_leave (calls_in kept) new all c left,
-              subst (λ (h : Entries). IsBeginning (calls_of h) (calls_in kept)) (sym stays.is) (begins_self (calls_in kept)),
-              subst (λ (h : Entries). IsBeginning (calls_in kept) (calls_of h)) (sym same) (begins_self (calls_in kept)),
+              stored_in kept,
+              holds_leave seen may_leave (stored_in kept) new all c left,
+              subst (λ (h : Entries). IsFrontOf (stored_of h) (stored_in kept)) (sym stays.is) (part_self (stored_in kept)),
+              subst (λ (h : Entries). IsFrontOf (stored_in kept) (stored_of h)) (sym same) (part_self (stored_in kept)),
             );
           }
 
@@ -223,19 +221,19 @@ module _ {D : Type 0} (seen : D → List ℕ) (may_leave : D → List ℕ → Ty
         crash = λ c left. which c (may stays.calls within_book stays.holds c left);
       }
         where
-          which : (c : List ℕ) → IsStoreOf stays.calls c ⊎ IsStoreOf (calls_in kept) c
-              → (calls : List Call) × IsStoreOf calls c × IsBeginning (calls_of stays.middle.history) calls × IsBeginning calls (calls_in new)
+          which : (c : List ℕ) → IsStoreOf stays.calls c ⊎ IsStoreOf (stored_in kept) c
+              → (calls : Stored) × IsStoreOf calls c × IsFrontOf (stored_of stays.middle.history) calls × IsFrontOf calls (stored_in new)
           which c (inl some) = (
             stays.calls,
             some,
             stays.since,
-            subst (λ (h : Entries). IsBeginning stays.calls (calls_of h)) (sym same) within_book,
+            subst (λ (h : Entries). IsFrontOf stays.calls (stored_of h)) (sym same) within_book,
           )
           which c (inr all) = (
-            calls_in kept,
+            stored_in kept,
             all,
-            begins_through stays.since within_book,
-            subst (λ (h : Entries). IsBeginning (calls_in kept) (calls_of h)) (sym same) (begins_self (calls_in kept)),
+            part_through stays.since within_book,
+            subst (λ (h : Entries). IsFrontOf (stored_in kept) (stored_of h)) (sym same) (part_self (stored_in kept)),
           )
 
       last_is : stays.last.history ≡ new.book
@@ -265,13 +263,13 @@ module _ {D : Type 0} (seen : D → List ℕ) (may_leave : D → List ℕ → Ty
         is = last_is;
         calls = stays.calls;
         since = stays.since;
-        within = subst (λ (h : Entries). IsBeginning stays.calls (calls_of h)) (sym same) within_book;
-        crash = λ c left. subst (λ (h : Entries). IsStoreOf stays.calls c ⊎ IsStoreOf (calls_of h) c) (sym same) (may stays.calls within_book stays.holds c left);
+        within = subst (λ (h : Entries). IsFrontOf stays.calls (stored_of h)) (sym same) within_book;
+        crash = λ c left. subst (λ (h : Entries). IsStoreOf stays.calls c ⊎ IsStoreOf (stored_of h) c) (sym same) (may stays.calls within_book stays.holds c left);
       }
 
       -- if everything is flushed
       pub promised : (done : Unit {0}) (rest : List ℕ) → Settles seen may_leave kept held now (Ok done) new rest after
-          → Promises seen may_leave a old after first new × Holds seen may_leave (calls_in new) new
+          → Promises seen may_leave a old after first new × Holds seen may_leave (stored_in new) new
       promised done rest settles = (promised_all settles.0 (appends_some now after held settles.2), holds_all new same settles.0)
 
       -- if flushing fails

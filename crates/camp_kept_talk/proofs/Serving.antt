@@ -2,16 +2,16 @@
 use Rattle.std.proofs.Common.{◌≡◌, ◌⊎◌, ℕ, Bool, true, false, List, [], ◌∷◌, Option, Some, Result, Ok, Err, map, sym, ◌∙◌, ap, subst}
 use Rattle.std.proofs.KnownBytes.{Keeps-refl}
 use Rattle.std.specs.Io.KnownBytes.{Appends}
-use Rattle.camp_kept.specs.Keeping.{AreFirst, Holds, IsStoreOf, calls_in, store_texts}
+use Rattle.camp_kept.specs.Accepting.{stored_of}
+use Rattle.camp_kept.specs.Keeping.{AreFirst, Holds, IsStoreOf, stored_in, store_texts}
 use Rattle.camp_kept.specs.declared.faults.KeptFault.{KeptFault}
 use Rattle.camp_kept.specs.declared.kept.Kept.{Kept}
 use Rattle.camp_kept_talk.specs.Going.{AllAreKept, MayBeKept, Settles}
+use Rattle.camp_kept.proofs.Parts.{part_grows}
 use Rattle.camp_kept_talk.specs.Laws.{KeptRequestsAreServedInTurn}
 use Rattle.camp_kept_talk.specs.Serving.{KeptCounter, MayKeep, ServesHeld, ServesKept, ServesKeptAt, ServesUnkept, frame_told}
 use Rattle.camp_kept_talk.specs.declared.faults.StoredFault.{StoredFault}
 use Rattle.camp_kept_talk.specs.declared.faults.StoredFault.TheVariants as fault
-use Rattle.camp_kept_talk.proofs.Answering.{calls_front}
-use Rattle.camp_script.specs.Keeping.{calls_of}
 use Rattle.camp_store.specs.Logs.{KeepsTexts}
 use Rattle.camp_talk.specs.Dialogues.{Leads}
 use Rattle.camp_talk.specs.Entries.{Entries}
@@ -23,12 +23,12 @@ use Rattle.camp_talk.proofs.Growing.{serves_grow}
 use Rattle.camp_talk.proofs.Served.{served_in_turn as served_so}
 
 module _ {D : Type 0} (seen : D → List ℕ) (may_leave : D → List ℕ → Type 0) (a b before : Option (List ℕ)) (old asked : Kept D) (held : List ℕ)
-    (same_log : asked.log ≡ old.log) (same_count : asked.count ≡ old.count) (holds : Holds seen may_leave (calls_in old) old) where
+    (same_log : asked.log ≡ old.log) (same_count : asked.count ≡ old.count) (holds : Holds seen may_leave (stored_in old) old) where
   -- asking the book does not change the disk
-  holds_asked : Holds seen may_leave (calls_in old) asked
+  holds_asked : Holds seen may_leave (stored_in old) asked
   holds_asked = record {
     accepted = holds.accepted;
-    keeps = subst (λ log. KeepsTexts seen may_leave (store_texts (calls_in old)) log) (sym same_log) holds.keeps;
+    keeps = subst (λ log. KeepsTexts seen may_leave (store_texts (stored_in old)) log) (sym same_log) holds.keeps;
     count_is = same_count ∙ holds.count_is;
   }
 
@@ -36,17 +36,17 @@ module _ {D : Type 0} (seen : D → List ℕ) (may_leave : D → List ℕ → Ty
   pub serves_no_more : Serves a b (Some []) (Some held) old.book (Ok false) asked.book → ServesKept seen may_leave a b before before old (Ok false) asked
   serves_no_more serves = (
     record { reads = serves.reads; ends = serves.ends; keeps = Keeps-refl before; same = serves.same },
-    subst (λ (h : Entries). Holds seen may_leave (calls_of h) asked) (sym serves.same) holds_asked,
+    subst (λ (h : Entries). Holds seen may_leave (stored_of h) asked) (sym serves.same) holds_asked,
   )
 
   module _ (came : Result Bool FrameFault) (serves : Serves a b (Some []) (Some held) old.book came asked.book) where
-    first_asked : AreFirst (calls_in old) asked
-    first_asked = calls_front old.book asked.book (serves_grow a b (Some []) (Some held) old.book came asked.book serves)
+    first_asked : AreFirst (stored_in old) asked
+    first_asked = part_grows old.book asked.book (serves_grow a b (Some []) (Some held) old.book came asked.book serves)
 
     module _ (new : Kept D) (same : new.book ≡ asked.book) where
-      pub all_kept : AllAreKept seen may_leave asked new → Holds seen may_leave (calls_in new) new
+      pub all_kept : AllAreKept seen may_leave asked new → Holds seen may_leave (stored_in new) new
       all_kept keeps =
-          subst (λ (h : Entries). Holds seen may_leave (calls_of h) new) (sym same) (keeps (calls_in old) first_asked holds_asked)
+          subst (λ (h : Entries). Holds seen may_leave (stored_of h) new) (sym same) (keeps (stored_in old) first_asked holds_asked)
 
       held_so : ServesHeld a b old.book came new.book
       held_so = record { frame = held; serves = subst (λ (h : Entries). Serves a b (Some []) (Some held) old.book came h) (sym same) serves }
@@ -56,8 +56,8 @@ module _ {D : Type 0} (seen : D → List ℕ) (may_leave : D → List ℕ → Ty
 
       pub may_keep : MayBeKept seen may_leave asked new → MayKeep seen may_leave old new
       may_keep may c leaves =
-          subst (λ (h : Entries). IsStoreOf (calls_in old) c ⊎ IsStoreOf (calls_of h) c) (sym same)
-          (may (calls_in old) first_asked holds_asked c leaves)
+          subst (λ (h : Entries). IsStoreOf (stored_in old) c ⊎ IsStoreOf (stored_of h) c) (sym same)
+          (may (stored_in old) first_asked holds_asked c leaves)
 
   module _ (serves : Serves a b (Some []) (Some held) old.book (Ok true) asked.book) (new : Kept D) (same : new.book ≡ asked.book) (now : List ℕ) (after : Option (List ℕ)) where
     -- an answer is written after the calls
@@ -107,10 +107,10 @@ counter place = record { left = place.left; held = place.held; history = place.k
 
 -- steps over a durable repository are steps, and persist all calls
 turns_too : {D : Type 0} (seen : D → List ℕ) (may_leave : D → List ℕ → Type 0) (first last : KeptCounter D) (over : List (KeptCounter D))
-    → Holds seen may_leave (calls_in first.kept) first.kept → Leads (ServesKeptAt seen may_leave) first over last
-    → Leads ServesAt (counter first) (map counter over) (counter last) × Holds seen may_leave (calls_in last.kept) last.kept
+    → Holds seen may_leave (stored_in first.kept) first.kept → Leads (ServesKeptAt seen may_leave) first over last
+    → Leads ServesAt (counter first) (map counter over) (counter last) × Holds seen may_leave (stored_in last.kept) last.kept
 turns_too {D = D} seen may_leave first last [] holds leads =
-    (ap counter leads, subst (λ (place : KeptCounter D). Holds seen may_leave (calls_in place.kept) place.kept) leads holds)
+    (ap counter leads, subst (λ (place : KeptCounter D). Holds seen may_leave (stored_in place.kept) place.kept) leads holds)
 turns_too seen may_leave first last (next ∷ over) holds leads =
     let one = leads.0 holds in
     let others = turns_too seen may_leave next last over one.1 leads.1 in ((one.0, others.0), others.1)

@@ -1,14 +1,12 @@
 -- How a conversation continues whose answers are buffered.
 use Rattle.std.specs.Prelude.{◌≡◌, ◌⊎◌, ℕ, Bool, true, false, List, [], Option, None, Some, Result, Ok, Err}
 use Rattle.std.specs.Io.KnownBytes.{Appends, Keeps}
-use Rattle.camp_call.specs.declared.calls.Call.{Call}
-use Rattle.camp_kept.specs.Keeping.{AreFirst, Holds, IsStoreOf, calls_in, disk_in}
+use Rattle.camp_kept.specs.Accepting.{IsFrontOf, Stored, stored_of}
+use Rattle.camp_kept.specs.Keeping.{AreFirst, Holds, IsStoreOf, stored_in, disk_in}
 use Rattle.camp_kept.specs.declared.kept.Kept.{Kept}
 use Rattle.camp_kept_talk.specs.Promises.{Promises, Told}
 use Rattle.camp_kept_talk.specs.declared.faults.StoredFault.{StoredFault}
 use Rattle.camp_kept_talk.specs.declared.faults.StoredFault.TheVariants as fault
-use Rattle.camp_object.specs.Histories.{IsBeginning}
-use Rattle.camp_script.specs.Keeping.{calls_of}
 use Rattle.camp_talk.specs.Answers.{Standing}
 use Rattle.camp_talk.specs.Entries.{Entries}
 use Rattle.camp_talk.specs.Talks.{AppendsSome, EndsSo, ReadsWithin}
@@ -54,12 +52,12 @@ pub record EndsTold (remaining rest old now : Option (List ℕ)) (first : Standi
 module _ {D : Type 0} (seen : D → List ℕ) (may_leave : D → List ℕ → Type 0) where
   -- all accepted calls are durable, if some prefix of them was
   abbrev pub AllAreKept : Kept D → Kept D → Type 0
-  AllAreKept old new = (calls : List Call) → AreFirst calls old → Holds seen may_leave calls old → Holds seen may_leave (calls_in old) new
+  AllAreKept old new = (calls : Stored) → AreFirst calls old → Holds seen may_leave calls old → Holds seen may_leave (stored_in old) new
 
   -- a crash leaves a store of those that were durable, or of all
   abbrev pub MayBeKept : Kept D → Kept D → Type 0
   MayBeKept old new =
-      (calls : List Call) → AreFirst calls old → Holds seen may_leave calls old → (c : List ℕ) → may_leave (disk_in new) c → IsStoreOf calls c ⊎ IsStoreOf (calls_in old) c
+      (calls : Stored) → AreFirst calls old → Holds seen may_leave calls old → (c : List ℕ) → may_leave (disk_in new) c → IsStoreOf calls c ⊎ IsStoreOf (stored_in old) c
 
   -- buffered answers are flushed to a writer. Ok: all calls are persisted, and then exactly the answers were written.
   -- Kept: nothing was written. Write: all calls are persisted, and a prefix of the answers was written.
@@ -78,10 +76,10 @@ module _ {D : Type 0} (seen : D → List ℕ) (may_leave : D → List ℕ → Ty
       pub left : Option (List ℕ)
       pub told : HoldsSo remaining left old now first middle
       pub behind : HoldsSo left rest (Some []) (Some held) middle last
-      pub calls : List Call
+      pub calls : Stored
       pub holds : Holds seen may_leave calls kept
-      pub since : IsBeginning (calls_of middle.history) calls
-      pub within : IsBeginning calls (calls_of last.history)
+      pub since : IsFrontOf (stored_of middle.history) calls
+      pub within : IsFrontOf calls (stored_of last.history)
 
   -- a step has failed: the answers to the commands after the place are buffered, perhaps in part; and no more was
   -- read after them than a command has
@@ -93,10 +91,10 @@ module _ {D : Type 0} (seen : D → List ℕ) (may_leave : D → List ℕ → Ty
     pub told : HoldsSo remaining left old now first middle
     pub behind : Told left right (Some []) (Some held) middle last
     pub reads : ReadsWithin right rest
-    pub calls : List Call
+    pub calls : Stored
     pub holds : Holds seen may_leave calls kept
-    pub since : IsBeginning (calls_of middle.history) calls
-    pub within : IsBeginning calls (calls_of last.history)
+    pub since : IsFrontOf (stored_of middle.history) calls
+    pub within : IsFrontOf calls (stored_of last.history)
     pub is : last.history ≡ kept.book
 
   -- the calls could not be persisted: commands were answered up to a place, and all of their answers were written;
@@ -112,10 +110,10 @@ module _ {D : Type 0} (seen : D → List ℕ) (may_leave : D → List ℕ → Ty
     pub behind : Told left right None None middle last
     pub reads : ReadsWithin right rest
     pub is : last.history ≡ kept.book
-    pub calls : List Call
-    pub since : IsBeginning (calls_of middle.history) calls
-    pub within : IsBeginning calls (calls_in kept)
-    pub crash : (c : List ℕ) → may_leave (disk_in kept) c → IsStoreOf calls c ⊎ IsStoreOf (calls_in kept) c
+    pub calls : Stored
+    pub since : IsFrontOf (stored_of middle.history) calls
+    pub within : IsFrontOf calls (stored_in kept)
+    pub crash : (c : List ℕ) → may_leave (disk_in kept) c → IsStoreOf calls c ⊎ IsStoreOf (stored_in kept) c
 
   -- the writer failed: commands were answered, and a prefix of their answers was written; no more was read than a
   -- further one has. The accepted calls are those of all these commands, and they are durable.
@@ -125,7 +123,7 @@ module _ {D : Type 0} (seen : D → List ℕ) (may_leave : D → List ℕ → Ty
     pub told : Told remaining right old now first last
     pub reads : ReadsWithin right rest
     pub is : last.history ≡ kept.book
-    pub holds : Holds seen may_leave (calls_in kept) kept
+    pub holds : Holds seen may_leave (stored_in kept) kept
 
   -- a conversation has stopped at a fault: the promise holds. Kept: the calls could not be persisted. Write: the
   -- writer failed. Talk: a step had this fault, all accepted calls are durable, and all answers were written before
@@ -135,7 +133,7 @@ module _ {D : Type 0} (seen : D → List ℕ) (may_leave : D → List ℕ → Ty
       Promises seen may_leave remaining old now first kept × StopsUnkept remaining rest old now first kept
   StopsSo remaining rest old now first (fault.Talk why) kept =
       Promises seen may_leave remaining old now first kept × EndsTold remaining rest old now first why kept.book
-      × Holds seen may_leave (calls_in kept) kept
+      × Holds seen may_leave (stored_in kept) kept
   StopsSo remaining rest old now first (fault.Frame why) kept = ⊥
   StopsSo remaining rest old now first (fault.Write error) kept =
       Promises seen may_leave remaining old now first kept × StopsUnwritten remaining rest old now first kept
@@ -145,7 +143,7 @@ module _ {D : Type 0} (seen : D → List ℕ) (may_leave : D → List ℕ → Ty
   Comes remaining rest old now held first last (Ok true) kept = Goes remaining rest old now held first last kept
   Comes remaining rest old now held first last (Ok false) kept =
       Promises seen may_leave remaining old now first kept × EndsSo remaining rest old now first (Ok false) last.history
-      × Holds seen may_leave (calls_in kept) kept
+      × Holds seen may_leave (stored_in kept) kept
   Comes remaining rest old now held first last (Err why) kept = StopsSo remaining rest old now first why kept
 
   -- the result of flushing
@@ -158,5 +156,5 @@ module _ {D : Type 0} (seen : D → List ℕ) (may_leave : D → List ℕ → Ty
   abbrev pub TalksKept : (remaining rest old now : Option (List ℕ)) → Standing → Result (Unit {0}) StoredFault → Kept D → Type 0
   TalksKept remaining rest old now first (Ok done) kept =
       Promises seen may_leave remaining old now first kept × EndsSo remaining rest old now first (Ok false) kept.book
-      × Holds seen may_leave (calls_in kept) kept
+      × Holds seen may_leave (stored_in kept) kept
   TalksKept remaining rest old now first (Err why) kept = StopsSo remaining rest old now first why kept

@@ -2,11 +2,9 @@
 use Rattle.std.specs.Prelude.{◌≡◌, ◌⊎◌, ℕ, List, [], ◌∷◌, ◌++◌, Option, OnSome}
 use Rattle.std.specs.List.{flat_map}
 use Rattle.std.specs.Io.KnownBytes.{Consumes, IsAtEnd}
-use Rattle.camp_call.specs.declared.calls.Call.{Call}
-use Rattle.camp_kept.specs.Keeping.{IsStoreOf, calls_in, disk_in}
+use Rattle.camp_kept.specs.Accepting.{IsFrontOf, Stored, stored_of}
+use Rattle.camp_kept.specs.Keeping.{IsStoreOf, stored_in, disk_in}
 use Rattle.camp_kept.specs.declared.kept.Kept.{Kept}
-use Rattle.camp_object.specs.Histories.{IsBeginning}
-use Rattle.camp_script.specs.Keeping.{calls_of}
 use Rattle.camp_talk.specs.Answers.{Answers, Standing}
 use Rattle.camp_talk.specs.Cutting.{IsCommand, IsLeft}
 use Rattle.camp_talk.specs.Talks.{AppendsSome, Exchange, Follow}
@@ -38,4 +36,4 @@ module _ {D : Type 0} (seen : D → List ℕ) (may_leave : D → List ℕ → Ty
     pub last : Standing
     pub told : Told remaining left old new first last
     pub crash : (c : List ℕ) → may_leave (disk_in kept) c
-        → (calls : List Call) × IsStoreOf calls c × IsBeginning (calls_of last.history) calls × IsBeginning calls (calls_in kept)
+        → (calls : Stored) × IsStoreOf calls c × IsFrontOf (stored_of last.history) calls × IsFrontOf calls (stored_in kept)

@@ -1,6 +1,6 @@
 //! Requests in frames over a durable repository.
 ghost use Rattle.std.specs.Prelude.{◌≡◌, ◌-◌, ◌^◌, true, IfOk};
-ghost use Rattle.camp_kept.specs.Keeping.{Holds, calls_in, disk_in};
+ghost use Rattle.camp_kept.specs.Keeping.{Holds, stored_in, disk_in};
 ghost use Rattle.camp_kept_talk.specs.Serving.{ServesKept, frame_told};
 ghost use Rattle.camp_talk.specs.Talks.{HasRisen};
 
@@ -21,7 +21,7 @@ pub fn serve_kept<D: Disk, R: BufRead, W: Write>(
     reader: &mut R,
     writer: &mut W,
 ) -> Result<bool, StoredFault>
-    ensures serves { Holds D.Disk.seen D.Disk.may_leave (calls_in kept.old) kept.old
+    ensures serves { Holds D.Disk.seen D.Disk.may_leave (stored_in kept.old) kept.old
         → ServesKept D.Disk.seen D.Disk.may_leave (R.remaining reader.old) (R.remaining reader.new) (W.contents writer.old) (W.contents writer.new)
         kept.old result kept.new }
     ensures counts { IfOk result (λ more. more ≡ true → HasRisen served.old served.new) }
@@ -86,7 +86,7 @@ impl<D: Disk, R: BufRead, W: Write> FramedStore<D, R, W> {
 impl<D: Disk, R: BufRead, W: Write> Dialogue for FramedStore<D, R, W> {
     type Fault = StoredFault;
 
-    ghost comes_to = { λ old result new. Holds D.Disk.seen D.Disk.may_leave (calls_in old.kept) old.kept
+    ghost comes_to = { λ old result new. Holds D.Disk.seen D.Disk.may_leave (stored_in old.kept) old.kept
         → ServesKept D.Disk.seen D.Disk.may_leave (R.remaining old.reader) (R.remaining new.reader) (W.contents old.writer) (W.contents new.writer)
         old.kept result new.kept };
 

@@ -1,7 +1,7 @@
 //! Conversations over a durable repository.
 ghost use Rattle.std.specs.Prelude.{◌≡◌, []};
 ghost use Rattle.std.specs.Io.Buffered.{reader_remaining};
-ghost use Rattle.camp_kept.specs.Keeping.{Holds, calls_in, disk_in};
+ghost use Rattle.camp_kept.specs.Keeping.{Holds, stored_in, disk_in};
 ghost use Rattle.camp_kept_talk.specs.Going.{TalksKept};
 ghost use Rattle.camp_talk.specs.Accounts.{no_account};
 
@@ -21,7 +21,7 @@ pub fn talk_kept<D: Disk, R: Read, W: Write>(
     reader: &mut BufReader<R>,
     writer: &mut W,
 ) -> Result<(), StoredFault>
-    ensures promises { Holds D.Disk.seen D.Disk.may_leave (calls_in kept.old) kept.old
+    ensures promises { Holds D.Disk.seen D.Disk.may_leave (stored_in kept.old) kept.old
         → TalksKept D.Disk.seen D.Disk.may_leave (reader_remaining R.remaining reader.old) (reader_remaining R.remaining reader.new) (W.contents writer.old) (W.contents writer.new)
         (record { history = kept.old.book; lines = 0; cause = no_account }) result kept.new }
     ensures clean { D.Disk.is_clean (disk_in kept.new) ≡ D.Disk.is_clean (disk_in kept.old) }

@@ -1,3 +1,4 @@
 pub mod Asks
 pub mod Beginnings
 pub mod Replays
+pub mod SameBooks

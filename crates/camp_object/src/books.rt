@@ -1,13 +1,15 @@
 //! The book: a state with the history that led to it.
-ghost use Rattle.std.specs.Prelude.{◌≡◌, [], Some, IfOk};
-ghost use Rattle.camp_object.specs.Histories.{replay, IsLegal};
-ghost use Rattle.camp_object.specs.Asking.{Ask, alone_at};
+ghost use Rattle.std.specs.Prelude.{◌≡◌, Some, IfOk};
+ghost use Rattle.camp_object.specs.Books.{AsksBook, new_book, replay_book};
+ghost use Rattle.camp_object.specs.Histories.{IsLegal};
+ghost use Rattle.camp_object.specs.Objects.{IsFirst, begun};
 
 use crate::{Decided, Fault, Object};
 use std::alloc::{AllocError, Global};
 use std::marker::Model;
 
-/// A state and the calls that led to it. Contracts see it as these calls, each under its seat.
+/// A state and the calls that led to it. Contracts see it as the state that the history began with, and
+/// these calls, each under its seat.
 #[derive(Drop)]
 pub struct Book<State: Object> {
     state: State,
@@ -15,42 +17,52 @@ pub struct Book<State: Object> {
 }
 
 impl<State: Object> Model for Book<State> {
-    ghost use Rattle.std.specs.Prelude.{◌≡◌, List, ℕ, Some};
-    ghost use Rattle.std.specs.Coded.{coded_ℕ, coded_list, coded×};
-
-    ghost Value = { List (ℕ × State.Call) };
-
-    ghost coded = { coded_list (coded× coded_ℕ State.Call.code) };
-
+    ghost use Rattle.std.specs.Prelude.{◌≡◌, Some};
+    ghost use Rattle.camp_object.specs.Books.{Booked};
     ghost use Rattle.camp_object.specs.Histories.{replay};
+    ghost use Rattle.camp_object.specs.Objects.{IsFirst, begun};
 
-    ghost view = { λ book. book.history.items };
+    ghost Value = { Booked State State.Call };
 
-    ghost invariant = { λ book. replay State.object book.history.items ≡ Some book.state };
+    ghost view = { λ book. record { first = State.object.first book.state; calls = book.history.items } };
+
+    ghost invariant = { λ book. IsFirst State.object (State.object.first book.state)
+        × (replay (begun State.object (State.object.first book.state)) book.history.items ≡ Some book.state) };
 }
 
 impl<State: Object> Book<State> {
+    /// Makes a book without calls, whose history begins with the initial state.
     pub fn new(alloc: Global) -> Result<Book<State>, AllocError>
-        ensures exact { IfOk result (λ book. book ≡ []) }
+        ensures exact { IfOk result (λ book. book ≡ new_book State.object.initial) }
     {
-        let state = State::initial(alloc)?;
-        Ok(Book {
-            state,
+        let first = State::initial(alloc)?;
+        Ok(Book::begun(alloc, first))
+    }
+
+    /// Makes a book without calls, whose history begins with a state.
+    pub fn begun(alloc: Global, first: State) -> Book<State>
+        requires { IsFirst State.object first }
+        ensures exact { result ≡ new_book first }
+    {
+        Book {
+            state: first,
             history: Vec::new(alloc),
-        })
+        }
     }
 
     /// Returns the state after the calls of the history.
     pub fn state(&self) -> &State
-        ensures exact { replay State.object self.now ≡ Some result.now }
+        ensures exact { replay_book State.object self.now ≡ Some result.now }
+        ensures began { State.object.first result.now ≡ self.now.first }
     {
         &self.state
     }
 
     /// Returns the accepted calls in order, each under its seat.
     pub fn history(&self) -> &[(u32, State::Call)]
-        ensures value { result.now ≡ self.now }
-        ensures legal { IsLegal State.object self.now }
+        ensures value { result.now ≡ self.now.calls }
+        ensures legal { IsLegal (begun State.object self.now.first) self.now.calls }
+        ensures first { IsFirst State.object self.now.first }
     {
         &self.history
     }
@@ -58,7 +70,7 @@ impl<State: Object> Book<State> {
     /// Executes a call for a seat. An accepted call is appended to the book under the seat. The only fault is
     /// out of memory.
     pub fn ask(&mut self, seat: u32, call: &State::Call) -> Result<State::Reply, Fault>
-        ensures asks { Ask State.object (alone_at seat) self.old call.now result self.new }
+        ensures asks { AsksBook State.object seat self.old call.now result self.new }
     {
         self.history.reserve(1)?;
         match self.state.decide(call)? {

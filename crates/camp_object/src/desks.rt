@@ -44,8 +44,8 @@ impl<'a, State: Object> BookDesk<'a, State> {
     pub fn new(book: &'a mut Book<State>, seat: u32) -> BookDesk<'a, State>
         ensures lends { result.book.ghost_name ≡ book.entry.ghost_name }
         ensures caller { ⟦<BookDesk<'a, State> as Desk<State>>⟧.caller result ≡ alone_at seat }
-        ensures first { ⟦<BookDesk<'a, State> as Desk<State>>⟧.first result ≡ State.object.initial }
-        ensures seen { ⟦<BookDesk<'a, State> as Desk<State>>⟧.seen result ≡ book.old }
+        ensures first { ⟦<BookDesk<'a, State> as Desk<State>>⟧.first result ≡ book.old.first }
+        ensures seen { ⟦<BookDesk<'a, State> as Desk<State>>⟧.seen result ≡ book.old.calls }
     {
         BookDesk { book, seat }
     }
@@ -54,9 +54,9 @@ impl<'a, State: Object> BookDesk<'a, State> {
 impl<'a, State: Object> Desk<State> for BookDesk<'a, State> {
     ghost caller = { λ desk. alone_at desk.seat };
 
-    ghost first = { λ _. State.object.initial };
+    ghost first = { λ desk. desk.book.now.first };
 
-    ghost seen = { λ desk. desk.book.now };
+    ghost seen = { λ desk. desk.book.now.calls };
 
     ghost is_only = { λ desk. Unit {0} };
 

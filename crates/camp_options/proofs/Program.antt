@@ -36,11 +36,12 @@ takes_one : (a : Arg) → a.num_vals ≡ None → 1 ≤ least_values a
 takes_one a h = rw h (omega arith)
 
 -- of the program's rules one is that of the tries
-only_tries : (j : ℕ) (r : Rule) → j < 3 → bytes_eq (slice_index_or program.top.rules j r).id (codes "tries") ≡ true → j ≡ 1
+only_tries : (j : ℕ) (r : Rule) → j < 4 → bytes_eq (slice_index_or program.top.rules j r).id (codes "tries") ≡ true → j ≡ 1
 only_tries zero r lt same = absurd (differ (codes "serial") (codes "tries") refl ((bytes_eq-Decides _ _).0 same))
 only_tries (suc zero) r lt same = refl
 only_tries (suc (suc zero)) r lt same = absurd (differ (codes "history") (codes "tries") refl ((bytes_eq-Decides _ _).0 same))
-only_tries (suc (suc (suc j))) r lt same = absurd (omega arith)
+only_tries (suc (suc (suc zero))) r lt same = absurd (differ (codes "limits") (codes "tries") refl ((bytes_eq-Decides _ _).0 same))
+only_tries (suc (suc (suc (suc j)))) r lt same = absurd (omega arith)
 
 -- the value that a getter of numbers returns for the tries
 pub record TriesOf (m : ArgMatches) (read : Option ℕ) : Type 0 where
@@ -58,11 +59,11 @@ module _ (c : Command) (m : ArgMatches) (is : app_of c ≡ program) (p : IsParse
   simple : IsSimple c
   simple = ready_simple c (ap (λ (a : App). is_ready a.top) is) (ap (λ (a : App). list_all is_ready_leaf a.subs) is)
 
-  three : length (args_of c) ≡ 3
-  three = sym (length-map (args_of c) rule_of) ∙ ap length rules
+  four : length (args_of c) ≡ 4
+  four = sym (length-map (args_of c) rule_of) ∙ ap length rules
 
   d : Arg
-  d = some_arg (args_of c) (rw three (omega arith))
+  d = some_arg (args_of c) (rw four (omega arith))
 
   abbrev a : Arg
   a = slice_index_or (args_of c) 1 d
@@ -75,10 +76,10 @@ module _ (c : Command) (m : ArgMatches) (is : app_of c ≡ program) (p : IsParse
 
   alone : Alone c 1 d
   alone = record {
-    inside = rw three (omega arith);
+    inside = rw four (omega arith);
     unique = λ j e low same.
         let at = ap (λ (r : Rule). r.id) (rule_at (args_of c) j e ∙ ap (λ rs. slice_index_or rs j (rule_of e)) rules) in
-        only_tries j (rule_of e) (rw three at low) (rw (id, at) at same);
+        only_tries j (rule_of e) (rw four at low) (rw (id, at) at same);
     named = λ empty. differ (codes "tries") [] refl (sym id ∙ empty);
     own = λ auto. elim auto [ inl h ↦ differ (codes "tries") _ refl (sym id ∙ h) | inr h ↦ differ (codes "tries") _ refl (sym id ∙ h) ];
   }

@@ -1,7 +1,7 @@
 -- The meaning of a command line, by clap's reading of its words.
-use Rattle.std.specs.Prelude.{◌≡◌, ◌↔◌, true, ℕ, List, [], ◌∷◌, Some, codes, pos}
+use Rattle.std.specs.Prelude.{◌≡◌, ◌↔◌, true, ℕ, List, [], ◌∷◌, Some, codes, option_map, pos}
 use Rattle.std.specs.Str.Parse.{IsNumeral, digits_value, without_leading_plus}
-use Rattle.clap.specs.Words.{App, Row, Rule, new_app, new_rule, one_of, with_rule}
+use Rattle.clap.specs.Words.{App, Row, Rule, first_of, new_app, new_rule, one_of, with_rule}
 use Rattle.clap.specs.declared.builder.ArgAction.TheVariants.{Set, SetTrue}
 use Rattle.clap.specs.declared.builder.value_parser.ValueParser.TheVariants as parser
 use Rattle.camp_options.specs.declared.kinds.Options.{Options}
@@ -28,13 +28,21 @@ tries = record (new_rule (codes "tries")) {
   defaults = codes "100" ∷ [];
 }
 
+-- the option `--limits TEXT`; what its text says is read apart
+abbrev pub limits : Rule
+limits = record (new_rule (codes "limits")) {
+  long = Some (codes "limits");
+  action = Some Set;
+  value_names = 1;
+}
+
 -- a program that tells its version
 abbrev pub with_version : App → App
 with_version app = record { top = record app.top { has_version = true }; subs = app.subs }
 
--- the program's command line: `--serial`, `--tries N` and `--history`; and `--version`
+-- the program's command line: `--serial`, `--tries N`, `--history` and `--limits TEXT`; and `--version`
 abbrev pub program : App
-program = with_rule (with_rule (with_rule (with_version (new_app (codes "camp"))) (flag (codes "serial"))) tries) (flag (codes "history"))
+program = with_rule (with_rule (with_rule (with_rule (with_version (new_app (codes "camp"))) (flag (codes "serial"))) tries) (flag (codes "history"))) limits
 
 -- the option is set
 abbrev pub IsSet : List ℕ → List Row → Type 0
@@ -50,3 +58,4 @@ pub record Given (rows : List Row) (options : Options) : Type 0 where
   pub serial : (options.serial ≡ true) ↔ IsSet (codes "serial") rows
   pub tries : WritesNumber (codes "tries") options.tries rows
   pub history : (options.history ≡ true) ↔ IsSet (codes "history") rows
+  pub limits : option_map (λ text. text.now) options.limits ≡ first_of (codes "limits") rows

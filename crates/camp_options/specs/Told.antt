@@ -6,7 +6,7 @@ use Rattle.clap.specs.Words.{kind_of}
 use Rattle.clap.specs.declared.error.ErrorKind.{ErrorKind}
 use Rattle.clap.specs.declared.error.ErrorKind.TheVariants.{DisplayHelp, DisplayVersion}
 use Rattle.camp_options.specs.declared.faults.WordsFault.{WordsFault}
-use Rattle.camp_options.specs.declared.faults.WordsFault.TheVariants.{NotText, Refused, Memory}
+use Rattle.camp_options.specs.declared.faults.WordsFault.TheVariants.{NotText, Refused, Limits, Memory}
 
 -- the words ask for a text: the help or the version
 abbrev pub AsksForText : ErrorKind → Type 0
@@ -20,10 +20,11 @@ TellsUnwritten kind status = ((kind ≡ BrokenPipe) × (status ≡ 141)) ⊎ ((k
 abbrev pub IsPrinted : ℕ → Type 0
 IsPrinted status = (status ≡ 0) ⊎ (status ≡ 3) ⊎ (status ≡ 141)
 
--- 2 where the words are refused; 0, 3 or 141 where a text was asked for; 3 where memory ran out
+-- 2 where the words are refused, or say no limits; 0, 3 or 141 where a text was asked for; 3 where memory ran out
 abbrev pub TellsBy : WordsFault → ℕ → Type 0
 TellsBy NotText status = status ≡ 2
 TellsBy (Refused error) status =
     (AsksForText (kind_of error) → IsPrinted status)
     × (kind_of error ≢ DisplayHelp → kind_of error ≢ DisplayVersion → status ≡ 2)
+TellsBy (Limits fault) status = status ≡ 2
 TellsBy Memory status = status ≡ 3

@@ -4,6 +4,7 @@ ghost use Rattle.std.specs.IoError.{error_kind};
 ghost use Rattle.clap.specs.Words.{kind_of};
 ghost use Rattle.camp_options.specs.Told.{AsksForText, IsPrinted, TellsBy, TellsUnwritten};
 
+use crate::limits::LimitsFault;
 use clap::Error;
 use clap::error::ErrorKind;
 use std::alloc::AllocError;
@@ -21,6 +22,8 @@ pub enum WordsFault {
     NotText,
     /// They are rejected, or ask for the help text.
     Refused(Error),
+    /// The text of `--limits` says no limits of a repository.
+    Limits(LimitsFault),
     /// Memory ran out while they were parsed.
     Memory,
 }
@@ -45,6 +48,10 @@ impl WordsFault {
                 2
             }
             WordsFault::Refused(error) => tell_error(rt, program, error),
+            WordsFault::Limits(fault) => {
+                let _ = eprintln!(rt; "error: {}", fault.words());
+                2
+            }
             WordsFault::Memory => tell_fault(rt, program, &"out of memory", 3),
         }
     }
@@ -95,6 +102,12 @@ impl From<Error> for WordsFault {
             ErrorKind::OutOfMemory => WordsFault::Memory,
             _ => WordsFault::Refused(error),
         }
+    }
+}
+
+impl From<LimitsFault> for WordsFault {
+    fn from(fault: LimitsFault) -> WordsFault {
+        WordsFault::Limits(fault)
     }
 }
 

@@ -81,8 +81,8 @@ Refusals, and what to do:
   6 NAME                        some branch has a patch of this name: take another name
   7 NAME                        the branch has no such patch: see names
   8                             there is nothing to pull: TO has it all
-  9                             too large: 256 branches, 4096 changes in a branch, 65535 lines in a side
-                                of an edit or 1000000 lines in a file are the most
+  9                             too large: 65535 lines in a side of an edit, 1000000 lines in a file and,
+                                without --limits, 256 branches and 4096 changes in a branch are the most
   10                            the change does not fit the files: see tree, and mend path, LINE or lines
   11 PATCH ON                   PATCH stands on ON: pull ON too, or obliterate PATCH too
   12 NAME                       both branches have this patch, and in one of them it can't come before

@@ -4,9 +4,11 @@
 mod faults;
 mod help;
 mod kinds;
+mod limits;
 mod words;
 
 pub use faults::{WordsFault, command_line, tell_fault, tell_unwritten};
 pub use help::VERSION;
 pub use kinds::Options;
+pub use limits::{LimitsFault, read_limits};
 pub use words::options;

@@ -1,7 +1,7 @@
 //! Parsing a command line.
 ghost use Rattle.std.specs.Prelude.{◌≡◌, ◌↔◌, IfOk, false, true, map, ◌≤◌};
 ghost use Rattle.clap.specs.Words.{FailsBy, app_of, fault_of, found_of, matches_of, rows_of, rule_of};
-ghost use Rattle.camp_options.specs.Options.{Given, IsSet, flag, most_tries, program, tries};
+ghost use Rattle.camp_options.specs.Options.{Given, IsSet, flag, limits, most_tries, program, tries};
 
 use crate::help::{REFERENCE, SUMMARY, USAGE, VERSION};
 use crate::kinds::Options;
@@ -12,7 +12,7 @@ use std::convert::AsStr;
 /// Reads the words of a command line, of which the first is the program's name. The fault is a
 /// mistake in the words, a request for the help text or the version, or want of memory; it shows as the text for
 /// the user.
-pub fn options<'a, S: AsStr>(alloc: Global, words: &'a [S]) -> Result<Options, Error>
+pub fn options<'a, S: AsStr>(alloc: Global, words: &'a [S]) -> Result<Options<'a>, Error>
     ensures given { IfOk result (Given (matches_of program (map S.text words.entry.now))) }
     ensures range { IfOk result (λ options. (1 ≤ options.tries) × (options.tries ≤ most_tries)) }
     ensures refused { FailsBy (fault_of program (map S.text words.entry.now)) result }
@@ -22,6 +22,7 @@ pub fn options<'a, S: AsStr>(alloc: Global, words: &'a [S]) -> Result<Options, E
         serial: is_set(&matches, "serial"),
         tries: matches.get_one::<u32>("tries").unwrap(),
         history: is_set(&matches, "history"),
+        limits: matches.get_str("limits"),
     })
 }
 
@@ -50,7 +51,8 @@ fn command<'a>(alloc: Global) -> Result<Command<'a>, AllocError>
             alloc,
             "history",
             "Write the history of accepted calls behind the answers",
-        ))
+        ))?
+        .arg(limits(alloc))
 }
 
 fn flag<'a>(alloc: Global, name: &'a str, help: &'a str) -> Arg<'a>
@@ -75,4 +77,17 @@ fn tries<'a>(alloc: Global) -> Arg<'a>
         .value_parser(value_parser!(u32).range(1..=1000))
         .default_value("100")
         .help("Answer a call busy once it has lost N times to other clients, 1 to 1000")
+}
+
+fn limits<'a>(alloc: Global) -> Arg<'a>
+    ensures rule { rule_of result ≡ limits }
+    ensures local { result.global ≡ false }
+{
+    Arg::new(alloc, "limits")
+        .long("limits")
+        .action(ArgAction::Set)
+        .value_name("LIMITS")
+        .help(
+            "Allow N changes in a branch and M branches: catches=N,branches=M [default: catches=4096,branches=256]",
+        )
 }

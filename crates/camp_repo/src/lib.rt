@@ -3,6 +3,7 @@
 
 mod beginnings;
 mod faults;
+mod firsts;
 mod laws;
 mod limits;
 mod name_lists;
@@ -15,6 +16,7 @@ pub use camp_branch::Branch;
 pub use camp_call::{Call, Changes, Conflicts, Names, Refusal, Reply};
 pub use camp_object::{Book, BookDesk, Decided, Desk, Fault, Object};
 pub use faults::LimitFault;
+pub use firsts::{first_state, new_book};
 pub use laws::{
     accepted_calls_have_effect, calls_keep_limits, default_limits_hold, histories_are_counted,
     histories_are_lawful, histories_tell_trees, initial_is_lawful, outcomes_are_defined,

@@ -1,6 +1,7 @@
 -- The words that most proofs of this crate use.
 pub use Rattle.std.proofs.Common.{◌++◌, ◌+◌, ◌∙◌, ◌∷◌, ◌≡◌, ◌≤◌, Err, List, None, Ok, Option, Result, Some, [], ap, arith, count_by, length, map, refl, subst, sym, ℕ}
 pub use Rattle.std.proofs.lemmas.List.{append-nil}
+pub use Rattle.std.proofs.lemmas.Result.{IfOk-weaker}
 pub use Rattle.std.proofs.lemmas.List.Elements.{All-cons, All-nil}
 pub use Rattle.std.specs.List.{All, AllByRecursion}
 pub use Rattle.std.specs.Option.{option_and_then}
@@ -12,9 +13,10 @@ pub use Rattle.camp_clients.specs.Runs.{IsLocked, IsShared, OneByOne, lists_of}
 pub use Rattle.camp_clients.specs.Sections.{Section}
 pub use Rattle.camp_object.specs.declared.faults.Fault.{Fault}
 pub use Rattle.camp_object.specs.declared.objects.Decided.TheVariants.{Answer, Next}
-pub use Rattle.camp_repo.specs.ObjectLaws.{repository_is_lawful}
-pub use Rattle.camp_repo.specs.Objects.{next_of, replies_to, reply_of, repository, state_behind}
-pub use Rattle.camp_repo.specs.States.{Contents, initial}
+pub use Rattle.camp_repo.specs.Limits.{Bounds}
+pub use Rattle.camp_repo.specs.ObjectLaws.{repositories_are_lawful}
+pub use Rattle.camp_repo.specs.Objects.{next_of, replies_to, reply_of, repository_within, state_behind}
+pub use Rattle.camp_repo.specs.States.{Contents}
 pub use Rattle.camp_repo.specs.Steps.{Decision, step}
 pub use Rattle.camp_run.specs.Serial.{IsSerial, accepted_from, booked}
 pub use Rattle.camp_script.specs.Outputs.{HaveTexts}

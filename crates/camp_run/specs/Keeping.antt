@@ -6,7 +6,8 @@ use Rattle.camp_object.specs.declared.faults.Fault.{Fault}
 use Rattle.camp_call.specs.declared.calls.Call.{Call}
 use Rattle.camp_call.specs.declared.replies.Reply.{Reply}
 use Rattle.camp_call.specs.declared.replies.Reply.TheVariants.{Done}
-use Rattle.camp_repo.specs.Objects.{repository}
+use Rattle.camp_repo.specs.Limits.{Bounds}
+use Rattle.camp_repo.specs.Objects.{repository_within}
 use Rattle.camp_repo.specs.States.{Contents}
 use Rattle.camp_run.specs.Serial.{IsSerial}
 use Rattle.camp_script.specs.Keeping.{CanStand, calls_of, kept_text}
@@ -22,25 +23,26 @@ abbrev pub dones : ℕ → List Call → List (Result Reply Fault)
 dones at [] = []
 dones at (call ∷ calls) = Ok (Done at) ∷ dones (at + 1) calls
 
--- the text of a history is a script of one section; a new repository accepts each of its calls, and they lead to the
--- same state, and to the same history but for the seats
-pub record LeadsBack (history : List (ℕ × Call)) (state : Contents) : Type 0 where
+-- the text of a history is a script of one section; a new repository with these limits accepts each of its calls, and
+-- they lead to the same state, and to the same history but for the seats
+pub record LeadsBack (limits : Bounds) (history : List (ℕ × Call)) (state : Contents) : Type 0 where
   pub reads : script_of (kept_text history) ≡ Ok (calls_of history ∷ [])
-  pub comes : IsSerial (calls_of history ∷ []) (dones 1 (calls_of history) ∷ []) (at_seat_0 history)
-  pub leads : replay repository (at_seat_0 history) ≡ Some state
+  pub comes : IsSerial limits (calls_of history ∷ []) (dones 1 (calls_of history) ∷ []) (at_seat_0 history)
+  pub leads : replay (repository_within limits) (at_seat_0 history) ≡ Some state
 
 -- this holds of each history that leads to a state and has at most 65,536 calls, if `kept_text` made its text
 abbrev pub KeptLeadsBack : Type 0
-KeptLeadsBack = (history : List (ℕ × Call)) (state : Contents) → replay repository history ≡ Some state
-    → AllByRecursion CanStand (calls_of history) → length history ≤ most_writing_calls → LeadsBack history state
+KeptLeadsBack = (limits : Bounds) (history : List (ℕ × Call)) (state : Contents) → replay (repository_within limits) history ≡ Some state
+    → AllByRecursion CanStand (calls_of history) → length history ≤ most_writing_calls → LeadsBack limits history state
 
--- the text of a history is a script, and a new repository that is asked its calls has exactly this history
-pub record ComesBack (history : List (ℕ × Call)) : Type 0 where
+-- the text of a history is a script, and a new repository with these limits that is asked its calls has exactly this
+-- history
+pub record ComesBack (limits : Bounds) (history : List (ℕ × Call)) : Type 0 where
   pub reads : script_of (kept_text history) ≡ Ok (calls_of history ∷ [])
-  pub comes : IsSerial (calls_of history ∷ []) (dones 1 (calls_of history) ∷ []) history
+  pub comes : IsSerial limits (calls_of history ∷ []) (dones 1 (calls_of history) ∷ []) history
 
 -- this holds if the calls of such a history are all at seat 0
 abbrev pub SeatZeroStays : Type 0
-SeatZeroStays = (history : List (ℕ × Call)) (state : Contents) → replay repository history ≡ Some state
+SeatZeroStays = (limits : Bounds) (history : List (ℕ × Call)) (state : Contents) → replay (repository_within limits) history ≡ Some state
     → AllByRecursion CanStand (calls_of history) → length history ≤ most_writing_calls
-    → AllByRecursion (λ entry. entry.0 ≡ 0) history → ComesBack history
+    → AllByRecursion (λ entry. entry.0 ≡ 0) history → ComesBack limits history

@@ -4,8 +4,9 @@ use Rattle.camp_object.specs.declared.faults.Fault.{Fault}
 use Rattle.camp_object.specs.declared.objects.Decided.TheVariants.{Next, Answer}
 use Rattle.camp_call.specs.declared.calls.Call.{Call}
 use Rattle.camp_call.specs.declared.replies.Reply.{Reply}
+use Rattle.camp_repo.specs.Limits.{Bounds}
 use Rattle.camp_repo.specs.Objects.{replies_to, state_after, state_behind}
-use Rattle.camp_repo.specs.States.{Contents, initial}
+use Rattle.camp_repo.specs.States.{Contents, new_within}
 use Rattle.camp_repo.specs.Steps.{Decision, step}
 
 -- the replies to sections, one after the other from a state on
@@ -30,8 +31,8 @@ history_from seat state [] = []
 history_from seat state (calls ∷ sections) =
     accepted_from seat state calls ++ history_from (seat + 1) (state_after state calls) sections
 
--- the answers and the history of sections of calls to a new repository, one after the other
-pub record IsSerial (sections : List (List Call)) (answers : List (List (Result Reply Fault)))
+-- the answers and the history of sections of calls to a new repository with these limits, one after the other
+pub record IsSerial (limits : Bounds) (sections : List (List Call)) (answers : List (List (Result Reply Fault)))
     (history : List (ℕ × Call)) : Type 0 where
-  pub replies : answers ≡ map (map Ok) (replies_from initial sections)
-  pub books : history ≡ history_from 0 initial sections
+  pub replies : answers ≡ map (map Ok) (replies_from (new_within limits) sections)
+  pub books : history ≡ history_from 0 (new_within limits) sections

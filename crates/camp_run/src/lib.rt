@@ -14,6 +14,7 @@ mod turns;
 pub use books::run_book;
 pub use camp_clients::SectionGate;
 pub use camp_head::{Gate, NoGate};
+pub use camp_repo::Limits;
 pub use faults::RunFault;
 pub use heads::{run_head, run_head_at};
 pub use laws::{

@@ -1,17 +1,22 @@
 -- Repositories and views that are asked texts, and their answers.
 use Rattle.std.specs.Prelude.{◌≡◌, ℕ, List, [], Some, Result, Ok, Err}
-use Rattle.camp_object.specs.Histories.{replay}
+use Rattle.camp_object.specs.Books.{new_book, replay_book}
+use Rattle.camp_repo.specs.Limits.{Bounds}
 use Rattle.camp_repo.specs.Objects.{repository}
-use Rattle.camp_repo.specs.States.{Contents}
+use Rattle.camp_repo.specs.States.{Contents, new_within}
 use Rattle.camp_talk.specs.Entries.{Entries}
 use Rattle.camp_talk.specs.Requests.{AnswersRequest, AnswersSome}
 use Rattle.camp_talk.specs.Views.{AnswersView}
 use Rattle.camp_talk.specs.declared.faults.TalkFault.{TalkFault}
 
--- a repository: its accepted calls, and the answer to the last text
+-- a repository: the state that it began with, its accepted calls, and the answer to the last text
 pub record Repository : Type 0 where
   pub history : Entries
   pub answer : List ℕ
+
+-- a new repository with these limits: no call was accepted, and nothing was asked
+abbrev pub new_repository : Bounds → Repository
+new_repository limits = record { history = new_book (new_within limits); answer = [] }
 
 -- a repository as it was at one moment: its state then, and the answer to the last text
 pub record Snapshot : Type 0 where
@@ -31,5 +36,5 @@ Sees before text (Err why) after = after ≡ record { state = before.state; answ
 
 -- a view shows a repository as it is, and nothing was asked
 pub record Views (shown : Repository) (view : Snapshot) : Type 0 where
-  pub state : replay repository shown.history ≡ Some view.state
+  pub state : replay_book repository shown.history ≡ Some view.state
   pub answer : view.answer ≡ []

@@ -4,6 +4,7 @@
 mod sessions;
 mod views;
 
+pub use camp_repo::{LimitFault, Limits};
 pub use camp_talk::TalkFault;
 pub use sessions::Session;
 pub use views::View;

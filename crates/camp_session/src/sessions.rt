@@ -1,8 +1,10 @@
 //! Repositories that are asked texts.
 ghost use Rattle.std.specs.Prelude.{◌≡◌, [], IfOk};
-ghost use Rattle.camp_session.specs.Sessions.{Asks, Views};
+ghost use Rattle.camp_repo.specs.Limits.{default_bounds};
+ghost use Rattle.camp_session.specs.Sessions.{Asks, Views, new_repository};
 
 use crate::View;
+use camp_repo::{Limits, new_book};
 use camp_talk::{Book, State, TalkFault, answer_request};
 use std::alloc::{AllocError, Global};
 use std::marker::Model;
@@ -16,21 +18,29 @@ pub struct Session {
 
 impl Model for Session {
     ghost use Rattle.std.specs.Coded.{codes};
+    ghost use Rattle.camp_ctx.specs.declared.sets.CtxSet.{the_code as code_of_sets};
     ghost use Rattle.camp_session.specs.Sessions.{Repository};
 
     ghost Value = { Repository };
 
-    ghost coded = { Prim.hlevel codes };
+    ghost coded = { Prim.hlevel (codes, code_of_sets) };
 
     ghost view = { λ session. record { history = session.book; answer = session.answer.items } };
 }
 
 impl Session {
-    /// Makes a new repository: one branch `main` without a patch.
+    /// Makes a new repository with the default limits: one branch `main` without a patch.
     pub fn new(alloc: Global) -> Result<Session, AllocError>
-        ensures new { IfOk result (λ session. session ≡ record { history = []; answer = [] }) }
+        ensures new { IfOk result (λ session. session ≡ new_repository default_bounds) }
     {
-        let book = Book::new(alloc)?;
+        Session::with_limits(alloc, Limits::default())
+    }
+
+    /// Makes a new repository with these limits: one branch `main` without a patch.
+    pub fn with_limits(alloc: Global, limits: Limits) -> Result<Session, AllocError>
+        ensures new { IfOk result (λ session. session ≡ new_repository limits) }
+    {
+        let book = new_book(alloc, limits)?;
         Ok(Session {
             book,
             answer: Vec::new(alloc),

@@ -16,15 +16,18 @@ mod words;
 
 use camp_base::Name;
 use camp_git::export;
-use camp_options::{WordsFault, command_line};
-use camp_talk::{Book, Conversation, FrameFault, FramedConversation, State, TalkFault, load, talk};
+use camp_options::{WordsFault, command_line, read_limits};
+use camp_talk::{
+    Book, Conversation, FrameFault, FramedConversation, Limits, State, TalkFault, load, new_book,
+    talk,
+};
 use prompts::Prompted;
 use std::fs::{self, File};
 use std::io::{BufReader, IsTerminal, Read};
 use std::process::ExitCode;
 use stops::Stop;
 use stores::{check_store, hold_stored};
-use words::{Form, wish_of};
+use words::{Form, Wish, wish_of};
 
 fn main(rt: HostRuntime) -> ExitCode {
     match command_line(&rt) {
@@ -50,16 +53,28 @@ fn hold<'a>(rt: &HostRuntime, words: &'a [String]) -> Result<(), Stop<'a>> {
     if let Some(store) = wish.store {
         return hold_stored(rt, store, &wish);
     }
-    let book = loaded(rt, &wish.files)?;
+    let book = loaded(rt, limits_of(&wish)?, &wish.files)?;
     match wish.export {
         Some(branch) => export_branch(rt, &book, branch),
         None => converse(rt, book, wish.form),
     }
 }
 
-// Makes a new repository and executes the commands of these files.
-fn loaded<'a>(rt: &HostRuntime, files: &[&'a str]) -> Result<Book<State>, Stop<'a>> {
-    let mut book = Book::new(rt.alloc())?;
+// Returns the limits that the command line gives, or the default ones.
+fn limits_of(wish: &Wish<'_>) -> Result<Limits, WordsFault> {
+    match wish.limits {
+        Some(text) => Ok(read_limits(text.as_bytes())?),
+        None => Ok(Limits::default()),
+    }
+}
+
+// Makes a new repository with these limits and executes the commands of these files.
+fn loaded<'a>(
+    rt: &HostRuntime,
+    limits: Limits,
+    files: &[&'a str],
+) -> Result<Book<State>, Stop<'a>> {
+    let mut book = new_book(rt.alloc(), limits)?;
     for file in files {
         load_file(rt, &mut book, *file)?;
     }

@@ -13,6 +13,8 @@ pub(crate) struct Wish<'a> {
     pub(crate) export: Option<&'a str>,
     /// The file in which the repository is persisted.
     pub(crate) store: Option<&'a str>,
+    /// The text of the limits of a new repository, if they are given.
+    pub(crate) limits: Option<&'a str>,
     /// The file that is checked, and then nothing else is done.
     pub(crate) checked: Option<&'a str>,
     pub(crate) form: Form,
@@ -110,6 +112,7 @@ pub(crate) fn wish_of<'a, S: AsStr>(alloc: Global, words: &'a [S]) -> Result<Wis
         files,
         export,
         store: matches.get_str("store"),
+        limits: matches.get_str("limits"),
         checked: matches.get_str("check-store"),
         form,
     })
@@ -132,6 +135,7 @@ fn options<'a>(alloc: Global) -> Result<Vec<Arg<'a>>, AllocError> {
     options.push(frames(alloc)?)?;
     options.push(prompt(alloc)?)?;
     options.push(store(alloc))?;
+    options.push(limits(alloc)?)?;
     options.push(check(alloc)?)?;
     Ok(options)
 }
@@ -178,6 +182,18 @@ fn store<'a>(alloc: Global) -> Arg<'a> {
         .help(
             "Keep the repository in this file; each accepted call is on the disk before it is answered",
         )
+}
+
+fn limits<'a>(alloc: Global) -> Result<Arg<'a>, AllocError> {
+    Arg::new(alloc, "limits")
+        .long("limits")
+        .action(ArgAction::Set)
+        .value_name("LIMITS")
+        .help(
+            "Allow N changes in a branch and M branches: catches=N,branches=M [default: catches=4096,branches=256]",
+        )
+        .conflicts_with("store")?
+        .conflicts_with("check-store")
 }
 
 fn check<'a>(alloc: Global) -> Result<Arg<'a>, AllocError> {

@@ -1,5 +1,5 @@
 -- An answer is a failure exactly if its command has a fault, it was refused, or memory ran out.
-use Rattle.camp_talk.proofs.Words.{◌≡◌, inl, inr, ℕ, true, false, List, Option, None, Some, Result, Ok, Err, refl, sym, ap, subst, ◌∙◌, true≢false, LineFault, reply_text, Standing, Tells, asked_by, Entries, tells_failure, Asked}
+use Rattle.camp_talk.proofs.Words.{◌≡◌, inl, inr, ℕ, true, false, List, Option, None, Some, Result, Ok, Err, refl, sym, ap, subst, ◌∙◌, true≢false, Call, LineFault, reply_text, Standing, Tells, asked_by, Entries, tells_failure, Asked}
 use Rattle.std.specs.Prelude.{◌↔◌}
 use Rattle.camp_base.specs.Trees.{Lines}
 use Rattle.camp_call.specs.declared.replies.Refusal.{Refusal}
@@ -61,7 +61,7 @@ file_plain : (lines : Option Lines) → tells_failure (file_told lines) ≡ fals
 file_plain None = refl
 file_plain (Some lines) = refl
 
-question_fails : (history : Entries) (state : Contents) (q : Question) (text : List ℕ) → TellsAt history state q text → Refuses text
+question_fails : (history : List (ℕ × Call)) (state : Contents) (q : Question) (text : List ℕ) → TellsAt history state q text → Refuses text
 question_fails history state (question.Annotate branch path) text is = told_fails _ annotated_plain _ text is
 question_fails history state (question.Marks branch path) text is = told_fails _ marks_plain _ text is
 question_fails history state (question.File branch path) text is = told_fails _ file_plain _ text is
@@ -77,7 +77,7 @@ asked_fails : (before : Standing) (a : Result Asked LineFault) (text : List ℕ)
 asked_fails before (Err fault) text now tells = (λ e. tt, λ w. ap tells_failure tells.0)
 asked_fails before (Ok asked.Nothing) text now tells = (λ e. true≢false (sym e ∙ ap tells_failure tells.0), λ w. absurd w)
 asked_fails before (Ok (asked.Call call)) text now tells = subst Refuses (sym tells.tells) (reply_fails tells.reply)
-asked_fails before (Ok (asked.Question q)) text now tells = question_fails before.history tells.0.0 q text tells.0.2
+asked_fails before (Ok (asked.Question q)) text now tells = question_fails before.history.calls tells.0.0 q text tells.0.2
 asked_fails before (Ok asked.Why) text now tells = (λ e. true≢false (sym e ∙ ap tells_failure tells.0), λ w. absurd w)
 
 pub failures_are_told : FailuresAreTold

@@ -7,11 +7,13 @@ use Rattle.std.specs.List.{AllByRecursion}
 use Rattle.std.specs.Option.{option_and_then}
 use Rattle.camp_call.specs.declared.replies.Reply.{Reply}
 use Rattle.camp_call.specs.declared.replies.Reply.TheVariants as reply
-use Rattle.camp_object.specs.Asking.{Ask, alone_at}
-use Rattle.camp_object.specs.Histories.{IsAccepted, IsAnswered, IsBeginning, IsLegal, replay, run}
+use Rattle.camp_object.specs.Books.{AsksBook, IsEarlier, new_book, replay_book}
+use Rattle.camp_object.specs.Histories.{IsAccepted, IsAnswered, IsLegal, run}
+use Rattle.camp_object.specs.Objects.{begun}
 use Rattle.camp_object.proofs.Replays.{legal_front, replay_more, some_is_some}
+use Rattle.camp_object.proofs.SameBooks.{same_book}
 use Rattle.camp_repo.specs.Objects.{repository}
-use Rattle.camp_repo.specs.States.{Contents, initial}
+use Rattle.camp_repo.specs.States.{Contents}
 use Rattle.camp_script.specs.Canonical.{IsScriptCall, call_text, section_text}
 use Rattle.camp_script.specs.Keeping.{calls_of, kept_text}
 use Rattle.camp_talk.specs.Laws.{ComesBack, IsReadWhole, KeptIsLoaded, at_seat_0}
@@ -22,32 +24,51 @@ use Rattle.camp_talk.proofs.CanonicalCommands.{asks_call, is_command, left_is, n
 
 -- ---- an accepted call is done
 
-abbrev alone : List Call → Entries
+abbrev Calls : Type 0
+Calls = List (ℕ × Call)
+
+abbrev alone : List Call → Calls
 alone calls = map (λ call. (0, call)) calls
 
-module _ (seen now : Entries) (c : Call) (accepted : IsAccepted repository seen c) where
-  not_answered : {A : Type 0} (answer : Reply) → now ≡ seen → IsAnswered repository now c answer → A
+-- a history with more calls
+abbrev then_calls : Entries → List Call → Entries
+then_calls history calls = record { first = history.first; calls = history.calls ++ alone calls }
+
+then_none : (history : Entries) → then_calls history [] ≡ history
+then_none history = ap (λ (calls : Calls). record { first = history.first; calls = calls }) (append-nil history.calls)
+
+then_more : (history : Entries) (one two : List Call) → then_calls (then_calls history one) two ≡ then_calls history (one ++ two)
+then_more history one two =
+    ap (λ (calls : Calls). record { first = history.first; calls = calls })
+    (append_assoc history.calls (alone one) (alone two) ∙ ap (λ (calls : Calls). history.calls ++ calls) (sym (map-append (λ (c : Call). (0, c)) one two)))
+
+-- the call is accepted after a history
+abbrev CanBeNext : Entries → Call → Type 0
+CanBeNext history c = IsAccepted (begun repository history.first) history.calls c
+
+module _ (seen now : Entries) (c : Call) (accepted : CanBeNext seen c) where
+  not_answered : {A : Type 0} (answer : Reply) → now.calls ≡ seen.calls → IsAnswered (begun repository seen.first) now.calls c answer → A
   not_answered answer same answered =
-      let here : IsAccepted repository now c = subst (λ history. IsAccepted repository history c) (sym same) accepted in
+      let here : IsAccepted (begun repository seen.first) now.calls c = subst (λ (calls : Calls). IsAccepted (begun repository seen.first) calls c) (sym same) accepted in
       let none : IsSome (option_and_then (λ (state : Contents). repository.after state c) (Some answered.state)) = subst (λ (found : Option Contents). IsSome (option_and_then (λ state. repository.after state c) found)) answered.replays here in
       absurd (true≢false (sym (subst (λ (found : Option Contents). IsSome found) answered.stays none)))
 
   -- it is the last of the history, and its answer is no failure
-  accepts : (answer : Reply) (text : List ℕ) → text ≡ reply_text answer → Ask repository (alone_at 0) seen c (Ok answer) now → (now ≡ seen ++ (0, c) ∷ []) × (tells_failure text ≡ false)
+  accepts : (answer : Reply) (text : List ℕ) → text ≡ reply_text answer → AsksBook repository 0 seen c (Ok answer) now → (now ≡ then_calls seen (c ∷ [])) × (tells_failure text ≡ false)
   accepts (reply.Done at) text tells asks = (
-    asks.says.ends ∙ ap (λ (history : Entries). history ++ (0, c) ∷ []) (asks.says.exact refl),
+    same_book now (then_calls seen (c ∷ [])) asks.first (asks.asks.says.ends ∙ ap (λ (calls : Calls). calls ++ (0, c) ∷ []) (asks.asks.says.exact refl)),
     ap tells_failure tells,
   )
-  accepts other text tells asks = not_answered other (asks.says.0.exact refl) asks.says.1
+  accepts other text tells asks = not_answered other (asks.asks.says.0.exact refl) asks.asks.says.1
 
 -- the text of a call is answered
-module _ (c : Call) (can : IsScriptCall c) (short : IsReadWhole c) (before : Standing) (text : List ℕ) (now : Entries) (accepted : IsAccepted repository before.history c) where
-  answered_so : Tells before (asked_by (call_text c)) text now → (now ≡ before.history ++ (0, c) ∷ []) × (tells_failure text ≡ false)
+module _ (c : Call) (can : IsScriptCall c) (short : IsReadWhole c) (before : Standing) (text : List ℕ) (now : Entries) (accepted : CanBeNext before.history c) where
+  answered_so : Tells before (asked_by (call_text c)) text now → (now ≡ then_calls before.history (c ∷ [])) × (tells_failure text ≡ false)
   answered_so tells =
       let replies = subst (λ (asked : Result Asked LineFault). Tells before asked text now) (asks_call c can short) tells in
       accepts before.history now c accepted replies.reply text replies.tells replies.asks
 
-  done_so : Tells before (asked_by (call_text c)) text now ⊎ TellsWant before (call_text c) text now → TellsSuccess text → now ≡ before.history ++ (0, c) ∷ []
+  done_so : Tells before (asked_by (call_text c)) text now ⊎ TellsWant before (call_text c) text now → TellsSuccess text → now ≡ then_calls before.history (c ∷ [])
   done_so (inl tells) well = (answered_so tells).0
   done_so (inr want) well = absurd (true≢false (ap tells_failure (sym want.1) ∙ well))
 
@@ -55,21 +76,22 @@ module _ (c : Call) (can : IsScriptCall c) (short : IsReadWhole c) (before : Sta
 
 abbrev AcceptedFrom : Entries → List Call → Type 0
 AcceptedFrom before [] = Unit {0}
-AcceptedFrom before (c ∷ calls) = IsAccepted repository before c × AcceptedFrom (before ++ (0, c) ∷ []) calls
+AcceptedFrom before (c ∷ calls) = CanBeNext before c × AcceptedFrom (then_calls before (c ∷ [])) calls
 
-accepted_from : (before : Entries) (calls : List Call) → IsLegal repository (before ++ alone calls) → AcceptedFrom before calls
+accepted_from : (before : Entries) (calls : List Call) → IsLegal (begun repository before.first) (before.calls ++ alone calls) → AcceptedFrom before calls
 accepted_from before [] legal = tt
 accepted_from before (c ∷ calls) legal =
-    let makes : (before ++ (0, c) ∷ []) ++ alone calls ≡ before ++ alone (c ∷ calls) = append_assoc before ((0, c) ∷ []) (alone calls) in
-    let here : IsLegal repository (before ++ (0, c) ∷ []) = legal_front repository (record { rest = alone calls; makes = makes }) legal in (
-      subst (λ (found : Option Contents). IsSome found) (replay_more repository before (0, c)) here,
-      accepted_from (before ++ (0, c) ∷ []) calls (subst (λ (history : Entries). IsLegal repository history) (sym makes) legal),
+    let object = begun repository before.first in
+    let makes : (before.calls ++ (0, c) ∷ []) ++ alone calls ≡ before.calls ++ alone (c ∷ calls) = append_assoc before.calls ((0, c) ∷ []) (alone calls) in
+    let here : IsLegal object (before.calls ++ (0, c) ∷ []) = legal_front object (record { rest = alone calls; makes = makes }) legal in (
+      subst (λ (found : Option Contents). IsSome found) (replay_more object before.calls (0, c)) here,
+      accepted_from (then_calls before (c ∷ [])) calls (subst (λ (history : Calls). IsLegal object history) (sym makes) legal),
     )
 
-run_at_seat_0 : (history : Entries) (from : Option Contents) → run repository from (at_seat_0 history) ≡ run repository from history
-run_at_seat_0 [] from = refl
-run_at_seat_0 (entry ∷ history) from =
-    run_at_seat_0 history (option_and_then (λ state. repository.after state entry.1) from)
+run_at_seat_0 : (first : Contents) (history : Calls) (from : Option Contents) → run (begun repository first) from (alone (calls_of history)) ≡ run (begun repository first) from history
+run_at_seat_0 first [] from = refl
+run_at_seat_0 first (entry ∷ history) from =
+    run_at_seat_0 first history (option_and_then (λ state. repository.after state entry.1) from)
 
 -- ---- the state of a load
 
@@ -78,7 +100,7 @@ record Walked (calls : List Call) (before after : Entries) (left : List ℕ) : T
   done : List Call
   more : List Call
   parts : calls ≡ done ++ more
-  history : after ≡ before ++ alone done
+  history : after ≡ then_calls before done
   left_is : left ≡ section_text more
   can : AllByRecursion IsScriptCall more
   short : AllByRecursion IsReadWhole more
@@ -106,7 +128,7 @@ walk [] first last calls left follow well same can short accepted =
       done = [];
       more = calls;
       parts = refl;
-      history = history ∙ sym (append-nil first.history);
+      history = history ∙ sym (then_none first.history);
       left_is = sym same;
       can = can;
       short = short;
@@ -120,13 +142,13 @@ walk (exchange ∷ others) first last (c ∷ calls) left follow well same can sh
     let next = follow.0 in
     let step = behind_first c calls exchange.command (commands_of others ++ left) can.0 short.0 follow.1 (same ∙ ap (λ bytes. bytes ++ left) cons ∙ append_assoc exchange.command (commands_of others) left) in
     let tells = subst (λ (command : List ℕ). Tells first (asked_by command) exchange.answer next.history ⊎ TellsWant first command exchange.answer next.history) step.0 follow.2.tells in
-    let grown : next.history ≡ first.history ++ (0, c) ∷ [] = done_so c can.0 short.0 first exchange.answer next.history accepted.0 tells (All-head (λ (e : Exchange). TellsSuccess e.answer) exchange others well) in
+    let grown : next.history ≡ then_calls first.history (c ∷ []) = done_so c can.0 short.0 first exchange.answer next.history accepted.0 tells (All-head (λ (e : Exchange). TellsSuccess e.answer) exchange others well) in
     let more = walk others next last calls left follow.3 (All-tail (λ (e : Exchange). TellsSuccess e.answer) exchange others well) step.1 can.1 short.1 (subst (λ (h : Entries). AcceptedFrom h calls) (sym grown) accepted.1) in
     record {
       done = c ∷ more.done;
       more = more.more;
       parts = ap (λ (cs : List Call). c ∷ cs) more.parts;
-      history = more.history ∙ ap (λ (h : Entries). h ++ alone more.done) grown ∙ append_assoc first.history ((0, c) ∷ []) (alone more.done);
+      history = more.history ∙ ap (λ (h : Entries). then_calls h more.done) grown ∙ then_more first.history (c ∷ []) more.done;
       left_is = more.left_is;
       can = more.can;
       short = more.short;
@@ -161,23 +183,30 @@ left_next (c ∷ others) command can short is same =
     let last = empty_section others can.1 short.1 none in
     record { is = inr (c, ap (λ (cs : List Call). c ∷ cs) last, sym same ∙ cons ∙ ap (λ bytes. call_text c ++ bytes) none ∙ append-nil (call_text c)) }
 
-module _ (calls : List Call) (middle : Standing) (left : List ℕ) (walked : Walked calls [] middle.history left) where
-  first_done : IsBeginning middle.history (alone calls)
-  first_done = record {
-    rest = alone walked.more;
-    makes = ap (λ (h : Entries). h ++ alone walked.more) walked.history ∙ sym (map-append (λ (c : Call). (0, c)) walked.done walked.more) ∙ ap alone (sym walked.parts);
-  }
+module _ (first : Contents) (calls : List Call) (middle : Standing) (left : List ℕ) (walked : Walked calls (new_book first) middle.history left) where
+  -- all the calls after the first state
+  abbrev whole : Entries
+  whole = record { first = first; calls = alone calls }
 
-  all_done : walked.more ≡ [] → middle.history ≡ alone calls
+  abbrev of_calls : Calls → Entries
+  of_calls list = record { first = first; calls = list }
+
+  parted : alone walked.done ++ alone walked.more ≡ alone calls
+  parted = sym (map-append (λ (c : Call). (0, c)) walked.done walked.more) ∙ ap alone (sym walked.parts)
+
+  first_done : IsEarlier middle.history whole
+  first_done = subst (λ (h : Entries). IsEarlier h whole) (sym walked.history) (record { first = refl; calls = record { rest = alone walked.more; makes = parted } })
+
+  all_done : walked.more ≡ [] → middle.history ≡ whole
   all_done none =
-      walked.history ∙ ap alone (sym (append-nil walked.done) ∙ ap (λ (cs : List Call). walked.done ++ cs) (sym none) ∙ sym walked.parts)
+      walked.history ∙ ap of_calls (ap alone (sym (append-nil walked.done) ∙ ap (λ (cs : List Call). walked.done ++ cs) (sym none) ∙ sym walked.parts))
 
-  one_done : (c : Call) → walked.more ≡ c ∷ [] → middle.history ++ (0, c) ∷ [] ≡ alone calls
+  one_done : (c : Call) → walked.more ≡ c ∷ [] → then_calls middle.history (c ∷ []) ≡ whole
   one_done c one =
-      ap (λ (h : Entries). h ++ (0, c) ∷ []) walked.history ∙ sym (map-append (λ (d : Call). (0, d)) walked.done (c ∷ []))
-      ∙ ap alone (ap (λ (cs : List Call). walked.done ++ cs) (sym one) ∙ sym walked.parts)
+      ap (λ (h : Entries). then_calls h (c ∷ [])) walked.history
+      ∙ ap of_calls (sym (map-append (λ (d : Call). (0, d)) walked.done (c ∷ [])) ∙ ap alone (ap (λ (cs : List Call). walked.done ++ cs) (sym one) ∙ sym walked.parts))
 
-  facts : (c : Call) (others : List Call) → walked.more ≡ c ∷ others → IsScriptCall c × IsReadWhole c × IsAccepted repository middle.history c
+  facts : (c : Call) (others : List Call) → walked.more ≡ c ∷ others → IsScriptCall c × IsReadWhole c × CanBeNext middle.history c
   facts c others one = (
     (subst (λ (cs : List Call). AllByRecursion IsScriptCall cs) one walked.can).0,
     (subst (λ (cs : List Call). AllByRecursion IsReadWhole cs) one walked.short).0,
@@ -185,7 +214,7 @@ module _ (calls : List Call) (middle : Standing) (left : List ℕ) (walked : Wal
   )
 
   -- the input has ended, and the last command, as far as it goes, was done
-  ends_well : (rest : Option (List ℕ)) (now : Entries) → EndsWell (Some left) rest middle now → now ≡ alone calls
+  ends_well : (rest : Option (List ℕ)) (now : Entries) → EndsWell (Some left) rest middle now → now ≡ whole
   ends_well None now ends = absurd ends.reads.0
   ends_well (Some rest) now ends =
       let command = ends.said.command in
@@ -197,7 +226,7 @@ module _ (calls : List Call) (middle : Standing) (left : List ℕ) (walked : Wal
           (subst (λ (bytes : List ℕ). Tells middle (asked_by bytes) ends.said.answer ends.after.history) none tells).1
       nothing command none (inr want) = want.2
 
-      by : ((walked.more ≡ []) × (ends.said.command ≡ [])) ⊎ ((c : Call) × (walked.more ≡ c ∷ []) × (ends.said.command ≡ call_text c)) → now ≡ alone calls
+      by : ((walked.more ≡ []) × (ends.said.command ≡ [])) ⊎ ((c : Call) × (walked.more ≡ c ∷ []) × (ends.said.command ≡ call_text c)) → now ≡ whole
       by (inl (none, empty)) = ends.same ∙ nothing ends.said.command empty ends.answers.tells ∙ all_done none
       by (inr (c, one, is)) =
           let (can, short, accepted) = facts c [] one in
@@ -231,29 +260,32 @@ module _ (calls : List Call) (middle : Standing) (left : List ℕ) (walked : Wal
           let all : left ≡ fails.command = reads.0 ∙ ap (λ (bytes : List ℕ). fails.command ++ bytes) reads.2 ∙ append-nil fails.command in
           by fails.command refl (wider fails.command (left_next walked.more fails.command walked.can walked.short reads.1 (sym walked.left_is ∙ all)).is)
 
-module _ (history : Entries) (state : Contents) (replays : replay repository history ≡ Some state) (can : AllByRecursion IsScriptCall (calls_of history)) (short : AllByRecursion IsReadWhole (calls_of history)) where
+module _ (history : Entries) (state : Contents) (replays : replay_book repository history ≡ Some state) (can : AllByRecursion IsScriptCall (calls_of history.calls)) (short : AllByRecursion IsReadWhole (calls_of history.calls)) where
   abbrev calls : List Call
-  calls = calls_of history
+  calls = calls_of history.calls
 
-  back : replay repository (at_seat_0 history) ≡ Some state
-  back = run_at_seat_0 history (Some initial) ∙ replays
+  abbrev start : Standing
+  start = record { history = new_book history.first; lines = 0; cause = no_account }
 
-  walked : (left : List ℕ) (middle : Standing) → Done (Some (kept_text history)) (Some left) (record { history = []; lines = 0; cause = no_account }) middle → Walked calls [] middle.history left
+  back : replay_book repository (at_seat_0 history) ≡ Some state
+  back = run_at_seat_0 history.first history.calls (Some history.first) ∙ replays
+
+  walked : (left : List ℕ) (middle : Standing) → Done (Some (kept_text history.calls)) (Some left) start middle → Walked calls (new_book history.first) middle.history left
   walked left middle done =
-      walk done.said (record { history = []; lines = 0; cause = no_account }) middle calls left done.follow done.well (sym (append-nil (section_text calls)) ∙ done.reads) can short (accepted_from [] calls (some_is_some back))
+      walk done.said start middle calls left done.follow done.well (sym (append-nil (section_text calls)) ∙ done.reads) can short (accepted_from (new_book history.first) calls (some_is_some back))
 
   ended : (left rest : Option (List ℕ)) (middle : Standing) (result : Result (Unit {0}) LoadFault) (now : Entries)
-      → Done (Some (kept_text history)) left (record { history = []; lines = 0; cause = no_account }) middle → Ends left rest middle result now → ComesBack history state result now
+      → Done (Some (kept_text history.calls)) left start middle → Ends left rest middle result now → ComesBack history state result now
   ended None rest middle result now done ends = absurd done.reads
   ended (Some left) rest middle (Ok unit) now done ends =
-      let all = ends_well calls middle left (walked left middle done) rest now ends in
-      (all, ap (replay repository) all ∙ back)
+      let all = ends_well history.first calls middle left (walked left middle done) rest now ends in
+      (all, ap (replay_book repository) all ∙ back)
   ended (Some left) rest middle (Err (Answer line text)) now done ends =
-      fails_never calls middle left (walked left middle done) rest line text.items now ends
+      fails_never history.first calls middle left (walked left middle done) rest line text.items now ends
   ended (Some left) rest middle (Err (Memory line)) now done ends =
-      subst (λ (h : Entries). IsBeginning h (at_seat_0 history)) (sym ends.same) (first_done calls middle left (walked left middle done))
+      subst (λ (h : Entries). IsEarlier h (at_seat_0 history)) (sym ends.same) (first_done history.first calls middle left (walked left middle done))
   ended (Some left) rest middle (Err (Talk why)) now done ends =
-      subst (λ (h : Entries). IsBeginning h (at_seat_0 history)) (sym ends.1) (first_done calls middle left (walked left middle done))
+      subst (λ (h : Entries). IsEarlier h (at_seat_0 history)) (sym ends.1) (first_done history.first calls middle left (walked left middle done))
 
 pub kept_is_loaded : KeptIsLoaded
 kept_is_loaded history state replays can short rest result now loads =

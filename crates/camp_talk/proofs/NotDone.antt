@@ -1,21 +1,41 @@
 -- Commands that are not done.
 use Rattle.camp_talk.proofs.Words.{◌≡◌, ◌≢◌, zero, suc, Bool, true, false, List, [], ◌∷◌, drop, map, ℕ, Result, Ok, Err, Vec, IfOk, refl, ap, sym, subst, true≢false, ◌∙◌, first_of, without_end, Asked, Call, Entries, Gives, LineFault, ScriptFault, Standing, Tells, reply_text}
-use Rattle.std.proofs.Common.{unwrap_or}
+use Rattle.std.proofs.Common.{◌+◌, ◌++◌, Some, length, length-append, unwrap_or}
 use Rattle.std.specs.List.{slice_get}
 use Rattle.camp_call.specs.declared.replies.Reply.{Reply}
 use Rattle.camp_call.specs.declared.replies.Reply.TheVariants as reply
-use Rattle.camp_object.specs.Asking.{Ask, alone_at}
-use Rattle.camp_repo.specs.Objects.{repository}
+use Rattle.camp_object.specs.Books.{AsksBook}
+use Rattle.camp_object.proofs.SameBooks.{same_book}
+use Rattle.camp_object.specs.declared.faults.Fault.TheVariants as fault
+use Rattle.camp_repo.specs.Objects.{number_told, repository}
 use Rattle.camp_talk.specs.Answers.{Replies}
 use Rattle.camp_talk.specs.Whys.{is_failure}
 use Rattle.camp_talk.specs.declared.questions.Asked.TheVariants.{Nothing}
 
 module _ (old now : Entries) (call : Call) where
+  -- a call for which memory ran out changes nothing
+  pub want_keeps : AsksBook repository 0 old call (Err fault.Memory) now → now ≡ old
+  want_keeps asks = same_book now old asks.first (asks.asks.says.exact refl)
+
+  -- an accepted call has the next number
+  pub next_number : (answer : Reply) (at : ℕ) → number_told answer ≡ Some at → AsksBook repository 0 old call (Ok answer) now → answer ≡ reply.Done (length old.calls + 1)
+  next_number (reply.Done n) at is asks =
+      let grown : length now.calls ≡ length old.calls + 1 = ap length (asks.asks.says.ends ∙ ap (λ (l : List (ℕ × Call)). l ++ (0, call) ∷ []) (asks.asks.says.exact refl)) ∙ length-append old.calls ((0, call) ∷ []) in
+      ap reply.Done (asks.asks.says.position ∙ grown)
+  next_number other at is asks = cc
+
+  -- a caller who is alone is never busy, and its seat never full
+  pub never_busy : {A : Type 0} {lost : ℕ} → AsksBook repository 0 old call (Err (fault.Busy lost)) now → A
+  never_busy asks = absurd (true≢false asks.asks.says.not_alone)
+
+  pub never_full : {A : Type 0} → AsksBook repository 0 old call (Err fault.Full) now → A
+  never_full asks = absurd (true≢false asks.asks.says.not_alone)
+
   -- if a text says that a call was not done, by a test that the text of an accepted one fails
   pub by_reply : (fails : List ℕ → Bool) → ((at : ℕ) → fails (reply_text (reply.Done at)) ≡ false) → (text : List ℕ) → fails text ≡ true
-      → (answer : Reply) → text ≡ reply_text answer → Ask repository (alone_at 0) old call (Ok answer) now → now ≡ old
+      → (answer : Reply) → text ≡ reply_text answer → AsksBook repository 0 old call (Ok answer) now → now ≡ old
   by_reply fails done text is (reply.Done at) tells asks = absurd (true≢false (sym is ∙ ap fails tells ∙ done at))
-  by_reply fails done text is other tells asks = asks.says.0.exact refl
+  by_reply fails done text is other tells asks = same_book now old asks.first (asks.asks.says.0.exact refl)
 
   -- a call that is answered by a refusal changes nothing
   pub replies_keep : {Z E : Type 0} (result : Result (Vec ℕ Z) E) → IfOk result (λ text. Replies old call text.items now)

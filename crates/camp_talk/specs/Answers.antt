@@ -3,8 +3,7 @@ use Rattle.std.specs.Prelude.{◌≡◌, ◌⊎◌, ℕ, ◌+◌, Bool, true, fa
 use Rattle.std.specs.Fmt.{decimal}
 use Rattle.camp_call.specs.declared.calls.Call.{Call}
 use Rattle.camp_call.specs.declared.replies.Reply.{Reply}
-use Rattle.camp_object.specs.Asking.{Ask, alone_at}
-use Rattle.camp_object.specs.Histories.{replay}
+use Rattle.camp_object.specs.Books.{AsksBook, replay_book}
 use Rattle.camp_repo.specs.Objects.{repository}
 use Rattle.camp_repo.specs.States.{Contents}
 use Rattle.camp_script.specs.Faults.{kind_words}
@@ -21,7 +20,7 @@ use Rattle.camp_talk.specs.Whys.{cause_of, is_failure, why_told}
 use Rattle.camp_talk.specs.declared.questions.Asked.{Asked}
 use Rattle.camp_talk.specs.declared.questions.Asked.TheVariants as asked
 
--- the state of a session: the accepted calls, the number of lines that were read, and the diagnostic of the last
+-- the state of a session: the accepted calls, with the state before them, the number of lines that were read, and the diagnostic of the last
 -- fault or refusal
 pub record Standing : Type 0 where
   pub history : Entries
@@ -39,7 +38,7 @@ memory_text = codes "memory\n"
 -- a call is executed while nobody else asks: the text is that of the reply, and this is the history after it
 pub record Replies (seen : Entries) (call : Call) (text : List ℕ) (now : Entries) : Type 0 where
   pub reply : Reply
-  pub asks : Ask repository (alone_at 0) seen call (Ok reply) now
+  pub asks : AsksBook repository 0 seen call (Ok reply) now
   pub tells : text ≡ reply_text reply
 
 -- the answer to a parsed command: a fault, by its line, counted from the start of the conversation; nothing, if
@@ -56,7 +55,7 @@ Tells before (Ok asked.Why) text now = (text ≡ why_told before.cause.told) × 
 -- answer the lines from before
 abbrev pub LearnsAt : Bool → Standing → List ℕ → List ℕ → Account → Type 0
 LearnsAt true before command text cause =
-    (state : Contents) × (replay repository before.history ≡ Some state) × (cause ≡ cause_of before.cause state command text)
+    (state : Contents) × (replay_book repository before.history ≡ Some state) × (cause ≡ cause_of before.cause state command text)
 LearnsAt false before command text cause = cause ≡ kept_behind text before.cause
 
 -- by the text of the answer

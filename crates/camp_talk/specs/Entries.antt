@@ -1,7 +1,8 @@
--- Accepted calls.
-use Rattle.std.specs.Prelude.{ℕ, List}
+-- The history of a repository.
 use Rattle.camp_call.specs.declared.calls.Call.{Call}
+use Rattle.camp_object.specs.Books.{Booked}
+use Rattle.camp_repo.specs.States.{Contents}
 
--- accepted calls, each under the number of its seat
+-- the state that a repository began with, and its accepted calls, each under the number of its seat
 abbrev pub Entries : Type 0
-Entries = List (ℕ × Call)
+Entries = Booked Contents Call

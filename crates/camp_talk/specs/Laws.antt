@@ -8,7 +8,7 @@ use Rattle.camp_call.specs.declared.calls.Call.{Call}
 use Rattle.camp_call.specs.declared.replies.Refusal.{Refusal}
 use Rattle.camp_call.specs.declared.replies.Refusal.TheVariants as refusal
 use Rattle.camp_call.specs.declared.replies.Reply.TheVariants.{Refused}
-use Rattle.camp_object.specs.Histories.{IsBeginning, replay}
+use Rattle.camp_object.specs.Books.{IsEarlier, new_book, replay_book}
 use Rattle.camp_repo.specs.Lawful.{IsLawfulState}
 use Rattle.camp_repo.specs.Objects.{repository}
 use Rattle.camp_repo.specs.States.{Contents}
@@ -72,25 +72,25 @@ FailuresAreTold =
 abbrev pub IsReadWhole : Call → Type 0
 IsReadWhole call = AllByRecursion (λ line. length line ≤ longest_read) (lines_of (call_text call))
 
--- the calls of a history, all at seat 0
+-- a history with its calls all at seat 0
 abbrev pub at_seat_0 : Entries → Entries
-at_seat_0 history = map (λ call. (0, call)) (calls_of history)
+at_seat_0 history = record { first = history.first; calls = map (λ call. (0, call)) (calls_of history.calls) }
 
--- the result of loading the text that stores a history: Ok, and its calls and its state are there; or memory or the
+-- the result of loading the text that stores a history into a repository that begins as it does: Ok, and its calls and its state are there; or memory or the
 -- reader ended it, and its first calls are there; and no command is reported as not done
 abbrev pub ComesBack : Entries → Contents → Result (Unit {0}) LoadFault → Entries → Type 0
-ComesBack history state (Ok done) now = (now ≡ at_seat_0 history) × (replay repository now ≡ Some state)
+ComesBack history state (Ok done) now = (now ≡ at_seat_0 history) × (replay_book repository now ≡ Some state)
 ComesBack history state (Err (Answer line text)) now = ⊥
-ComesBack history state (Err (Memory line)) now = IsBeginning now (at_seat_0 history)
-ComesBack history state (Err (Talk why)) now = IsBeginning now (at_seat_0 history)
+ComesBack history state (Err (Memory line)) now = IsEarlier now (at_seat_0 history)
+ComesBack history state (Err (Talk why)) now = IsEarlier now (at_seat_0 history)
 
 -- this holds of each history that leads to a state, however long, if a script can contain each of its calls
 abbrev pub KeptIsLoaded : Type 0
 KeptIsLoaded =
-    (history : Entries) (state : Contents) → replay repository history ≡ Some state →
-    AllByRecursion IsScriptCall (calls_of history) → AllByRecursion IsReadWhole (calls_of history) →
+    (history : Entries) (state : Contents) → replay_book repository history ≡ Some state →
+    AllByRecursion IsScriptCall (calls_of history.calls) → AllByRecursion IsReadWhole (calls_of history.calls) →
     (rest : Option (List ℕ)) (result : Result (Unit {0}) LoadFault) (now : Entries) →
-    Loads (Some (kept_text history)) rest [] result now → ComesBack history state result now
+    Loads (Some (kept_text history.calls)) rest (new_book history.first) result now → ComesBack history state result now
 
 -- lines after a refusal of a call, which begin with this line, give a cause: it is one of that refusal, what it says
 -- of the call and the state is true, and it comes after the branches that the call names, between the meaning of the

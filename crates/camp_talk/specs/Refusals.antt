@@ -73,8 +73,8 @@ cure reason.PatchExists = page (codes "Take another name. To have that patch her
 cure reason.NoPatch = page (codes "The command names tells which it has, and missing what another branch has and it lacks." ∷ [])
 cure reason.NothingToDo = page (codes "There is nothing to mend." ∷ [])
 cure reason.TooLarge = page (
-    codes "The limits: 256 branches, 4096 changes in a branch, 65535 lines in a side of an edit," ∷
-    codes "1000000 lines in a file. Cut the edit or the patch in parts, or take patches out of the branch." ∷ [])
+    codes "The limits: 65535 lines in a side of an edit, 1000000 lines in a file and, unless others were given," ∷
+    codes "256 branches and 4096 changes in a branch. Cut the edit or the patch in parts, or take patches out." ∷ [])
 cure reason.DoesNotApply = page (
     codes "add wants no file, remove a file without lines, and an edit a file with its old lines at LINE." ∷
     codes "Until more is recorded, file BRANCH PATH tells what is there before the first change." ∷ [])

@@ -6,9 +6,10 @@ use Rattle.camp_base.specs.Signs.{newline, space}
 use Rattle.camp_base.specs.Trees.{Lines}
 use Rattle.camp_catch.specs.declared.catches.Catch.{Catch}
 use Rattle.camp_prim.specs.declared.primitives.Primitive.{Primitive}
+use Rattle.camp_call.specs.declared.calls.Call.{Call}
 use Rattle.camp_call.specs.declared.replies.Reply.TheVariants.{Refused}
 use Rattle.camp_notation.specs.Catches.{catch_text}
-use Rattle.camp_object.specs.Histories.{replay}
+use Rattle.camp_object.specs.Books.{replay_book}
 use Rattle.camp_questions.specs.Along.{AreAlong}
 use Rattle.camp_questions.specs.Annotations.{AreAnnotated}
 use Rattle.camp_questions.specs.Answers.{AnswerOf}
@@ -136,7 +137,7 @@ abbrev pub foreseen_told : Foreseen → List ℕ
 foreseen_told seen = counted (codes "whatif") (reply_text seen.reply ++ standing_text seen.changed)
 
 -- a script that restores a history
-abbrev pub kept_told : Entries → List ℕ
+abbrev pub kept_told : List (ℕ × Call) → List ℕ
 kept_told history = counted (codes "keep") (kept_text history)
 
 -- the forms of commands, or the meanings of refusals
@@ -144,7 +145,7 @@ abbrev pub help_told : Topic → List ℕ
 help_told topic = counted (codes "help") (help_text topic)
 
 -- the answer to each question, at the state after a history
-abbrev pub TellsAt : Entries → Contents → Question → List ℕ → Type 0
+abbrev pub TellsAt : List (ℕ × Call) → Contents → Question → List ℕ → Type 0
 TellsAt history state (question.Needs branch names) text =
     IsTold (names_told (codes "needs")) (AreNeeded state branch names) text
 TellsAt history state (question.Held branch names) text =
@@ -172,4 +173,4 @@ TellsAt history state (question.Help topic) text = text ≡ help_told topic
 -- the answer to a question after a history
 abbrev pub TellsQuestion : Entries → Question → List ℕ → Type 0
 TellsQuestion history question text =
-    (state : Contents) × (replay repository history ≡ Some state) × TellsAt history state question text
+    (state : Contents) × (replay_book repository history ≡ Some state) × TellsAt history.calls state question text

@@ -109,6 +109,7 @@ fn answer_asked(
 
 // Executes a call and renders its reply. The text for an accepted call is made before it is executed, so that
 // no call is accepted without a report.
+#[tactic(auto, using(crate::proofs::NotDone::want_keeps, crate::proofs::NotDone::next_number, crate::proofs::NotDone::never_busy, crate::proofs::NotDone::never_full))]
 fn reply(alloc: Global, book: &mut Book<State>, call: &Call) -> Result<Vec<u8>, AllocError>
     ensures text { IfOk result (λ text. Replies book.old call.now text.items book.new) }
     ensures kept { OnErr result (book.new ≡ book.old) }
@@ -127,7 +128,7 @@ fn reply(alloc: Global, book: &mut Book<State>, call: &Call) -> Result<Vec<u8>, 
 
 // Renders the reply to the next accepted call.
 fn accepted_text(alloc: Global, book: &Book<State>) -> Result<Vec<u8>, AllocError>
-    ensures { IfOk result (λ text. text.items ≡ answer_text (Ok (Reply.Done (length book.now + 1)))) }
+    ensures { IfOk result (λ text. text.items ≡ answer_text (Ok (Reply.Done (length book.now.calls + 1)))) }
 {
     let at = book.history().len() as u64 + 1;
     answer_text(alloc, &Ok(Reply::Done(at)))

@@ -35,7 +35,7 @@ mod views;
 
 pub use accounts::Account;
 pub use answers::write_answer;
-pub use camp_repo::{Book, State};
+pub use camp_repo::{Book, LimitFault, Limits, State, new_book};
 pub use dialogues::{Conversation, Dialogue, talk};
 pub use faults::{LoadFault, TalkFault};
 pub use frames::{FrameFault, FramedConversation};

@@ -115,8 +115,8 @@ pub(crate) fn cure(reason: Reason) -> &'static str
             "The command names tells which it has, and missing what another branch has and it lacks.\n",
         Reason::NothingToDo => "There is nothing to mend.\n",
         Reason::TooLarge => {
-            "The limits: 256 branches, 4096 changes in a branch, 65535 lines in a side of an edit,\n\
-            1000000 lines in a file. Cut the edit or the patch in parts, or take patches out of the branch.\n"
+            "The limits: 65535 lines in a side of an edit, 1000000 lines in a file and, unless others were given,\n\
+            256 branches and 4096 changes in a branch. Cut the edit or the patch in parts, or take patches out.\n"
         }
         Reason::DoesNotApply => {
             "add wants no file, remove a file without lines, and an edit a file with its old lines at LINE.\n\

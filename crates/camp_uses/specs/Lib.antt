@@ -1,4 +1,5 @@
 pub mod Asked
+pub mod Kept
 pub mod NumberLaws
 pub mod NumberList
 pub mod Questioned

@@ -2,7 +2,7 @@
 ghost use Rattle.std.specs.Prelude.{IfOk, IfErr};
 ghost use Rattle.camp_uses.specs.Runs.{IsOutputOf, IsToldOf};
 
-use camp_run::{RunFault, run_book};
+use camp_run::{Limits, RunFault, run_book};
 use std::alloc::Global;
 
 /// Runs a script in memory.
@@ -12,6 +12,6 @@ pub fn run(alloc: Global, script: &[u8], history: bool) -> Result<Vec<u8>, RunFa
 {
     let mut reader = script;
     let mut written = Vec::new(alloc);
-    run_book(alloc, &mut reader, &mut written, history)?;
+    run_book(alloc, Limits::default(), &mut reader, &mut written, history)?;
     Ok(written)
 }

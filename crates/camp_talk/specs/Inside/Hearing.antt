@@ -1,7 +1,7 @@
 -- Reading a command and executing it.
 use Rattle.std.specs.Prelude.{◌≡◌, ℕ, ◌+◌, Bool, true, false, List, length, Option, Some, Result, Ok, Err, Vec}
 use Rattle.std.specs.Io.KnownBytes.{Consumes}
-use Rattle.camp_object.specs.Histories.{replay}
+use Rattle.camp_object.specs.Books.{replay_book}
 use Rattle.camp_repo.specs.Objects.{repository}
 use Rattle.camp_repo.specs.States.{Contents}
 use Rattle.camp_script.specs.Lines.{lines_of}
@@ -20,7 +20,7 @@ use Rattle.camp_talk.specs.declared.questions.Asked.{Asked}
 -- the diagnostic, by the lines of a command and its parsed form
 abbrev pub LearnsWith : Bool → Standing → List (List ℕ) → Result Asked LineFault → List ℕ → Account → Type 0
 LearnsWith true before lines asked text cause =
-    (state : Contents) × (replay repository before.history ≡ Some state) × (cause ≡ cause_with before.cause state lines asked text)
+    (state : Contents) × (replay_book repository before.history ≡ Some state) × (cause ≡ cause_with before.cause state lines asked text)
 LearnsWith false before lines asked text cause = cause ≡ kept_behind text before.cause
 
 -- by the text of its answer

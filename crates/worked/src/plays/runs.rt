@@ -9,7 +9,7 @@ use crate::plays::gates::{Delays, InTurns};
 use crate::plays::{Entry, append_words};
 use crate::words::{joined, meaning_of, split_word};
 use bstr::ByteSlice;
-use camp_run::{NoGate, run_book, run_head, run_head_at, run_locked};
+use camp_run::{Limits, NoGate, run_book, run_head, run_head_at, run_locked};
 use std::alloc::{AllocError, Global};
 use std::io::{Read, Write};
 use std::sync::Wait;
@@ -204,18 +204,23 @@ fn answer<T: Threads + Wait + Sync, R: Read, W: Write>(
     writer: &mut W,
 ) -> Result<(), PlayFault> {
     let history = matches!(manner.told, Told::Answers);
+    let limits = Limits::default();
     match manner.means {
-        Means::Book => ran(run_book(alloc, reader, writer, history)),
-        Means::Locked => ran(run_locked(rt, alloc, reader, writer, history)),
+        Means::Book => ran(run_book(alloc, limits, reader, writer, history)),
+        Means::Locked => ran(run_locked(rt, alloc, limits, reader, writer, history)),
         Means::Head(tries) if is_allowed(tries) => {
             if delays.are_none() {
-                return ran(run_head(rt, alloc, reader, writer, history, tries, &NoGate));
+                return ran(run_head(rt, alloc, limits, reader, writer, history, tries, &NoGate));
             }
-            ran(run_head_at(rt, alloc, reader, writer, history, tries, delays, delays))
+            ran(run_head_at(
+                rt, alloc, limits, reader, writer, history, tries, delays, delays,
+            ))
         }
         Means::Turns(tries) if is_allowed(tries) => {
             let gate = InTurns::new(rt, delays);
-            ran(run_head_at(rt, alloc, reader, writer, history, tries, &gate, &gate))?;
+            ran(run_head_at(
+                rt, alloc, limits, reader, writer, history, tries, &gate, &gate,
+            ))?;
             gate.are_over()
         }
         Means::Head(_) | Means::Turns(_) => Err(PlayFault::Wrong("1 to 1000 tries")),

@@ -1,24 +1,9 @@
-use Rattle.camp_clients.proofs.Words.{[], take, zero-add, arith, length-take-le, lists_of, vec_items, common_steps}
-use Rattle.std.proofs.lemmas.List.{map_push}
-use Rattle.camp_clients.proofs.SectionSteps.{one_by_one_push}
-use Rattle.camp_clients.proofs.Vectors.{lists_more, length-lists_of}
+use Rattle.camp_clients.proofs.Words.{[], IfOk-weaker, OneByOne, begun, lists_of, subst}
 use Rattle.camp_clients.proofs.one_by_one.serial.Goals as goal
 
-pub loop-seat-preserved : goal.loop-seat-preserved
-loop-seat-preserved g c =
-    let inv = c.loop-seat.invariant in
-    record {
-      so_far = rw (
-        lists_more c.args.sections.now c.loop-seat.seat c.index-sections-seat.result c.loop-seat-test.true c.index-sections-seat.is,
-        c.push_reserved.ensures.items,
-        map_push vec_items c.loop-seat.answers.items c.in_ok-at_seat.field-0,
-      )
-          (one_by_one_push g.State.Object.object 0 [] (lists_of (take c.loop-seat.seat c.args.sections.now)) (lists_of c.loop-seat.answers.items) c.loop-seat.book
-          c.index-sections-seat.result.items c.in_ok-at_seat.field-0.items c.at_seat.new.book inv.so_far
-          (rw (zero-add, length-lists_of, length-take-le c.loop-seat.seat c.args.sections.now (omega arith), ← c.deref.ensures.value) c.in_ok-at_seat.ensures));
-      answered = omega (arith, inv.answered, c.push_reserved.ensures.len);
-      space = omega (arith, inv.space, c.push_reserved.ensures.capacity);
-    }
-
 pub returns : goal.returns
-returns g c = grind (arith, common_steps)
+returns g c = record {
+  serial = IfOk-weaker c.serial_from.result _ _ (λ run serial.
+      subst (λ (first : g.row.State.Denot). OneByOne (begun g.State.Object.object first) 0 [] (lists_of c.args.sections.now) (lists_of run.answers.items) run.book.calls)
+      c.in_ok-initial.ensures.exact serial) c.serial_from.ensures.serial;
+}

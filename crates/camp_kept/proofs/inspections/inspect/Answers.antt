@@ -1,7 +1,7 @@
 use Rattle.std.proofs.Common.{◌∙◌, length, ap}
 use Rattle.camp_kept.proofs.Committing.{counted}
 use Rattle.camp_kept.proofs.Refusing.{refused_at_once}
-use Rattle.camp_script.specs.Keeping.{calls_of}
+use Rattle.camp_kept.specs.Accepting.{stored_of}
 use Rattle.camp_store.specs.Logs.{texts_of}
 use Rattle.camp_kept.proofs.inspections.inspect.Goals as goal
 
@@ -11,10 +11,10 @@ returns-in_err-reading-clause-refused c =
 
 pub returns-clause-told : goal.returns-clause-told
 returns-clause-told c = record {
-  calls = calls_of c.in_ok-book.book;
+  stored = stored_of c.in_ok-book.book;
   texts = texts_of c.in_ok-reading.reading.texts.items;
   are = c.in_ok-book.ensures.recalled.are;
-  count_is = ap length c.history.ensures.value ∙ counted c.in_ok-book.book;
+  count_is = ap length c.history.ensures.value ∙ counted c.in_ok-book.book.calls;
   digest_is = c.in_ok-reading.ensures.reading.digest_is;
   leaves = c.left_out.ensures c.args.bytes.now c.in_ok-reading.ensures.reading c.in_ok-book.ensures.short;
 }

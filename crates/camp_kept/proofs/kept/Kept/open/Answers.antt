@@ -1,10 +1,11 @@
 use Rattle.std.proofs.Common.{◌≡◌, ◌≤◌, ◌∙◌, List, ℕ, IsTrue, length, ap, subst, sym, arith}
+use Rattle.camp_kept.specs.Accepting.{stored_of}
 use Rattle.camp_kept.specs.Keeping.{AreTexts, most_unbegun, store_texts}
 use Rattle.camp_kept.proofs.Committing.{counted}
 use Rattle.camp_kept.proofs.Listing.{legal_alone}
 use Rattle.camp_kept.proofs.Opening.{as_read, no_bytes, tells_too, told_again, told_short}
 use Rattle.camp_kept.proofs.Refusing.{unclosed_unopened, untitled_unopened}
-use Rattle.camp_script.specs.Keeping.{calls_of}
+use Rattle.camp_repo.specs.States.{Contents}
 use Rattle.camp_store.specs.Logs.{KeepsTexts, disk_of, texts_of}
 use Rattle.camp_store.specs.Readings.{IsReading}
 use Rattle.camp_store.proofs.BlockLemmas.{kept_stands, reading_stands}
@@ -23,9 +24,9 @@ keeps g c is =
     (c.in-Ok-open.ensures.keeps (subst (λ f. IsReading f c.in-Ok.found.0) (sym c.in-Ok.ensures.seen) is) c.in-Ok.ensures.settled)
 
 -- after the title it has those of the calls
-all : (g : Over) (c : In-Ok-begin g) → KeepsTexts g.D.Disk.seen g.D.Disk.may_leave (texts_of c.deref.result.now) c.in-Ok-open.log → KeepsTexts g.D.Disk.seen g.D.Disk.may_leave (store_texts (calls_of c.in-Ok.found.1)) c.in-Ok-begin.log
+all : (g : Over) (c : In-Ok-begin g) → KeepsTexts g.D.Disk.seen g.D.Disk.may_leave (texts_of c.deref.result.now) c.in-Ok-open.log → KeepsTexts g.D.Disk.seen g.D.Disk.may_leave (store_texts (stored_of c.in-Ok.found.1)) c.in-Ok-begin.log
 all g c keeps =
-    c.in-Ok-begin.ensures.keeps (calls_of c.in-Ok.found.1) (subst (λ ts. AreTexts ts (calls_of c.in-Ok.found.1)) (ap texts_of (sym c.deref.ensures.value)) c.in-Ok.ensures.recalled.are) keeps
+    c.in-Ok-begin.ensures.keeps (stored_of c.in-Ok.found.1) (subst (λ ts. AreTexts ts (stored_of c.in-Ok.found.1)) (ap texts_of (sym c.deref.ensures.value)) c.in-Ok.ensures.recalled.are) keeps
 
 pub returns-in-Err-open-clause-crash_err : goal.returns-in-Err-open-clause-crash_err
 returns-in-Err-open-clause-crash_err g c calls told clean f now =
@@ -46,16 +47,20 @@ returns-in-Ok-begin-clause-holds g c clean =
     let book = c.in-Ok.found.1 in
     let is = c.in-Ok.ensures.reading (subst (λ b. IsTrue b) (c.in-Ok-begin.ensures.clean ∙ c.in-Ok-open.ensures.clean) clean) in
     record {
-      accepted = record { can = c.in-Ok.ensures.recalled.can; legal = legal_alone book c.history.ensures.legal };
+      accepted = record {
+        default = ap (λ (state : Contents). state.limits) c.in-Ok.ensures.recalled.first;
+        can = c.in-Ok.ensures.recalled.can;
+        legal = legal_alone book c.history.ensures.first c.history.ensures.legal;
+      };
       keeps = all g at.In-Ok-begin (keeps g at.After-begin is);
-      count_is = ap length c.history.ensures.value ∙ counted book;
+      count_is = ap length c.history.ensures.value ∙ counted book.calls;
     }
 
 pub returns-in-Ok-begin-clause-crash : goal.returns-in-Ok-begin-clause-crash
 returns-in-Ok-begin-clause-crash g c calls told clean f now =
     let at = goal.at.returns-in-Ok-begin-clause-crash g c in
     let reading = c.in-Ok.found.0 in
-    let others = calls_of c.in-Ok.found.1 in
+    let others = stored_of c.in-Ok.found.1 in
     let texts = texts_of reading.texts.items in
     let file = g.D.Disk.seen c.args.disk in
     let is = c.in-Ok.ensures.reading (subst (λ b. IsTrue b) (c.in-Ok-begin.ensures.clean ∙ c.in-Ok-open.ensures.clean) clean) in

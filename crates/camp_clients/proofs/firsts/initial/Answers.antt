@@ -1,7 +1,7 @@
 use Rattle.camp_clients.proofs.Words.{IfOk-weaker, subst, sym}
 use Rattle.camp_object.specs.Objects.{IsFirst}
 use Rattle.camp_object.proofs.Replays.{initial_first}
-use Rattle.camp_clients.proofs.heads.initial.Goals as goal
+use Rattle.camp_clients.proofs.firsts.initial.Goals as goal
 
 pub returns-clause-first : goal.returns-clause-first
 returns-clause-first g c =
