@@ -213,6 +213,7 @@ class Errors(unittest.TestCase):
 
             self.assertEqual(said("import camp; camp.diff('f', None, 'x')"), "")
             missing = said("import camp; camp.Repository()")
+            self.assertEqual(missing.splitlines()[-1], said("import camp; camp.require_library()").splitlines()[-1])
             self.assertRegex(missing, "ImportError: libcamp.so is not in .*: run clients/build .* or set CAMP_LIB_DIR")
             self.assertNotIn("Exception ignored", missing)
             with open(os.path.join(folder, "libcamp.so"), "wb") as file:

@@ -25,8 +25,7 @@ PAGES = {"docs/embedding.md": b"ok 1\nok 2\ntree 1\nfile notes 1\n=hello\n", "cl
 COMPLETED = {"--st": "--store", "--store no": "notes", "--export x": ""}
 PYTHON = """
 import camp, sys
-from camp._library import LIBRARY
-assert LIBRARY.camp_open
+camp.require_library()
 print(camp.__version__, camp.__file__.startswith(sys.prefix))
 if sys.argv[1:] == ["run"]:
     with camp.Repository() as repository:

@@ -13,7 +13,8 @@ import sys
 from typing import Callable, List, NamedTuple, Optional, Tuple
 
 try:
-    import camp  # noqa: F401
+    import camp
+    camp.require_library()
 except ImportError as error:
     print("campvc: {}".format(error), file=sys.stderr)
     sys.exit(128)

@@ -78,3 +78,9 @@ class _Library:
 
 
 LIBRARY = _Library()
+
+
+def require_library() -> None:
+    """Loads the library now, and not when the first repository is opened: a program that works with none says so at its start.
+    The ImportError says what to run."""
+    LIBRARY.camp_open

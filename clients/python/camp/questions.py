@@ -7,7 +7,7 @@ import threading
 from typing import Any, Iterable, List, Optional, Type, TypeVar, Union
 
 from . import answers
-from ._library import DONE, LIBRARY, MEMORY, NOT_OPEN, Handle
+from ._library import DONE, LIBRARY, MEMORY, NOT_OPEN, Handle, require_library
 from .answers import AnnotatedLine, Answer, Conflict, Hunk, Outcome, Shown, Tree
 from .changes import Change, Text, command, list_of, to_bytes
 from .errors import Closed, Error, OutOfMemory, Unexpected, error_of
@@ -38,8 +38,8 @@ class Questions:
     _at_memory: Type[Error] = OutOfMemory
 
     def __init__(self) -> None:
-        # Where there is no library, this raises what to do before there is anything to close.
-        self._function("close")
+        # Where there is none, this is raised before there is anything to close.
+        require_library()
         self._handle = Handle()
         self._lock = threading.Lock()
 
@@ -174,11 +174,8 @@ class Questions:
         """Why a command is refused or has a fault. A view is not asked that."""
         return ""
 
-    def _function(self, name: str) -> Any:
-        return getattr(LIBRARY, "{}_{}".format(self._kind, name))
-
     def _call(self, function: str, *rest: Any) -> Any:
-        return self._function(function)(self._handle, *rest)
+        return getattr(LIBRARY, "{}_{}".format(self._kind, function))(self._handle, *rest)
 
     def _respond(self, text: bytes) -> bytes:
         """The responses to a text. The lock is held."""

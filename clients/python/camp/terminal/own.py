@@ -46,8 +46,8 @@ class Conversation(Session):
                 self.fail(["{} ends inside a record: nothing of it is recorded".format(path)])
         finally:
             self.end_reading()
-        calls = counted(self.accepted - before, "call")
-        self.screen.say("{}, line {}: the rest is not read; {} accepted".format(path, end, calls) if end else "read {}: {} accepted".format(path, calls))
+        where = "{}, line {}: the rest is not read;".format(path, end) if end else "read {}:".format(path)
+        self.screen.say("{} {} accepted".format(where, counted(self.accepted - before, "call")))
         self.say_changed()
 
     def _read_lines(self, lines: Sequence[bytes]) -> int:
