@@ -23,4 +23,5 @@ pub mod ToldLemmas
 pub mod TurnLemmas
 pub mod Turns
 pub mod ViewLemmas
+pub mod VisibleLemmas
 pub mod Whys

@@ -17,4 +17,5 @@ pub mod Requests
 pub mod Talks
 pub mod Told
 pub mod Views
+pub mod Visible
 pub mod Whys

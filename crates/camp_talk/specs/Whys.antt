@@ -16,6 +16,7 @@ use Rattle.camp_talk.specs.Cutting.{lines_in}
 use Rattle.camp_talk.specs.Pages.{page}
 use Rattle.camp_talk.specs.Refusals.{cure, saying}
 use Rattle.camp_talk.specs.Told.{counted}
+use Rattle.camp_talk.specs.Visible.{visible}
 use Rattle.camp_talk.specs.declared.awaited.Awaited.{Awaited}
 use Rattle.camp_talk.specs.declared.awaited.Awaited.TheVariants.{Body, Group, GroupBody, Nothing, Signed}
 use Rattle.camp_talk.specs.declared.questions.Asked.{Asked}
@@ -125,13 +126,13 @@ abbrev pub cut_text : List ℕ → List ℕ
 cut_text line =
     if nat_lt most_shown (length line) then page (codes "Its first 200 bytes are shown, and it has more." ∷ []) else []
 
--- a line after `>`, as much of it as is shown
+-- a line after `>`, as much of it as is shown, by visible bytes
 abbrev pub shown_line : List ℕ → List ℕ
-shown_line line = codes ">" ++ take most_shown line ++ codes "\n" ++ cut_text line
+shown_line line = codes ">" ++ visible (take most_shown line) ++ codes "\n" ++ cut_text line
 
 -- text: a word is not a name
 abbrev pub no_name_text : List ℕ → List ℕ
-no_name_text word = codes "This is no name: " ++ word ++ codes "\n"
+no_name_text word = codes "This is no name: " ++ visible word ++ codes "\n"
 
 -- the same, if it is not too long to be shown
 abbrev pub misnamed_text : List ℕ → List ℕ
@@ -169,11 +170,15 @@ ends_text stands expected =
     if bytes_eq (trimmed stands) (trimmed expected)
     then page (codes "They differ in white space at their ends, as a blank or a carriage return is." ∷ []) else []
 
--- text: the file has another line than an edit removes
-abbrev pub met_text : ℕ → List ℕ → List ℕ → List ℕ
-met_text at stands expected =
+-- a text with the line of a file, and another one that an edit removes
+abbrev pub met_lines : ℕ → List ℕ → List ℕ → List ℕ
+met_lines at stands expected =
     codes ": line " ++ decimal at ++ codes " is\n=" ++ stands ++ codes "\nand the edit takes away\n-" ++ expected
     ++ codes "\n"
+
+-- text: the file has another line than an edit removes
+abbrev pub met_text : ℕ → List ℕ → List ℕ → List ℕ
+met_text at stands expected = met_lines at (visible stands) (visible expected)
 
 -- a text with two numbers
 abbrev pub two_numbers : List ℕ → ℕ → List ℕ → ℕ → List ℕ → List ℕ
@@ -184,7 +189,7 @@ two_numbers front first middle second back = front ++ decimal first ++ middle ++
 abbrev pub lacks_text : ℕ → Option (List ℕ) → List ℕ
 lacks_text at None = codes "LINE is " ++ decimal at ++ codes ": it is at most one more than the file has lines.\n"
 lacks_text at (Some line) =
-    codes "There is no line " ++ decimal at ++ codes ", where the edit takes away\n-" ++ line ++ codes "\n"
+    codes "There is no line " ++ decimal at ++ codes ", where the edit takes away\n-" ++ visible line ++ codes "\n"
 
 -- text: why a change does not apply: what exists, and what was expected
 abbrev pub misfit_text : Misfit → List ℕ

@@ -1,4 +1,5 @@
 ghost use Rattle.camp_talk.specs.Laws.{CausesAreTold, CountsAreTold, FailuresAreTold, FaultsAreTold, KeptIsLoaded, RecordsAreAwaited, RefusalsAreTold, RequestsAreServedInTurn};
+ghost use Rattle.camp_talk.specs.Visible.{ShownBytesArePrintable};
 
 /// The first line of a counted answer gives the number of lines that follow.
 #[tactic(auto, using(crate::proofs::CountLemmas::counts_are_told))]
@@ -44,4 +45,10 @@ pub fn faults_are_told()
 /// line, or a line that may be one was no command, and each command after it is one of these lines.
 pub fn records_are_awaited()
     ensures law { RecordsAreAwaited }
+{}
+
+/// Bytes of a command or a file that `why` shows are printable ASCII characters, whatever they are.
+#[tactic(auto, using(crate::proofs::VisibleLemmas::shown_bytes_are_printable))]
+pub fn shown_bytes_are_printable()
+    ensures law { ShownBytesArePrintable }
 {}

@@ -32,6 +32,7 @@ mod told_refusals;
 mod told_whys;
 mod topics;
 mod views;
+mod visible;
 
 pub use accounts::Account;
 pub use answers::write_answer;
@@ -41,7 +42,7 @@ pub use faults::{LoadFault, TalkFault};
 pub use frames::{FrameFault, FramedConversation};
 pub use laws::{
     causes_are_told, counts_are_told, failures_are_told, faults_are_told, kept_is_loaded,
-    records_are_awaited, refusals_are_told, requests_are_served_in_turn,
+    records_are_awaited, refusals_are_told, requests_are_served_in_turn, shown_bytes_are_printable,
 };
 pub use loads::load;
 pub use questions::{Question, Reason, Topic};

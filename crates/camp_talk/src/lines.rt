@@ -1,10 +1,12 @@
 //! Reading the lines of a reader.
 ghost use Rattle.std.specs.Io.KnownBytes.{Consumes};
-ghost use Rattle.std.specs.Prelude.{◌≡◌, ◌==◌, ◌+◌, ◌-◌, ◌^◌, ◌<◌, ◌≤◌, ◌++◌, [], length, take, drop, IfOk, IfErr, OnErr};
+ghost use Rattle.std.specs.Prelude.{◌≡◌, ◌≢◌, ◌⊎◌, ◌==◌, ◌+◌, ◌-◌, ◌^◌, ◌<◌, ◌≤◌, ◌++◌, [], length, take, drop, IfOk, IfErr, OnErr, OnOk};
+ghost use Rattle.std.specs.IoError.{error_kind};
 ghost use Rattle.std.specs.List.{position_or_len};
 ghost use Rattle.camp_base.specs.Signs.{newline};
 ghost use Rattle.camp_talk.specs.Cutting.{as_read, longest_read};
 ghost use Rattle.camp_talk.specs.Inside.Parts.{IsReading, ReadsLine, StopsAtLine, Takes, feed_of, last_seen, seen_of};
+ghost use Rattle.camp_talk.specs.declared.faults.TalkFault.TheVariants as fault;
 
 use crate::TalkFault;
 use std::io::{self, BufRead, ErrorKind};
@@ -94,6 +96,9 @@ fn read_some<R: BufRead>(reader: &mut R, text: &mut Vec<u8>, room: usize) -> Res
 
 /// Returns the fault of a reader that failed with this error; retries a reader that is interrupted.
 pub(crate) fn unless_interrupted(error: io::Error) -> Result<(), TalkFault>
+    ensures again { OnOk result (error_kind error ≡ ErrorKind.Interrupted) }
+    ensures handed { IfErr result (λ why. (why ≡ fault.Read error) ⊎ ((why ≡ fault.Memory) × (error_kind error ≡ ErrorKind.OutOfMemory))) }
+    ensures stops { OnErr result (error_kind error ≢ ErrorKind.Interrupted) }
     ensures fault { IfErr result IsReading }
 {
     match error.kind() {

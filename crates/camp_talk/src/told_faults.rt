@@ -9,6 +9,7 @@ use crate::awaited::{Awaited, begins_command, is_record, left_by};
 use crate::questions::Reason;
 use crate::told::{both, joined};
 use crate::told_refusals::cure;
+use crate::visible::visible;
 use bstr::ByteSlice;
 use camp_script::{FaultKind, LineFault, without_end};
 use camp_why::{Hint, look_at, misnamed};
@@ -127,12 +128,14 @@ fn awaited_text(awaited: Awaited) -> &'static str
     }
 }
 
-/// Renders an answer, followed by the line of its command after `>`, as much of it as is shown.
+/// Renders an answer, followed by the line of its command after `>`, as much of it as is shown, by visible
+/// bytes.
 pub(crate) fn with_line(alloc: Global, answer: &[u8], line: &[u8]) -> Result<Vec<u8>, AllocError>
     ensures { IfOk result (λ text. text.items ≡ answer.now ++ shown_line line.now) }
 {
+    let start = visible(alloc, shown(line))?;
     let end = shown_end(line).as_bytes();
-    joined(alloc, &[answer, b">", shown(line), end])
+    joined(alloc, &[answer, b">", start.as_slice(), end])
 }
 
 // Returns the start of a line, as much as is shown.
@@ -169,7 +172,8 @@ fn misnamed_text(alloc: Global, word: &[u8]) -> Result<Vec<u8>, AllocError>
     if word.len() > SHOWN {
         return Vec::from_slice(alloc, b"A word of more than 200 bytes is no name.\n");
     }
-    joined(alloc, &[b"This is no name: ", word, b"\n"])
+    let word = visible(alloc, word)?;
+    joined(alloc, &[b"This is no name: ", word.as_slice(), b"\n"])
 }
 
 // Renders that a line of a body is empty.

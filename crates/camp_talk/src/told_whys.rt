@@ -4,7 +4,7 @@ ghost use Rattle.camp_script.specs.Gives.{Gives};
 ghost use Rattle.camp_script.specs.Lines.{lines_of, words_of};
 ghost use Rattle.camp_script.specs.declared.faults.LineFault.{LineFault as SaidFault};
 ghost use Rattle.camp_talk.specs.Asking.{first_of};
-ghost use Rattle.camp_talk.specs.Whys.{against_text, cause_found, cause_text, cause_told, cause_with, change_text, cure_at, ends_text, facts_text, found_text, hindrance_text, is_failure, lacks_text, limit_cure, met_text, misfit_text, most_text, reason_in, refusal_lines, refusal_told, trimmed, two_numbers, why_told};
+ghost use Rattle.camp_talk.specs.Whys.{against_text, cause_found, cause_text, cause_told, cause_with, change_text, cure_at, ends_text, facts_text, found_text, hindrance_text, is_failure, lacks_text, limit_cure, met_lines, met_text, misfit_text, most_text, reason_in, refusal_lines, refusal_told, trimmed, two_numbers, why_told};
 ghost use Rattle.camp_talk.specs.declared.questions.Asked.{Asked as SaidAsked};
 ghost use Rattle.camp_why.specs.declared.misfits.Misfit.TheVariants.{EndsBefore};
 
@@ -20,6 +20,7 @@ use crate::told_against::{
 use crate::told_faults::{fault_cause, with_line};
 use crate::told_refusals::{cure, saying};
 use crate::topics::reason_at;
+use crate::visible::visible;
 use camp_base::{Line, Path};
 use camp_repo::{Refusal, State};
 use camp_script::{ScriptFault, Words};
@@ -383,7 +384,7 @@ fn lacks_text(alloc: Global, at: usize, lacks: &Option<Line>) -> Result<Vec<u8>,
         ));
     };
     let mut text = made(format!(in alloc; "There is no line {at}, where the edit takes away\n-"))?;
-    text.extend_from_slice(line.bytes())?;
+    text.extend_from_slice(&visible(alloc, line.bytes())?)?;
     text.push(b'\n')?;
     Ok(text)
 }
@@ -391,6 +392,14 @@ fn lacks_text(alloc: Global, at: usize, lacks: &Option<Line>) -> Result<Vec<u8>,
 // Renders that the file has another line than an edit removes.
 fn met_text(alloc: Global, at: usize, there: &[u8], expected: &[u8]) -> Result<Vec<u8>, AllocError>
     ensures { IfOk result (λ text. text.items ≡ met_text at there.now expected.now) }
+{
+    let there = visible(alloc, there)?;
+    let expected = visible(alloc, expected)?;
+    met_lines(alloc, at, &there, &expected)
+}
+
+fn met_lines(alloc: Global, at: usize, there: &[u8], expected: &[u8]) -> Result<Vec<u8>, AllocError>
+    ensures { IfOk result (λ text. text.items ≡ met_lines at there.now expected.now) }
 {
     let mut digits = Buffer::new();
     let at = digits.format(at).as_bytes();

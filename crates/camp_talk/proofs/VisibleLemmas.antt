@@ -1,0 +1,37 @@
+-- Whatever bytes are, they are shown by printable ones.
+use Rattle.camp_talk.proofs.Words.{◌≡◌, ◌<◌, ◌==◌, ◌+◌, ◌-◌, ℕ, Bool, true, false, cond, List, [], ◌∷◌, refl, ap, subst, sym, ◌∙◌, arith, nat_lt, eqb-true, All-head, All-tail}
+use Rattle.std.proofs.lemmas.Bool.{ltb-false, ltb-true}
+use Rattle.std.proofs.lemmas.Bool.Decides.{nat_tests}
+use Rattle.std.proofs.lemmas.List.Folds.{list_all-append}
+use Rattle.std.specs.List.{All, list_all}
+use Rattle.std.specs.Prelude.{◌/◌, ◌%◌}
+use Rattle.camp_base.specs.Signs.{is_printing}
+use Rattle.camp_notation.specs.Words.{hex_digit}
+use Rattle.camp_script.proofs.CanonicalLines.{both}
+use Rattle.camp_talk.specs.Visible.{ShownBytesArePrintable, visible, visible_byte}
+
+digit_is : (n : ℕ) → n < 16 → is_printing (hex_digit n) ≡ true
+digit_is n few = at (nat_lt n 10) refl
+  where
+    at : (b : Bool) → nat_lt n 10 ≡ b → is_printing (cond b (48 + n) (97 + (n - 10))) ≡ true
+    at true low = let less = ltb-true n 10 low in grind (arith, nat_tests, less)
+    at false high = let most = ltb-false n 10 high in grind (arith, nat_tests, most, few)
+
+byte_is : (byte : ℕ) → byte < 256 → list_all is_printing (visible_byte byte) ≡ true
+byte_is byte small = at (byte == 92) (is_printing byte) refl refl
+  where
+    at : (slash prints : Bool) → (byte == 92) ≡ slash → is_printing byte ≡ prints
+        → list_all is_printing (cond slash (92 ∷ byte ∷ []) (cond prints (byte ∷ []) (92 ∷ 120 ∷ hex_digit (byte / 16) ∷ hex_digit (byte % 16) ∷ []))) ≡ true
+    at true prints is prints_is = subst (λ (b : ℕ). list_all is_printing (92 ∷ b ∷ []) ≡ true) (sym (eqb-true byte 92 is)) refl
+    at false true is prints = both (is_printing byte) true prints refl
+    at false false is other =
+        both (is_printing (hex_digit (byte / 16))) (list_all is_printing (hex_digit (byte % 16) ∷ [])) (digit_is (byte / 16) (omega (arith, small)))
+        (both (is_printing (hex_digit (byte % 16))) true (digit_is (byte % 16) (omega (arith, small))) refl)
+
+pub shown_bytes_are_printable : ShownBytesArePrintable
+shown_bytes_are_printable [] are = refl
+shown_bytes_are_printable (byte ∷ bytes) are =
+    list_all-append is_printing (visible_byte byte) (visible bytes)
+    ∙ both (list_all is_printing (visible_byte byte)) (list_all is_printing (visible bytes))
+    (byte_is byte (All-head (λ b. b < 256) byte bytes are))
+    (shown_bytes_are_printable bytes (All-tail (λ b. b < 256) byte bytes are))
