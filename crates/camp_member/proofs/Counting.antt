@@ -5,7 +5,7 @@ use Rattle.std.proofs.lemmas.Bool.{eqb-true, ne_eqb}
 use Rattle.std.proofs.lemmas.Option.{same_Some}
 use Rattle.std.proofs.lemmas.List.{append-nil, length-append}
 use Rattle.std.proofs.lemmas.List.Elements.{filter-append}
-use Rattle.camp_member.specs.Entries.{Tagged, IsForeign, IsReadableAfter, counted, counted_after, counted_with, last_of, of_seat}
+use Rattle.camp_member.specs.Entries.{Tagged, IsForeign, IsReadableAfter, counted_entries, counted_after, counted_with, last_of, of_seat}
 
 pub from_eqb : (a b : ℕ) → a == b ≡ true → a ≡ b
 from_eqb a b is = eqb-true a b is
@@ -79,5 +79,5 @@ module _ {Call : Type 0} where
   numbered_at before (x ∷ entries) zero entry are is = let same = ap (λ (e : Tagged Call). e.number) (same_Some x entry is) in let first = are.0 in omega arith
   numbered_at before (x ∷ entries) (suc index) entry are is = let further = numbered_at (before + 1) entries index entry are.1 is in omega arith
 
-  pub each_tag_once : (log : List (Option (Tagged Call))) (seat index : ℕ) (entry : Tagged Call) → slice_get (of_seat seat (counted log)) index ≡ Some entry → entry.number ≡ index + 1
-  each_tag_once log seat index entry is = let at = numbered_at 0 (of_seat seat (counted log)) index entry (numbered-after seat [] log tt) is in omega (arith, at)
+  pub each_tag_once : (log : List (Option (Tagged Call))) (seat index : ℕ) (entry : Tagged Call) → slice_get (of_seat seat (counted_entries log)) index ≡ Some entry → entry.number ≡ index + 1
+  each_tag_once log seat index entry is = let at = numbered_at 0 (of_seat seat (counted_entries log)) index entry (numbered-after seat [] log tt) is in omega (arith, at)

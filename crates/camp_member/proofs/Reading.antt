@@ -9,7 +9,7 @@ use Rattle.camp_object.specs.Objects.{Sequential}
 use Rattle.camp_object.specs.Histories.{IsBeginning, replay}
 use Rattle.camp_object.proofs.Beginnings.{begins_self, begins_append, begins_through, begins_shorter}
 use Rattle.camp_member.specs.Decisions.{accepted_after, extended}
-use Rattle.camp_member.specs.Entries.{Tagged, calls_in, counted, counted_after, last_of, number_in}
+use Rattle.camp_member.specs.Entries.{Tagged, seated_calls, counted_entries, counted_after, last_of, number_in}
 use Rattle.camp_member.specs.Logs.{lawful_part}
 use Rattle.camp_member.specs.Readings.{Reading, IsReadingOf, PassesOver, ReadsNew}
 use Rattle.camp_member.specs.Laws.{NothingIsRead, ReadersAgree, ReadersShareOneHistory, ReadsOn, StopsAtForeign}
@@ -52,24 +52,24 @@ module _ {State Call Reply : Type 0} (object : Sequential State Call Reply) wher
 
   -- the history of the entries that count
   abbrev history_of : List (Tagged Call) → List (ℕ × Call)
-  history_of entries = accepted_after object [] (flat_map calls_in entries)
+  history_of entries = accepted_after object [] (flat_map seated_calls entries)
 
-  history_of-append : (one two : List (Tagged Call)) → history_of (one ++ two) ≡ accepted_after object (history_of one) (flat_map calls_in two)
-  history_of-append one two = ap (accepted_after object []) (flat_map-append calls_in one two) ∙ accepted_after-append [] (flat_map calls_in one) (flat_map calls_in two)
+  history_of-append : (one two : List (Tagged Call)) → history_of (one ++ two) ≡ accepted_after object (history_of one) (flat_map seated_calls two)
+  history_of-append one two = ap (accepted_after object []) (flat_map-append seated_calls one two) ∙ accepted_after-append [] (flat_map seated_calls one) (flat_map seated_calls two)
 
-  history_of-push : (entries : List (Tagged Call)) (entry : Tagged Call) → history_of (entries ++ entry ∷ []) ≡ accepted_after object (history_of entries) (calls_in entry)
-  history_of-push entries entry = history_of-append entries (entry ∷ []) ∙ ap (accepted_after object (history_of entries)) (append-nil (calls_in entry))
+  history_of-push : (entries : List (Tagged Call)) (entry : Tagged Call) → history_of (entries ++ entry ∷ []) ≡ accepted_after object (history_of entries) (seated_calls entry)
+  history_of-push entries entry = history_of-append entries (entry ∷ []) ∙ ap (accepted_after object (history_of entries)) (append-nil (seated_calls entry))
 
   history_of-grows : (one two : List (Tagged Call)) → IsBeginning one two → IsBeginning (history_of one) (history_of two)
   history_of-grows one two begins =
       let P : List (ℕ × Call) → Type 0 = λ list. IsBeginning (history_of one) list in
-      subst P (sym (history_of-append one begins.rest) ∙ ap history_of begins.makes) (accepted_grows (history_of one) (flat_map calls_in begins.rest))
+      subst P (sym (history_of-append one begins.rest) ∙ ap history_of begins.makes) (accepted_grows (history_of one) (flat_map seated_calls begins.rest))
 
   pub lawful_grows : (one two : List (Option (Tagged Call))) → IsBeginning one two → IsBeginning (lawful_part object one) (lawful_part object two)
   lawful_grows one two begins =
-      let P : List (Tagged Call) → Type 0 = λ list. IsBeginning (counted one) list in
-      history_of-grows (counted one) (counted two) (
-      subst P (sym (counted_after-append [] one begins.rest) ∙ ap counted begins.makes) (counted_grows (counted one) begins.rest)
+      let P : List (Tagged Call) → Type 0 = λ list. IsBeginning (counted_entries one) list in
+      history_of-grows (counted_entries one) (counted_entries two) (
+      subst P (sym (counted_after-append [] one begins.rest) ∙ ap counted_entries begins.makes) (counted_grows (counted_entries one) begins.rest)
       )
 
   pub nothing_is_read : NothingIsRead object
@@ -83,8 +83,8 @@ module _ {State Call Reply : Type 0} (object : Sequential State Call Reply) wher
   reads_new : (log : List (Option (Tagged Call))) (old new : Reading State Call) (entry : Tagged Call) (replies : List Reply)
       → IsReadingOf object log old → new.index ≡ old.index + 1 → ReadsNew object old entry replies new → IsReadingOf object (log ++ Some entry ∷ []) new
   reads_new log old new entry replies is next effect =
-      let number : entry.number ≡ last_of (counted log) entry.seat + 1 = effect.counts.1 ∙ ap (λ n. n + 1) (is.last entry.seat) in
-      let grown : counted (log ++ Some entry ∷ []) ≡ counted log ++ entry ∷ [] = counted_after-append [] log (Some entry ∷ []) ∙ counted_next (counted log) entry number in
+      let number : entry.number ≡ last_of (counted_entries log) entry.seat + 1 = effect.counts.1 ∙ ap (λ n. n + 1) (is.last entry.seat) in
+      let grown : counted_entries (log ++ Some entry ∷ []) ≡ counted_entries log ++ entry ∷ [] = counted_after-append [] log (Some entry ∷ []) ∙ counted_next (counted_entries log) entry number in
       let size = length-append log (Some entry ∷ []) in
       let at = is.index in
       record {
@@ -92,16 +92,16 @@ module _ {State Call Reply : Type 0} (object : Sequential State Call Reply) wher
         index = omega (arith, next, at, size);
         history =
             decided_accepts object old.history entry.seat entry.calls replies new.history effect.decided
-            ∙ ap (λ list. accepted_after object list (calls_in entry)) is.history
-            ∙ sym (history_of-push (counted log) entry)
+            ∙ ap (λ list. accepted_after object list (seated_calls entry)) is.history
+            ∙ sym (history_of-push (counted_entries log) entry)
             ∙ ap history_of (sym grown);
         last = λ seat. effect.last seat ∙ (
-            elim (seat == entry.seat) as (λ b. seat == entry.seat ≡ b → (if b then entry.number else number_in old.numbers seat) ≡ last_of (counted (log ++ Some entry ∷ [])) seat) [
+            elim (seat == entry.seat) as (λ b. seat == entry.seat ≡ b → (if b then entry.number else number_in old.numbers seat) ≡ last_of (counted_entries (log ++ Some entry ∷ [])) seat) [
               | true ↦ λ same.
                   let equal : seat ≡ entry.seat = from_eqb seat entry.seat same in
-                  number ∙ ap (λ s. last_of (counted log) s + 1) (sym equal) ∙ sym (last_of-same (counted log) entry seat (sym equal)) ∙ ap (λ list. last_of list seat) (sym grown)
+                  number ∙ ap (λ s. last_of (counted_entries log) s + 1) (sym equal) ∙ sym (last_of-same (counted_entries log) entry seat (sym equal)) ∙ ap (λ list. last_of list seat) (sym grown)
               | false ↦ λ other.
-                  is.last seat ∙ sym (last_of-other (counted log) entry seat (λ same. differ seat entry.seat other (sym same))) ∙ ap (λ list. last_of list seat) (sym grown)
+                  is.last seat ∙ sym (last_of-other (counted_entries log) entry seat (λ same. differ seat entry.seat other (sym same))) ∙ ap (λ list. last_of list seat) (sym grown)
             ] refl
             );
       }
@@ -109,9 +109,9 @@ module _ {State Call Reply : Type 0} (object : Sequential State Call Reply) wher
   passes_over : (log : List (Option (Tagged Call))) (old new : Reading State Call) (entry : Tagged Call) (replies : List Reply)
       → IsReadingOf object log old → new.index ≡ old.index + 1 → PassesOver object old entry replies new → IsReadingOf object (log ++ Some entry ∷ []) new
   passes_over log old new entry replies is next effect =
-      let seen : entry.number ≤ last_of (counted log) entry.seat = let last = is.last entry.seat in let below = effect.repeated.1 in omega (arith, last, below) in
-      let same : counted (log ++ Some entry ∷ []) ≡ counted log =
-      counted_after-append [] log (Some entry ∷ []) ∙ counted_other (counted log) entry (λ equal. let below = seen in absurd (omega (arith, below, equal)))
+      let seen : entry.number ≤ last_of (counted_entries log) entry.seat = let last = is.last entry.seat in let below = effect.repeated.1 in omega (arith, last, below) in
+      let same : counted_entries (log ++ Some entry ∷ []) ≡ counted_entries log =
+      counted_after-append [] log (Some entry ∷ []) ∙ counted_other (counted_entries log) entry (λ equal. let below = seen in absurd (omega (arith, below, equal)))
       in
       let size = length-append log (Some entry ∷ []) in
       let at = is.index in

@@ -1,16 +1,16 @@
 -- Lemmas on how a member answers what it can.
-use Rattle.std.proofs.Common.{◌≡◌, ℕ, ◌≤◌, List, [], ◌∷◌, ◌++◌, length, map, take, drop, Result, Ok, Err, OnOk, OnErr, IfOk, IfErr, Some, refl, sym, ◌∙◌, ap, subst, arith, None, inl, inr}
-use Rattle.std.proofs.lemmas.List.{append_assoc, append-nil, map-append, take-append-drop}
+use Rattle.std.proofs.Common.{◌≡◌, ℕ, List, [], ◌∷◌, ◌++◌, map, take, drop, Result, Ok, Err, OnOk, OnErr, IfOk, IfErr, Some, refl, sym, ◌∙◌, ap, subst, arith, None, inl, inr}
+use Rattle.std.proofs.lemmas.List.{append_assoc, map-append, take-append-drop}
 use Rattle.camp_object.specs.Objects.{Sequential, IsLawfulObject}
-use Rattle.camp_object.specs.Histories.{IsLegal, own}
+use Rattle.camp_object.specs.Histories.{IsLegal}
 use Rattle.camp_object.proofs.Beginnings.{begins_self}
 use Rattle.camp_member.specs.Inside.Settling.{AnswersFirst, IsRest}
 use Rattle.camp_object.specs.Asking.{IsNotBusy}
-use Rattle.camp_member.specs.Laws.{AnyReason, FindsOn, GoesAnyhow}
-use Rattle.camp_member.specs.Members.{Membership, as_answer, refused}
+use Rattle.camp_member.specs.Laws.{AnyReason, FindsOn, AdvancesAnyhow}
+use Rattle.camp_member.specs.Members.{Membership, as_answer, without_reply}
 use Rattle.camp_member.specs.Readings.{Reading}
-use Rattle.camp_member.specs.Telling.{AreTold, Goes, IsTold, Told, answers_in, requests_in}
-use Rattle.camp_member.specs.Wanting.{AfterEnd, Ends, IsAnswerTo, IsNeeded, IsStopped}
+use Rattle.camp_member.specs.Telling.{AreAnsweredFrom, MemberAdvances, IsAnsweredAt, AnsweredRequest, answers_in, requests_in}
+use Rattle.camp_member.specs.Wanting.{AfterEnd, WaitsAtEnd, IsAnswerTo, IsNeeded, IsStopped}
 use Rattle.camp_member.specs.declared.requests.NoReply.{NoReply}
 use Rattle.camp_member.specs.declared.requests.NoReply.TheVariants.{Ended}
 use Rattle.camp_member.specs.declared.requests.Request.{Request}
@@ -22,7 +22,7 @@ use Rattle.camp_member.proofs.Telling.{answer_asks, goes_unchanged, no_reply_ask
 
 module _ {State Call Reply : Type 0} (object : Sequential State Call Reply) where
   -- one step after another
-  pub goes_through : (may : NoReply → Type 0) (one two three : Membership State Call Reply) → IsLegal object two.reading.history → Goes object may one two → Goes object may two three → Goes object may one three
+  pub goes_through : (may : NoReply → Type 0) (one two three : Membership State Call Reply) → IsLegal object two.reading.history → MemberAdvances object may one two → MemberAdvances object may two three → MemberAdvances object may one three
   goes_through may one two three legal first second = record {
     told = first.told ++ second.told;
     seat = second.seat ∙ first.seat;
@@ -31,23 +31,23 @@ module _ {State Call Reply : Type 0} (object : Sequential State Call Reply) wher
         second.answers
         ∙ ap (λ list. list ++ answers_in second.told) first.answers
         ∙ append_assoc one.answers (answers_in first.told) (answers_in second.told)
-        ∙ ap (λ list. one.answers ++ list) (sym (map-append (λ (told : Told Call Reply). (told.request.id, told.answer)) first.told second.told));
+        ∙ ap (λ list. one.answers ++ list) (sym (map-append (λ (told : AnsweredRequest Call Reply). (told.request.id, told.answer)) first.told second.told));
     waiting =
         first.waiting
         ∙ ap (λ list. requests_in first.told ++ list) second.waiting
         ∙ sym (append_assoc (requests_in first.told) (requests_in second.told) three.waiting)
-        ∙ ap (λ list. list ++ three.waiting) (sym (map-append (λ (told : Told Call Reply). told.request) first.told second.told));
+        ∙ ap (λ list. list ++ three.waiting) (sym (map-append (λ (told : AnsweredRequest Call Reply). told.request) first.told second.told));
     are =
-        let P : ℕ → Type 0 = λ seat. AreTold object may seat two.reading.history second.told three.reading.history in
+        let P : ℕ → Type 0 = λ seat. AreAnsweredFrom object may seat two.reading.history second.told three.reading.history in
         told-append object may one.seat one.reading.history first.told two.reading.history second.told three.reading.history legal first.are (subst P first.seat second.are);
   }
 
   -- where the entry under way changes alone
-  pub goes_sends : (may : NoReply → Type 0) (one two : Membership State Call Reply) (sent : ℕ) → Goes object may one two → Goes object may one (record two { sent = sent })
+  pub goes_sends : (may : NoReply → Type 0) (one two : Membership State Call Reply) (sent : ℕ) → MemberAdvances object may one two → MemberAdvances object may one (record two { sent = sent })
   goes_sends may one two sent goes = record { told = goes.told; seat = goes.seat; first = goes.first; answers = goes.answers; waiting = goes.waiting; are = goes.are }
 
   -- the first request is answered
-  pub answers_goes : IsLawfulObject object → (may : NoReply → Type 0) (old new : Membership State Call Reply) → IsLegal object old.reading.history → ((why : NoReply) → IsStopped old why → may why) → AnswersFirst object old new → Goes object may old new
+  pub answers_goes : IsLawfulObject object → (may : NoReply → Type 0) (old new : Membership State Call Reply) → IsLegal object old.reading.history → ((why : NoReply) → IsStopped old why → may why) → AnswersFirst object old new → MemberAdvances object may old new
   answers_goes lawful may old new legal reason step = record {
     told = record { request = step.request; answer = step.answer; history = old.reading.history } ∷ [];
     seat = step.seat;
@@ -55,21 +55,21 @@ module _ {State Call Reply : Type 0} (object : Sequential State Call Reply) wher
     answers = step.answers;
     waiting = step.waiting;
     are =
-        let P : Reading State Call → Type 0 = λ r. AreTold object may old.seat old.reading.history [] r.history in (
+        let P : Reading State Call → Type 0 = λ r. AreAnsweredFrom object may old.seat old.reading.history [] r.history in (
           told step.answer step.is,
           subst P (sym step.reading) (begins_self old.reading.history, refl),
         );
   }
     where
-      told : (answer : Result Reply NoReply) → IsAnswerTo object old step.request (Some answer) → IsTold object may old.seat old.reading.history (record { request = step.request; answer = answer; history = old.reading.history })
+      told : (answer : Result Reply NoReply) → IsAnswerTo object old step.request (Some answer) → IsAnsweredAt object may old.seat old.reading.history (record { request = step.request; answer = answer; history = old.reading.history })
       told (Ok reply) is = record { asks = answer_asks object lawful old.seat old.reading.history step.request.call reply legal is.1; at_least = is.0; why = tt }
       told (Err why) is = record { asks = no_reply_asks object old.seat old.reading.history step.request.call why legal; at_least = tt; why = reason why is.0 }
 
   -- requests that get no reply
-  without : (why : NoReply) (history : List (ℕ × Call)) → Request Call → Told Call Reply
+  without : (why : NoReply) (history : List (ℕ × Call)) → Request Call → AnsweredRequest Call Reply
   without why history request = record { request = request; answer = Err why; history = history }
 
-  without_are : (may : NoReply → Type 0) (why : NoReply) → may why → (seat : ℕ) (history : List (ℕ × Call)) → IsLegal object history → (requests : List (Request Call)) → AreTold object may seat history (map (without why history) requests) history
+  without_are : (may : NoReply → Type 0) (why : NoReply) → may why → (seat : ℕ) (history : List (ℕ × Call)) → IsLegal object history → (requests : List (Request Call)) → AreAnsweredFrom object may seat history (map (without why history) requests) history
   unfolding without
   without_are may why reason seat history legal [] = (begins_self history, refl)
   without_are may why reason seat history legal (request ∷ requests) = (
@@ -87,10 +87,10 @@ module _ {State Call Reply : Type 0} (object : Sequential State Call Reply) wher
   without-answers why history [] = refl
   without-answers why history (request ∷ requests) = ap (λ list. (request.id, Err why) ∷ list) (without-answers why history requests)
 
-  pub refused_goes : (may : NoReply → Type 0) (why : NoReply) → may why → (old new : Membership State Call Reply) (count : ℕ) → IsLegal object old.reading.history → new ≡ refused why (record old { sent = count }) → Goes object may old new
+  pub refused_goes : (may : NoReply → Type 0) (why : NoReply) → may why → (old new : Membership State Call Reply) (count : ℕ) → IsLegal object old.reading.history → new ≡ without_reply why (record old { sent = count }) → MemberAdvances object may old new
   refused_goes may why reason old new count legal is =
       let first = take count old.waiting in
-      let P : Membership State Call Reply → Type 0 = λ m. Goes object may old m in
+      let P : Membership State Call Reply → Type 0 = λ m. MemberAdvances object may old m in
       subst P (sym is) (record {
         told = map (without why old.reading.history) first;
         seat = refl;
@@ -102,13 +102,13 @@ module _ {State Call Reply : Type 0} (object : Sequential State Call Reply) wher
 
   -- whatever came of it
   pub refused_or_not : (may : NoReply → Type 0) (why : NoReply) → may why → (old new : Membership State Call Reply) (count : ℕ) {Fault : Type 0} (result : Result (Unit {0}) Fault) → IsLegal object old.reading.history
-      → OnOk result (new ≡ refused why (record old { sent = count })) → OnErr result (new ≡ old) → Goes object may old new
+      → OnOk result (new ≡ without_reply why (record old { sent = count })) → OnErr result (new ≡ old) → MemberAdvances object may old new
   refused_or_not may why reason old new count (Ok done) legal is stays = refused_goes may why reason old new count legal is
   refused_or_not may why reason old new count (Err fault) legal is stays = goes_unchanged object old new 0 stays may
 
   -- the first request gets no reply where the log ends
-  pub ends_so : (old new : Membership State Call Reply) (index : ℕ) (request : Request Call) (rest : List (Request Call)) → Ends object old index request rest → {Fault : Type 0} (result : Result (Unit {0}) Fault)
-      → OnOk result (new ≡ refused Ended (record old { sent = 1 })) → OnOk result (AfterEnd object old index new)
+  pub ends_so : (old new : Membership State Call Reply) (index : ℕ) (request : Request Call) (rest : List (Request Call)) → WaitsAtEnd object old index request rest → {Fault : Type 0} (result : Result (Unit {0}) Fault)
+      → OnOk result (new ≡ without_reply Ended (record old { sent = 1 })) → OnOk result (AfterEnd object old index new)
   ends_so old new index request rest ends (Ok done) is = inl (request, rest, ends, is)
   ends_so old new index request rest ends (Err fault) is = tt
 
@@ -123,7 +123,7 @@ module _ {State Call Reply : Type 0} (object : Sequential State Call Reply) wher
   all_so so (Err fault) = tt
 
   -- a wider reason
-  told_wider : (narrow wide : NoReply → Type 0) → ((why : NoReply) → narrow why → wide why) → (seat : ℕ) (seen : List (ℕ × Call)) (told : List (Told Call Reply)) (now : List (ℕ × Call)) → AreTold object narrow seat seen told now → AreTold object wide seat seen told now
+  told_wider : (narrow wide : NoReply → Type 0) → ((why : NoReply) → narrow why → wide why) → (seat : ℕ) (seen : List (ℕ × Call)) (told : List (AnsweredRequest Call Reply)) (now : List (ℕ × Call)) → AreAnsweredFrom object narrow seat seen told now → AreAnsweredFrom object wide seat seen told now
   told_wider narrow wide wider seat seen [] now are = are
   told_wider narrow wide wider seat seen (one ∷ more) now are = (
     record { asks = are.0.asks; at_least = are.0.at_least; why = still one.answer are.0.why },
@@ -134,7 +134,7 @@ module _ {State Call Reply : Type 0} (object : Sequential State Call Reply) wher
       still (Ok reply) why = tt
       still (Err reason) why = wider reason why
 
-  pub goes_wider : (narrow wide : NoReply → Type 0) → ((why : NoReply) → narrow why → wide why) → (old new : Membership State Call Reply) → Goes object narrow old new → Goes object wide old new
+  pub goes_wider : (narrow wide : NoReply → Type 0) → ((why : NoReply) → narrow why → wide why) → (old new : Membership State Call Reply) → MemberAdvances object narrow old new → MemberAdvances object wide old new
   goes_wider narrow wide wider old new goes = record {
     told = goes.told;
     seat = goes.seat;
@@ -144,7 +144,7 @@ module _ {State Call Reply : Type 0} (object : Sequential State Call Reply) wher
     are = told_wider narrow wide wider old.seat old.reading.history goes.told new.reading.history goes.are;
   }
 
-  pub goes_anyhow : GoesAnyhow object
+  pub goes_anyhow : AdvancesAnyhow object
   goes_anyhow = record {
     replies = goes_wider (λ _. ⊥) AnyReason (λ why none. tt);
     stopped = λ member. goes_wider (IsStopped member) AnyReason (λ why is. tt);

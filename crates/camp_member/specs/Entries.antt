@@ -17,15 +17,15 @@ abbrev pub number_in : List (ℕ × ℕ) → ℕ → ℕ
 number_in numbers seat = unwrap_or (lookup (is_at (nat_cmp seat)) numbers) 0
 
 -- the most calls of an entry
-abbrev pub most_calls : ℕ
-most_calls = 256
+abbrev pub most_calls_of_entry : ℕ
+most_calls_of_entry = 256
 
 module _ {Call : Type 0} where
   -- a member may append the entry: it is numbered from 1, and has at least one call and at most 256
   pub record IsEntry (entry : Tagged Call) : Type 0 where
     pub numbered : 0 < entry.number
     pub some : 0 < length entry.calls
-    pub few : length entry.calls ≤ most_calls
+    pub few : length entry.calls ≤ most_calls_of_entry
 
   -- the entry has the next number of its seat, after the last number of each seat
   abbrev pub Counts : (ℕ → ℕ) → Tagged Call → Type 0
@@ -59,8 +59,8 @@ module _ {Call : Type 0} where
   counted_after before (found ∷ log) = counted_after (counted_with before found) log
 
   -- the entries of a log that count, in order: each has the next number of its seat
-  abbrev pub counted : List (Option (Tagged Call)) → List (Tagged Call)
-  counted log = counted_after [] log
+  abbrev pub counted_entries : List (Option (Tagged Call)) → List (Tagged Call)
+  counted_entries log = counted_after [] log
 
   -- nothing in the log is foreign where it stands
   abbrev pub IsReadableAfter : List (Tagged Call) → List (Option (Tagged Call)) → Type 0
@@ -71,9 +71,9 @@ module _ {Call : Type 0} where
   IsReadable log = IsReadableAfter [] log
 
   -- the calls of an entry, each under its seat
-  abbrev pub calls_in : Tagged Call → List (ℕ × Call)
-  calls_in entry = map (λ call. (entry.seat, call)) entry.calls
+  abbrev pub seated_calls : Tagged Call → List (ℕ × Call)
+  seated_calls entry = map (λ call. (entry.seat, call)) entry.calls
 
   -- the calls of a log, in order, each under its seat: those of the entries that count
   abbrev pub requests : List (Option (Tagged Call)) → List (ℕ × Call)
-  requests log = flat_map calls_in (counted log)
+  requests log = flat_map seated_calls (counted_entries log)

@@ -3,18 +3,18 @@ use Rattle.std.specs.Prelude.{◌≡◌, ◌<◌, ◌+◌, ◌⊎◌, ℕ, List,
 use Rattle.camp_object.specs.Objects.{Sequential}
 use Rattle.camp_object.specs.Histories.{IsBeginning, IsLegal, own}
 use Rattle.camp_object.specs.Asking.{IsNotBusy}
-use Rattle.camp_member.specs.Entries.{Tagged, IsForeign, IsReadable, counted, of_seat, number_in}
+use Rattle.camp_member.specs.Entries.{Tagged, IsForeign, IsReadable, counted_entries, of_seat, number_in}
 use Rattle.camp_member.specs.Members.{Membership, as_answer}
-use Rattle.camp_member.specs.Readings.{Reading, IsReadingOf, Reads}
-use Rattle.camp_member.specs.Telling.{AreTold, Goes, Told, accepted_in}
-use Rattle.camp_member.specs.Wanting.{Finds, IsStopped}
+use Rattle.camp_member.specs.Readings.{Reading, IsReadingOf, ReadsEntry}
+use Rattle.camp_member.specs.Telling.{AreAnsweredFrom, MemberAdvances, AnsweredRequest, accepted_in}
+use Rattle.camp_member.specs.Wanting.{FindsAt, IsStopped}
 use Rattle.camp_member.specs.declared.requests.NoReply.{NoReply}
 
 -- the entries of a seat that count have the numbers 1, 2, .. in order, so no tag counts twice
 abbrev pub EachTagCountsOnce : Type 0 → Type 0
 EachTagCountsOnce Call =
     (log : List (Option (Tagged Call))) (seat index : ℕ) (entry : Tagged Call)
-    → slice_get (of_seat seat (counted log)) index ≡ Some entry → entry.number ≡ index + 1
+    → slice_get (of_seat seat (counted_entries log)) index ≡ Some entry → entry.number ≡ index + 1
 
 -- there is no reply, for any reason
 abbrev pub AnyReason : NoReply → Type 0
@@ -29,7 +29,7 @@ module _ {State Call Reply : Type 0} (object : Sequential State Call Reply) wher
   abbrev pub ReadsOn : Type 0
   ReadsOn =
       (log : List (Option (Tagged Call))) (old new : Reading State Call) (entry : Tagged Call) (replies : List Reply)
-      → IsReadingOf object log old → Reads object old entry replies new → IsReadingOf object (log ++ Some entry ∷ []) new
+      → IsReadingOf object log old → ReadsEntry object old entry replies new → IsReadingOf object (log ++ Some entry ∷ []) new
 
   -- nothing that is foreign to a reader of a log can be read after it
   abbrev pub StopsAtForeign : Type 0
@@ -53,26 +53,26 @@ module _ {State Call Reply : Type 0} (object : Sequential State Call Reply) wher
   -- of the calls of a seat the history gets those that were accepted, each once, in the order of the requests
   abbrev pub AcceptedOnce : Type 0
   AcceptedOnce =
-      (seat : ℕ) (seen : List (ℕ × Call)) (told : List (Told Call Reply)) (now : List (ℕ × Call))
-      → AreTold object AnyReason seat seen told now → own seat now ≡ own seat seen ++ accepted_in object told
+      (seat : ℕ) (seen : List (ℕ × Call)) (told : List (AnsweredRequest Call Reply)) (now : List (ℕ × Call))
+      → AreAnsweredFrom object AnyReason seat seen told now → own seat now ≡ own seat seen ++ accepted_in object told
 
   -- a member that goes on twice has gone on, with the answers of both
-  abbrev pub GoesOn : Type 0
-  GoesOn =
+  abbrev pub AdvancesOn : Type 0
+  AdvancesOn =
       (one two three : Membership State Call Reply)
-      → IsLegal object two.reading.history → Goes object AnyReason one two → Goes object AnyReason two three → Goes object AnyReason one three
+      → IsLegal object two.reading.history → MemberAdvances object AnyReason one two → MemberAdvances object AnyReason two three → MemberAdvances object AnyReason one three
 
   -- a member that goes on goes on, for whatever reason there is no reply
-  pub record GoesAnyhow : Type 0 where
-    pub replies : (old new : Membership State Call Reply) → Goes object (λ _. ⊥) old new → Goes object AnyReason old new
-    pub stopped : (member old new : Membership State Call Reply) → Goes object (IsStopped member) old new → Goes object AnyReason old new
-    pub one_reason : (reason : NoReply) (old new : Membership State Call Reply) → Goes object (λ why. why ≡ reason) old new → Goes object AnyReason old new
+  pub record AdvancesAnyhow : Type 0 where
+    pub replies : (old new : Membership State Call Reply) → MemberAdvances object (λ _. ⊥) old new → MemberAdvances object AnyReason old new
+    pub stopped : (member old new : Membership State Call Reply) → MemberAdvances object (IsStopped member) old new → MemberAdvances object AnyReason old new
+    pub one_reason : (reason : NoReply) (old new : Membership State Call Reply) → MemberAdvances object (λ why. why ≡ reason) old new → MemberAdvances object AnyReason old new
 
   -- what a member has read of a log, with what it finds after it, is what it has read then
   abbrev pub FindsOn : Type 0
   FindsOn =
       (log : List (Option (Tagged Call))) (old new : Membership State Call Reply) (index : ℕ) (found : Option (Tagged Call))
-      → IsReadingOf object log old.reading → Finds object old index found (Ok tt) new
+      → IsReadingOf object log old.reading → FindsAt object old index found (Ok tt) new
       → ((index < length log) × (new ≡ old)) ⊎ ((index ≡ length log) × IsReadingOf object (log ++ found ∷ []) new.reading)
 
 -- no answer of a member says that it is busy

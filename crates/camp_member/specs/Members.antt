@@ -1,5 +1,5 @@
 -- A member of a log: one who reads it, and asks calls over it.
-use Rattle.std.specs.Prelude.{◌≡◌, ◌^◌, ℕ, Bool, true, false, List, [], ◌∷◌, ◌++◌, Result, Ok, Err, map, take, drop}
+use Rattle.std.specs.Prelude.{◌^◌, ℕ, Bool, true, false, List, [], ◌++◌, Result, Ok, Err, map, take, drop}
 use Rattle.camp_object.specs.Asking.{Caller}
 use Rattle.camp_object.specs.declared.faults.Fault.{Fault}
 use Rattle.camp_object.specs.declared.faults.Fault.TheVariants as object_fault
@@ -29,8 +29,8 @@ new_member first seat = record {
 }
 
 -- who asks over a log: its accepted calls are without number, and none of its calls is lost to another's
-abbrev pub caller_at : ℕ → Caller
-caller_at seat = record { seat = seat; tries = 0; per_seat = 2 ^ 64; alone = false }
+abbrev pub member_caller : ℕ → Caller
+member_caller seat = record { seat = seat; tries = 0; per_seat = 2 ^ 64; alone = false }
 
 -- an answer as one of an object: without a reply nothing is added, as if out of memory
 abbrev pub as_answer : {Reply : Type 0} → Result Reply NoReply → Result Reply Fault
@@ -38,21 +38,21 @@ as_answer (Ok reply) = Ok reply
 as_answer (Err why) = Err object_fault.Memory
 
 -- the calls of requests
-abbrev pub calls_of : {Call : Type 0} → List (Request Call) → List Call
-calls_of requests = map (λ request. request.call) requests
+abbrev pub calls_asked : {Call : Type 0} → List (Request Call) → List Call
+calls_asked requests = map (λ request. request.call) requests
 
 module _ {State Call Reply : Type 0} where
   -- the calls in the entry that a member appends
   abbrev pub under_way : Membership State Call Reply → List Call
-  under_way member = calls_of (take member.sent member.waiting)
+  under_way member = calls_asked (take member.sent member.waiting)
 
   -- the member that reads no further: what it appended waits like other requests
   abbrev pub stopped : Membership State Call Reply → Membership State Call Reply
   stopped member = record member { is_stopped = true; sent = 0 }
 
   -- the member where none of the entry that it appends gets a reply
-  abbrev pub refused : NoReply → Membership State Call Reply → Membership State Call Reply
-  refused why member = record member {
+  abbrev pub without_reply : NoReply → Membership State Call Reply → Membership State Call Reply
+  without_reply why member = record member {
     waiting = drop member.sent member.waiting;
     sent = 0;
     answers = member.answers ++ map (λ request. (request.id, Err why)) (take member.sent member.waiting);

@@ -2,7 +2,7 @@
 use Rattle.std.specs.Prelude.{◌≡◌, ◌≢◌, ℕ, ◌+◌, ◌==◌, ◌⊎◌, List, [], length, Option, if◌then◌else◌}
 use Rattle.camp_object.specs.Objects.{Sequential}
 use Rattle.camp_member.specs.Decisions.{AreDecided}
-use Rattle.camp_member.specs.Entries.{Tagged, Counts, IsForeign, IsRepeated, IsReadable, counted, last_of, number_in}
+use Rattle.camp_member.specs.Entries.{Tagged, Counts, IsForeign, IsRepeated, IsReadable, counted_entries, last_of, number_in}
 use Rattle.camp_member.specs.Logs.{lawful_part}
 use Rattle.camp_member.specs.declared.faults.ReadFault.{ReadFault}
 use Rattle.camp_member.specs.declared.faults.ReadFault.TheVariants.{Memory, OutOfOrder, Foreign}
@@ -27,7 +27,7 @@ module _ {State Call Reply : Type 0} (object : Sequential State Call Reply) wher
     pub readable : IsReadable log
     pub index : reading.index ≡ length log
     pub history : reading.history ≡ lawful_part object log
-    pub last : (seat : ℕ) → number_in reading.numbers seat ≡ last_of (counted log) seat
+    pub last : (seat : ℕ) → number_in reading.numbers seat ≡ last_of (counted_entries log) seat
 
   -- an entry that counts is read: its calls are decided one after another
   pub record ReadsNew (old : Reading State Call) (entry : Tagged Call) (replies : List Reply) (new : Reading State Call) : Type 0 where
@@ -43,7 +43,7 @@ module _ {State Call Reply : Type 0} (object : Sequential State Call Reply) wher
     pub numbers : new.numbers ≡ old.numbers
 
   -- what stands next in the log is read
-  pub record Reads (old : Reading State Call) (entry : Tagged Call) (replies : List Reply) (new : Reading State Call) : Type 0 where
+  pub record ReadsEntry (old : Reading State Call) (entry : Tagged Call) (replies : List Reply) (new : Reading State Call) : Type 0 where
     pub first : new.first ≡ old.first
     pub index : new.index ≡ old.index + 1
     pub effect : ReadsNew old entry replies new ⊎ PassesOver old entry replies new

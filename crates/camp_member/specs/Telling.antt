@@ -3,34 +3,34 @@ use Rattle.std.specs.Prelude.{◌≡◌, ◌≤◌, ℕ, Bool, false, List, [], 
 use Rattle.camp_object.specs.Objects.{Sequential}
 use Rattle.camp_object.specs.Histories.{IsBeginning, own}
 use Rattle.camp_object.specs.Asking.{Ask}
-use Rattle.camp_member.specs.Members.{Membership, as_answer, caller_at}
+use Rattle.camp_member.specs.Members.{Membership, as_answer, member_caller}
 use Rattle.camp_member.specs.declared.requests.Request.{Request}
 use Rattle.camp_member.specs.declared.requests.NoReply.{NoReply}
 
 -- a request that was answered: the answer, and the history at which it was given
-pub record Told (Call Reply : Type 0) : Type 0 where
+pub record AnsweredRequest (Call Reply : Type 0) : Type 0 where
   pub request : Request Call
   pub answer : Result Reply NoReply
   pub history : List (ℕ × Call)
 
-abbrev pub requests_in : {Call Reply : Type 0} → List (Told Call Reply) → List (Request Call)
+abbrev pub requests_in : {Call Reply : Type 0} → List (AnsweredRequest Call Reply) → List (Request Call)
 requests_in told = map (λ one. one.request) told
 
-abbrev pub answers_in : {Call Reply : Type 0} → List (Told Call Reply) → List (ℕ × Result Reply NoReply)
+abbrev pub answers_in : {Call Reply : Type 0} → List (AnsweredRequest Call Reply) → List (ℕ × Result Reply NoReply)
 answers_in told = map (λ one. (one.request.id, one.answer)) told
 
 module _ {State Call Reply : Type 0} (object : Sequential State Call Reply) where
   -- a request of a seat is answered after this history: the answer says what `Ask` says; a reply holds at least as many
   -- accepted calls as the request waits for, and without a reply there is such a reason
-  pub record IsTold (may : NoReply → Type 0) (seat : ℕ) (seen : List (ℕ × Call)) (one : Told Call Reply) : Type 0 where
-    pub asks : Ask object (caller_at seat) seen one.request.call (as_answer one.answer) one.history
+  pub record IsAnsweredAt (may : NoReply → Type 0) (seat : ℕ) (seen : List (ℕ × Call)) (one : AnsweredRequest Call Reply) : Type 0 where
+    pub asks : Ask object (member_caller seat) seen one.request.call (as_answer one.answer) one.history
     pub at_least : IfOk one.answer (λ _. one.request.at_least ≤ length one.history)
     pub why : IfErr one.answer may
 
   -- requests of a seat are answered one after another, from one history to another; no other call of the seat comes in between
-  abbrev pub AreTold : (NoReply → Type 0) → ℕ → List (ℕ × Call) → List (Told Call Reply) → List (ℕ × Call) → Type 0
-  AreTold may seat seen [] now = IsBeginning seen now × (own seat now ≡ own seat seen)
-  AreTold may seat seen (one ∷ more) now = IsTold may seat seen one × AreTold may seat one.history more now
+  abbrev pub AreAnsweredFrom : (NoReply → Type 0) → ℕ → List (ℕ × Call) → List (AnsweredRequest Call Reply) → List (ℕ × Call) → Type 0
+  AreAnsweredFrom may seat seen [] now = IsBeginning seen now × (own seat now ≡ own seat seen)
+  AreAnsweredFrom may seat seen (one ∷ more) now = IsAnsweredAt may seat seen one × AreAnsweredFrom may seat one.history more now
 
   -- whether the answer is the reply to an accepted call
   abbrev pub is_done : Result Reply NoReply → Bool
@@ -38,15 +38,15 @@ module _ {State Call Reply : Type 0} (object : Sequential State Call Reply) wher
   is_done (Err why) = false
 
   -- the calls among the answered requests that were accepted
-  abbrev pub accepted_in : List (Told Call Reply) → List Call
+  abbrev pub accepted_in : List (AnsweredRequest Call Reply) → List Call
   accepted_in [] = []
   accepted_in (one ∷ more) = if is_done one.answer then one.request.call ∷ accepted_in more else accepted_in more
 
   -- a member goes on: it answers the first of its requests in their order, each once
-  pub record Goes (may : NoReply → Type 0) (old new : Membership State Call Reply) : Type 0 where
-    pub told : List (Told Call Reply)
+  pub record MemberAdvances (may : NoReply → Type 0) (old new : Membership State Call Reply) : Type 0 where
+    pub told : List (AnsweredRequest Call Reply)
     pub seat : new.seat ≡ old.seat
     pub first : new.reading.first ≡ old.reading.first
     pub answers : new.answers ≡ old.answers ++ answers_in told
     pub waiting : old.waiting ≡ requests_in told ++ new.waiting
-    pub are : AreTold may old.seat old.reading.history told new.reading.history
+    pub are : AreAnsweredFrom may old.seat old.reading.history told new.reading.history

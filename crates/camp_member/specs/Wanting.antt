@@ -1,11 +1,11 @@
 -- What a member does with what it is asked, and with what it finds in the log.
-use Rattle.std.specs.Prelude.{◌≡◌, ◌≢◌, ◌<◌, ◌≤◌, ◌+◌, ◌⊎◌, ℕ, Bool, true, false, List, [], ◌∷◌, ◌++◌, length, map, take, drop, Result, Ok, Err, Option, None, Some, IfSome, IsSome}
+use Rattle.std.specs.Prelude.{◌≡◌, ◌≢◌, ◌<◌, ◌≤◌, ◌+◌, ◌⊎◌, ℕ, Bool, true, false, List, [], ◌∷◌, ◌++◌, length, take, Result, Ok, Err, Option, None, Some, IfSome, IsSome}
 use Rattle.std.specs.List.{AllByRecursion}
 use Rattle.camp_object.specs.Objects.{Sequential}
 use Rattle.camp_object.specs.Histories.{IsAccepted, IsAnswered}
-use Rattle.camp_member.specs.Entries.{Tagged, IsForeign, most_calls, number_in}
-use Rattle.camp_member.specs.Members.{Membership, calls_of, refused, stopped, under_way}
-use Rattle.camp_member.specs.Readings.{Reading, Reads}
+use Rattle.camp_member.specs.Entries.{Tagged, IsForeign, most_calls_of_entry, number_in}
+use Rattle.camp_member.specs.Members.{Membership, without_reply, stopped, under_way}
+use Rattle.camp_member.specs.Readings.{ReadsEntry}
 use Rattle.camp_member.specs.declared.faults.ReadFault.{ReadFault}
 use Rattle.camp_member.specs.declared.faults.ReadFault.TheVariants.{Memory, OutOfOrder, Foreign}
 use Rattle.camp_member.specs.declared.requests.NoReply.{NoReply}
@@ -39,22 +39,22 @@ module _ {State Call Reply : Type 0} (object : Sequential State Call Reply) wher
       IsStopped member why × (IsWaiting member.reading.history request ⊎ IsAccepted object member.reading.history request.call)
 
   -- requests that one entry may have: some, at most 256, that write and wait for no more than was read
-  pub record IsBatch (history : List (ℕ × Call)) (requests : List (Request Call)) : Type 0 where
+  pub record FitsEntry (history : List (ℕ × Call)) (requests : List (Request Call)) : Type 0 where
     pub some : 0 < length requests
-    pub few : length requests ≤ most_calls
+    pub few : length requests ≤ most_calls_of_entry
     pub writing : AllByRecursion (λ request. object.is_writing request.call ≡ true) requests
     pub ready : AllByRecursion (λ request. request.at_least ≤ length history) requests
 
   -- what a member wants of its log: nothing, if no request waits; to read on, if the first request waits for more accepted
   -- calls; to append the entry with the next number of its seat
-  abbrev pub Wants : Want Call → Membership State Call Reply → Type 0
-  Wants want.Nothing member = (member.waiting ≡ []) × (member.sent ≡ 0)
-  Wants (want.Read from) member =
+  abbrev pub WantsOfLog : Want Call → Membership State Call Reply → Type 0
+  WantsOfLog want.Nothing member = (member.waiting ≡ []) × (member.sent ≡ 0)
+  WantsOfLog (want.Read from) member =
       (from ≡ member.reading.index) × (member.sent ≡ 0) × (member.is_stopped ≡ false)
       × ((request : Request Call) × (rest : List (Request Call)) × (member.waiting ≡ request ∷ rest) × IsWaiting member.reading.history request)
-  Wants (want.Append entry) member =
+  WantsOfLog (want.Append entry) member =
       (entry.seat ≡ member.seat) × (entry.number ≡ number_in member.reading.numbers member.seat + 1)
-      × (entry.calls ≡ under_way member) × IsBatch member.reading.history (take member.sent member.waiting)
+      × (entry.calls ≡ under_way member) × FitsEntry member.reading.history (take member.sent member.waiting)
 
   -- a member begins to append only if it has not stopped, and only if its first request is accepted at what was read
   abbrev pub IsNeeded : Want Call → Membership State Call Reply → Type 0
@@ -100,30 +100,30 @@ module _ {State Call Reply : Type 0} (object : Sequential State Call Reply) wher
   -- an entry is read where it stands
   pub record FindsEntry (old : Membership State Call Reply) (entry : Tagged Call) (new : Membership State Call Reply) : Type 0 where
     pub replies : List Reply
-    pub reads : Reads object old.reading entry replies new.reading
+    pub reads : ReadsEntry object old.reading entry replies new.reading
     pub seat : new.seat ≡ old.seat
     pub is_stopped : new.is_stopped ≡ old.is_stopped
     pub effect : FindsOwn old entry replies new ⊎ FindsOther old entry new
 
   -- a foreign entry stops a member, and no other fault changes it
-  abbrev pub StopsAt : ReadFault → Membership State Call Reply → Membership State Call Reply → Type 0
-  StopsAt Memory old new = new ≡ old
-  StopsAt (OutOfOrder next) old new = new ≡ old
-  StopsAt (Foreign at) old new = new ≡ stopped old
+  abbrev pub StopsWhenForeign : ReadFault → Membership State Call Reply → Membership State Call Reply → Type 0
+  StopsWhenForeign Memory old new = new ≡ old
+  StopsWhenForeign (OutOfOrder next) old new = new ≡ old
+  StopsWhenForeign (Foreign at) old new = new ≡ stopped old
 
   -- what stands at an index of the log is found: it was read before, or is read, or it stops the member
-  abbrev pub Finds : Membership State Call Reply → ℕ → Option (Tagged Call) → Result (Unit {0}) ReadFault → Membership State Call Reply → Type 0
-  Finds old index found (Ok done) new =
+  abbrev pub FindsAt : Membership State Call Reply → ℕ → Option (Tagged Call) → Result (Unit {0}) ReadFault → Membership State Call Reply → Type 0
+  FindsAt old index found (Ok done) new =
       ((index < old.reading.index) × (new ≡ old))
       ⊎ ((index ≡ old.reading.index) × (old.is_stopped ≡ false) × IfSome found (λ entry. FindsEntry old entry new) × IsSome found)
-  Finds old index found (Err Memory) new = new ≡ old
-  Finds old index found (Err (OutOfOrder next)) new = (next ≡ old.reading.index) × (next < index) × (new ≡ old)
-  Finds old index found (Err (Foreign at)) new =
+  FindsAt old index found (Err Memory) new = new ≡ old
+  FindsAt old index found (Err (OutOfOrder next)) new = (next ≡ old.reading.index) × (next < index) × (new ≡ old)
+  FindsAt old index found (Err (Foreign at)) new =
       (at ≡ old.reading.index) × (at ≡ index) × (new ≡ stopped old)
       × ((old.is_stopped ≡ true) ⊎ IsForeign (number_in old.reading.numbers) found ⊎ IsAlien old found)
 
   -- a log ends at an index where a member has read all of it and its first request waits for more: the request gets no reply
-  pub record Ends (old : Membership State Call Reply) (index : ℕ) (request : Request Call) (rest : List (Request Call)) : Type 0 where
+  pub record WaitsAtEnd (old : Membership State Call Reply) (index : ℕ) (request : Request Call) (rest : List (Request Call)) : Type 0 where
     pub at : index ≡ old.reading.index
     pub none_sent : old.sent ≡ 0
     pub reads : old.is_stopped ≡ false
@@ -132,5 +132,5 @@ module _ {State Call Reply : Type 0} (object : Sequential State Call Reply) wher
 
   abbrev pub AfterEnd : Membership State Call Reply → ℕ → Membership State Call Reply → Type 0
   AfterEnd old index new =
-      ((request : Request Call) × (rest : List (Request Call)) × Ends old index request rest × (new ≡ refused Ended (record old { sent = 1 })))
-      ⊎ (((request : Request Call) (rest : List (Request Call)) → ¬ (Ends old index request rest)) × (new ≡ old))
+      ((request : Request Call) × (rest : List (Request Call)) × WaitsAtEnd old index request rest × (new ≡ without_reply Ended (record old { sent = 1 })))
+      ⊎ (((request : Request Call) (rest : List (Request Call)) → ¬ (WaitsAtEnd old index request rest)) × (new ≡ old))

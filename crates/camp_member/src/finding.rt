@@ -2,16 +2,16 @@
 ghost use Rattle.std.specs.Prelude.{◌≡◌, ◌≢◌, ◌+◌, ◌≤◌, ◌↔◌, false, length, IsTrue, IfSome};
 ghost use Rattle.std.specs.Vec.{vec_capacity};
 ghost use Rattle.camp_object.specs.Objects.{begun};
-ghost use Rattle.camp_member.specs.Members.{calls_of, stopped, under_way};
-ghost use Rattle.camp_member.specs.Telling.{Goes};
-ghost use Rattle.camp_member.specs.Wanting.{Finds, HasOwn, StopsAt, TellsAlien, given};
+ghost use Rattle.camp_member.specs.Members.{calls_asked, stopped, under_way};
+ghost use Rattle.camp_member.specs.Telling.{MemberAdvances};
+ghost use Rattle.camp_member.specs.Wanting.{FindsAt, HasOwn, StopsWhenForeign, TellsAlien, given};
 
 use crate::{Entry, Member, NoReply, ReadFault, Request};
 use camp_object::Object;
 use std::alloc::Global;
 
 impl<State: Object> Member<State> {
-    /// Reads what was found at an index of the log, in order: an entry, or `None` if it is none. What was read
+    /// ReadsEntry what was found at an index of the log, in order: an entry, or `None` if it is none. What was read
     /// before is passed over. The requests of the entry under way are answered where it stands. What is
     /// foreign, or an entry of another process with this seat, stops the member. If memory runs out, the
     /// member is as it was.
@@ -21,8 +21,8 @@ impl<State: Object> Member<State> {
         index: usize,
         found: &Option<Entry<State::Call>>,
     ) -> Result<(), ReadFault>
-        ensures finds { Finds (begun State.object self.old.reading.first) self.old index found.now result self.new }
-        ensures goes { Goes (begun State.object self.old.reading.first) (λ _. ⊥) self.old self.new }
+        ensures finds { FindsAt (begun State.object self.old.reading.first) self.old index found.now result self.new }
+        ensures goes { MemberAdvances (begun State.object self.old.reading.first) (λ _. ⊥) self.old self.new }
     {
         let _before = self.reader.position();
         let result = self.find(alloc, index, found);
@@ -30,14 +30,14 @@ impl<State: Object> Member<State> {
         result
     }
 
-    // Reads what was found at an index.
+    // ReadsEntry what was found at an index.
     fn find(
         &mut self,
         alloc: Global,
         index: usize,
         found: &Option<Entry<State::Call>>,
     ) -> Result<(), ReadFault>
-        ensures { Finds (begun State.object self.old.reading.first) self.old index found.now result self.new }
+        ensures { FindsAt (begun State.object self.old.reading.first) self.old index found.now result self.new }
     {
         let next = self.reader.index();
         if index < next {
@@ -85,7 +85,7 @@ impl<State: Object> Member<State> {
         self.has_own(found) && !are_calls_of::<State>(entry.calls(), &self.waiting[..self.sent])
     }
 
-    // Reads the entry under way, and answers its requests.
+    // ReadsEntry the entry under way, and answers its requests.
     fn read_own(
         &mut self,
         alloc: Global,
@@ -96,7 +96,7 @@ impl<State: Object> Member<State> {
         requires reads { self.old.is_stopped ≡ false }
         requires own { HasOwn State.object self.old found.now }
         requires calls { IfSome found.now (λ entry. entry.calls ≡ under_way self.old) }
-        ensures { Finds (begun State.object self.old.reading.first) self.old index found.now result self.new }
+        ensures { FindsAt (begun State.object self.old.reading.first) self.old index found.now result self.new }
     {
         self.answers.reserve(self.sent)?;
         match self.reader.take(alloc, index, found) {
@@ -112,7 +112,7 @@ impl<State: Object> Member<State> {
         }
     }
 
-    // Reads an entry of another member, or one that was read before.
+    // ReadsEntry an entry of another member, or one that was read before.
     fn read_other(
         &mut self,
         alloc: Global,
@@ -122,7 +122,7 @@ impl<State: Object> Member<State> {
         requires at { index ≡ self.old.reading.index }
         requires reads { self.old.is_stopped ≡ false }
         requires other { ¬ (HasOwn State.object self.old found.now) }
-        ensures { Finds (begun State.object self.old.reading.first) self.old index found.now result self.new }
+        ensures { FindsAt (begun State.object self.old.reading.first) self.old index found.now result self.new }
     {
         match self.reader.take(alloc, index, found) {
             Ok(_) => Ok(()),
@@ -135,7 +135,7 @@ impl<State: Object> Member<State> {
 
     // Stops reading where what was found is foreign.
     fn stop_at(&mut self, fault: ReadFault)
-        ensures { StopsAt State.object fault self.old self.new }
+        ensures { StopsWhenForeign State.object fault self.old self.new }
     {
         if matches!(fault, ReadFault::Foreign { index: _ }) {
             self.stop();
@@ -145,7 +145,7 @@ impl<State: Object> Member<State> {
 
 // True if these are the calls of the requests.
 fn are_calls_of<State: Object>(calls: &[State::Call], requests: &[Request<State::Call>]) -> bool
-    ensures { IsTrue result ↔ (calls.now ≡ calls_of requests.now) }
+    ensures { IsTrue result ↔ (calls.now ≡ calls_asked requests.now) }
 {
     if calls.len() != requests.len() {
         return false;

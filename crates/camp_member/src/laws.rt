@@ -1,5 +1,5 @@
 //! What holds of readers and members of one log.
-ghost use Rattle.camp_member.specs.Laws.{AcceptedOnce, EachTagCountsOnce, FindsOn, GoesAnyhow, GoesOn, NobodyIsBusy, NothingIsRead, ReadersAgree, ReadersShareOneHistory, ReadsOn, StopsAtForeign};
+ghost use Rattle.camp_member.specs.Laws.{AcceptedOnce, EachTagCountsOnce, FindsOn, AdvancesAnyhow, AdvancesOn, NobodyIsBusy, NothingIsRead, ReadersAgree, ReadersShareOneHistory, ReadsOn, StopsAtForeign};
 ghost use Rattle.camp_object.specs.Objects.{begun};
 
 use camp_object::Object;
@@ -32,8 +32,8 @@ pub fn members_follow_the_log<State: Object>()
 /// it; of the calls of its seat the history gets those that were answered as accepted, each once; and no
 /// answer says that the member is busy.
 pub fn members_are_answered_once<State: Object>()
-    ensures goes_on { (first : State) → GoesOn (begun State.object first) }
-    ensures anyhow { (first : State) → GoesAnyhow (begun State.object first) }
+    ensures goes_on { (first : State) → AdvancesOn (begun State.object first) }
+    ensures anyhow { (first : State) → AdvancesAnyhow (begun State.object first) }
     ensures once { (first : State) → AcceptedOnce (begun State.object first) }
     ensures not_busy { NobodyIsBusy State.Reply }
 {}

@@ -25,7 +25,7 @@ impl<State: Object> Model for Member<State> {
     ghost use Rattle.std.specs.Prelude.{◌<◌, ◌≤◌, length, take};
     ghost use Rattle.camp_object.specs.Objects.{begun};
     ghost use Rattle.camp_member.specs.Members.{Membership};
-    ghost use Rattle.camp_member.specs.Wanting.{IsBatch};
+    ghost use Rattle.camp_member.specs.Wanting.{FitsEntry};
 
     ghost Value = { Membership State State.Call State.Reply };
 
@@ -39,7 +39,7 @@ impl<State: Object> Model for Member<State> {
     } };
 
     ghost invariant = { λ m. (m.sent ≤ length m.waiting.items)
-        × (0 < m.sent → IsBatch State.object m.reader.history (take m.sent m.waiting.items)) };
+        × (0 < m.sent → FitsEntry State.object m.reader.history (take m.sent m.waiting.items)) };
 }
 
 impl<State: Object> Member<State> {

@@ -47,7 +47,7 @@ impl<State: Object> Model for Reader<State> {
 impl<State: Object> Reader<State> {
     ghost use Rattle.camp_member.specs.Entries.{Counts, number_in};
     ghost use Rattle.camp_member.specs.Inside.Standings.{IsStanding};
-    ghost use Rattle.camp_member.specs.Readings.{IsReadFault, ReadsNew, Reads};
+    ghost use Rattle.camp_member.specs.Readings.{IsReadFault, ReadsNew, ReadsEntry};
 
     /// Makes a reader that has read nothing. Its history begins with a first state.
     pub fn new(alloc: Global, first: State) -> Reader<State>
@@ -121,7 +121,7 @@ impl<State: Object> Reader<State> {
         }
     }
 
-    /// Reads what stands at an index of the log: an entry, or `None` if it is none. Returns the reply to each
+    /// ReadsEntry what stands at an index of the log: an entry, or `None` if it is none. Returns the reply to each
     /// call of an entry that counts, and nothing for one whose tag counted before. After a fault the reader is
     /// as it was.
     pub fn take(
@@ -130,7 +130,7 @@ impl<State: Object> Reader<State> {
         index: usize,
         found: &Option<Entry<State::Call>>,
     ) -> Result<Vec<State::Reply>, ReadFault>
-        ensures reads { IfOk result (λ replies. IfSome found.now (λ entry. Reads (begun State.object self.old.first) self.old entry replies.items self.new)) }
+        ensures reads { IfOk result (λ replies. IfSome found.now (λ entry. ReadsEntry (begun State.object self.old.first) self.old entry replies.items self.new)) }
         ensures some { IfOk result (λ _. IsSome found.now) }
         ensures next { IfOk result (λ _. index ≡ self.old.index) }
         ensures stays { OnErr result (self.new ≡ self.old) }

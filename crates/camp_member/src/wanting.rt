@@ -2,10 +2,10 @@
 ghost use Rattle.std.specs.Prelude.{◌≡◌, ◌≢◌, ◌<◌, ◌≤◌, ◌+◌, ◌++◌, ◌∷◌, [], length, map, take, drop, true, None, Some, Err, if◌then◌else◌, OnErr, OnOk, IfOk, MatchOption};
 ghost use Rattle.std.specs.Vec.{vec_capacity};
 ghost use Rattle.camp_object.specs.Objects.{begun};
-ghost use Rattle.camp_member.specs.Entries.{most_calls, number_in};
-ghost use Rattle.camp_member.specs.Members.{calls_of, refused, under_way};
-ghost use Rattle.camp_member.specs.Telling.{Goes};
-ghost use Rattle.camp_member.specs.Wanting.{AfterEnd, IsAnswerTo, IsBatch, IsNeeded, IsStopped, Wants};
+ghost use Rattle.camp_member.specs.Entries.{most_calls_of_entry, number_in};
+ghost use Rattle.camp_member.specs.Members.{calls_asked, under_way, without_reply};
+ghost use Rattle.camp_member.specs.Telling.{MemberAdvances};
+ghost use Rattle.camp_member.specs.Wanting.{AfterEnd, IsAnswerTo, FitsEntry, IsNeeded, IsStopped, WantsOfLog};
 ghost use Rattle.camp_member.specs.declared.requests.NoReply.TheVariants as no_reply;
 
 use crate::{Entry, MAX_CALLS, Member, NoReply, Request, Want};
@@ -43,12 +43,12 @@ impl<State: Object> Member<State> {
     /// log. An entry under way is wanted as it is until it is found or refused. If memory runs out, the entry
     /// under way stays, and what was answered stays answered.
     pub fn want(&mut self, alloc: Global) -> Result<Want<State::Call>, AllocError>
-        ensures wants { IfOk result (λ want. Wants State.object want self.new) }
+        ensures wants { IfOk result (λ want. WantsOfLog State.object want self.new) }
         ensures needed { IfOk result (λ want. self.old.sent ≡ 0 → IsNeeded (begun State.object self.new.reading.first) want self.new) }
         ensures stays { 0 < self.old.sent → self.new ≡ self.old }
         ensures reading { self.new.reading ≡ self.old.reading }
         ensures is_stopped { self.new.is_stopped ≡ self.old.is_stopped }
-        ensures goes { Goes (begun State.object self.old.reading.first) (IsStopped self.old) self.old self.new }
+        ensures goes { MemberAdvances (begun State.object self.old.reading.first) (IsStopped self.old) self.old self.new }
     {
         match self.settle()? {
             Rest::Nothing => Ok(Want::Nothing),
@@ -70,7 +70,7 @@ impl<State: Object> Member<State> {
         ensures reading { self.new.reading ≡ self.old.reading }
         ensures is_stopped { self.new.is_stopped ≡ self.old.is_stopped }
         ensures sent { self.new.sent ≡ self.old.sent }
-        ensures goes { Goes (begun State.object self.old.reading.first) (IsStopped self.old) self.old self.new }
+        ensures goes { MemberAdvances (begun State.object self.old.reading.first) (IsStopped self.old) self.old self.new }
     {
         let _position = self.reader.position();
         for _ in 0..u64::MAX {
@@ -143,7 +143,7 @@ impl<State: Object> Member<State> {
     fn batch(&self) -> usize
         requires { IsRest (begun State.object self.now.reading.first) self.now rest.Sends }
         ensures within { result ≤ length self.now.waiting }
-        ensures is { IsBatch State.object self.now.reading.history (take result self.now.waiting) }
+        ensures is { FitsEntry State.object self.now.reading.history (take result self.now.waiting) }
     {
         let position = self.reader.position();
         let most = at_most_an_entry(self.waiting.len());
@@ -159,7 +159,7 @@ impl<State: Object> Member<State> {
     // Makes the entry under way.
     fn append(&self, alloc: Global) -> Result<Want<State::Call>, AllocError>
         requires { 0 < self.now.sent }
-        ensures { IfOk result (λ want. Wants State.object want self.now) }
+        ensures { IfOk result (λ want. WantsOfLog State.object want self.now) }
     {
         let Some(number) = self.reader.last(self.seat).checked_add(1) else {
             return Err(AllocError);
@@ -173,9 +173,9 @@ impl<State: Object> Member<State> {
     /// Says that the log did not take the entry under way, and never will: its requests are answered so. If
     /// memory runs out, the member is as it was.
     pub fn refused(&mut self) -> Result<(), AllocError>
-        ensures refused { OnOk result (self.new ≡ refused no_reply.Refused self.old) }
+        ensures refused { OnOk result (self.new ≡ without_reply no_reply.Refused self.old) }
         ensures stays { OnErr result (self.new ≡ self.old) }
-        ensures goes { Goes (begun State.object self.old.reading.first) (λ why. why ≡ no_reply.Refused) self.old self.new }
+        ensures goes { MemberAdvances (begun State.object self.old.reading.first) (λ why. why ≡ no_reply.Refused) self.old self.new }
     {
         let _position = self.reader.position();
         let count = self.sent;
@@ -187,7 +187,7 @@ impl<State: Object> Member<State> {
     pub fn ended(&mut self, index: usize) -> Result<(), AllocError>
         ensures ends { OnOk result (AfterEnd (begun State.object self.old.reading.first) self.old index self.new) }
         ensures stays { OnErr result (self.new ≡ self.old) }
-        ensures goes { Goes (begun State.object self.old.reading.first) (λ why. why ≡ no_reply.Ended) self.old self.new }
+        ensures goes { MemberAdvances (begun State.object self.old.reading.first) (λ why. why ≡ no_reply.Ended) self.old self.new }
     {
         let _position = self.reader.position();
         if !self.waits_at_end(index) {
@@ -215,7 +215,7 @@ impl<State: Object> Member<State> {
     // Gives no reply to the first requests, and has no entry under way.
     fn give_up_first(&mut self, count: usize, why: NoReply) -> Result<(), AllocError>
         requires { count ≤ length self.old.waiting }
-        ensures gives { OnOk result (self.new ≡ refused why (record self.old { sent = count })) }
+        ensures gives { OnOk result (self.new ≡ without_reply why (record self.old { sent = count })) }
         ensures stays { OnErr result (self.new ≡ self.old) }
     {
         self.answers.reserve(count)?;
@@ -235,7 +235,7 @@ fn first_of<Call: Drop>(waiting: &[Request<Call>]) -> Option<&Request<Call>>
 // Returns how many of these requests an entry may have at most.
 fn at_most_an_entry(count: usize) -> usize
     ensures within { result ≤ count }
-    ensures few { result ≤ most_calls }
+    ensures few { result ≤ most_calls_of_entry }
     ensures some { 0 < count → 0 < result }
 {
     if count < MAX_CALLS { count } else { MAX_CALLS }
@@ -246,7 +246,7 @@ fn copy_calls<State: Object>(
     alloc: Global,
     requests: &[Request<State::Call>],
 ) -> Result<Vec<State::Call>, AllocError>
-    ensures { IfOk result (λ calls. calls.items ≡ calls_of requests.now) }
+    ensures { IfOk result (λ calls. calls.items ≡ calls_asked requests.now) }
 {
     let mut calls = Vec::new(alloc);
     for request in requests {

@@ -3,7 +3,7 @@ use Rattle.std.specs.Prelude.{◌≡◌, ◌<◌, ◌≤◌, ℕ, Bool, true, fa
 use Rattle.camp_object.specs.Objects.{Sequential}
 use Rattle.camp_object.specs.Histories.{IsAccepted}
 use Rattle.camp_member.specs.Members.{Membership}
-use Rattle.camp_member.specs.Wanting.{Ends, IsAnswerTo, IsWaiting}
+use Rattle.camp_member.specs.Wanting.{WaitsAtEnd, IsAnswerTo, IsWaiting}
 use Rattle.camp_member.specs.declared.requests.NoReply.{NoReply}
 use Rattle.camp_member.specs.declared.requests.Request.{Request}
 use Rattle.camp_member.specs.declared.wanting.Next.{Next}
@@ -47,5 +47,5 @@ module _ {State Call Reply : Type 0} (object : Sequential State Call Reply) wher
 
   -- whether the first request waits for more than a log has that ends at an index
   abbrev pub TellsEnd : Membership State Call Reply → ℕ → Bool → Type 0
-  TellsEnd member index true = (request : Request Call) × (rest : List (Request Call)) × Ends object member index request rest
-  TellsEnd member index false = (request : Request Call) (rest : List (Request Call)) → ¬ (Ends object member index request rest)
+  TellsEnd member index true = (request : Request Call) × (rest : List (Request Call)) × WaitsAtEnd object member index request rest
+  TellsEnd member index false = (request : Request Call) (rest : List (Request Call)) → ¬ (WaitsAtEnd object member index request rest)

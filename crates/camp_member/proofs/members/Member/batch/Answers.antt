@@ -1,14 +1,14 @@
 use Rattle.std.proofs.Common.{◌≡◌, ◌<◌, ℕ, length, take, sym, ap, subst, arith}
 use Rattle.std.proofs.lemmas.List.{length-take-le}
 use Rattle.camp_member.specs.Members.{Membership}
-use Rattle.camp_member.specs.Wanting.{IsBatch}
+use Rattle.camp_member.specs.Wanting.{FitsEntry}
 use Rattle.camp_member.proofs.members.Member.batch.Goals as goal
 
 pub returns-then-not-is_writing-clause-is : goal.returns-then-not-is_writing-clause-is
 returns-then-not-is_writing-clause-is g c =
     let M = Membership g.row.State.Denot g.row.State-Call.Denot g.row.State-Reply.Denot in
     let at = c.loop-at.at in
-    let P : M → Type 0 = λ m. IsBatch g.State.Object.object m.reading.history (take at m.waiting) in
+    let P : M → Type 0 = λ m. FitsEntry g.State.Object.object m.reading.history (take at m.waiting) in
     let waiting = c.self.inside.waiting.items in
     let test = c.loop-at-test.true in
     let within = c.at_most_an_entry-most.ensures.within in
@@ -28,8 +28,8 @@ returns-clause-is g c =
     let M = Membership g.row.State.Denot g.row.State-Call.Denot g.row.State-Reply.Denot in
     let most = c.at_most_an_entry-most.result in
     let at = c.loop-at.at in
-    let P : M → Type 0 = λ m. IsBatch g.State.Object.object m.reading.history (take most m.waiting) in
-    let Q : ℕ → Type 0 = λ n. IsBatch g.State.Object.object c.self.inside.reader.history (take n c.self.inside.waiting.items) in
+    let P : M → Type 0 = λ m. FitsEntry g.State.Object.object m.reading.history (take most m.waiting) in
+    let Q : ℕ → Type 0 = λ n. FitsEntry g.State.Object.object c.self.inside.reader.history (take n c.self.inside.waiting.items) in
     let Some : M → Type 0 = λ m. 0 < length m.waiting in
     let waiting = c.self.inside.waiting.items in
     let test = c.loop-at-test.false in

@@ -3,7 +3,7 @@ use Rattle.camp_object.specs.Histories.{IsLegal}
 use Rattle.camp_object.specs.Objects.{IsFirst, begun}
 use Rattle.camp_object.proofs.Replays.{begun_lawful}
 use Rattle.camp_member.specs.Members.{Membership}
-use Rattle.camp_member.specs.Wanting.{IsBatch}
+use Rattle.camp_member.specs.Wanting.{FitsEntry}
 use Rattle.camp_member.proofs.Telling.{batch_begun, finds_goes}
 use Rattle.camp_member.proofs.members.Member.found.Goals as goal
 
@@ -14,7 +14,7 @@ returns-clause-goes g c =
     let Legal : M → Type 0 = λ m. IsLegal (begun object m.reading.first) m.reading.history in
     let First : M → Type 0 = λ m. IsFirst object m.reading.first in
     let Within : M → Type 0 = λ m. m.sent ≤ length m.waiting in
-    let Batch : M → Type 0 = λ m. 0 < m.sent → IsBatch (begun object m.reading.first) m.reading.history (take m.sent m.waiting) in
+    let Batch : M → Type 0 = λ m. 0 < m.sent → FitsEntry (begun object m.reading.first) m.reading.history (take m.sent m.waiting) in
     let Room : M → Type 0 = λ m. length m.reading.history < 2 ^ 64 in
     let old = c.args.self.now in
     let first = old.reading.first in

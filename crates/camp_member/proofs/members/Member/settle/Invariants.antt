@@ -1,6 +1,6 @@
 use Rattle.std.proofs.Common.{◌≡◌, ◌<◌}
 use Rattle.camp_object.specs.Objects.{begun}
-use Rattle.camp_member.specs.Telling.{Goes}
+use Rattle.camp_member.specs.Telling.{MemberAdvances}
 use Rattle.camp_member.specs.Wanting.{IsStopped}
 use Rattle.camp_member.proofs.members.Member.settle.Given as goal
 
@@ -10,5 +10,5 @@ invariant-loop g l = record {
   reading : l.self.reading ≡ l.fn.self.reading;
   is_stopped : l.self.is_stopped ≡ l.fn.self.is_stopped;
   sent : l.self.sent ≡ l.fn.self.sent;
-  goes : Goes (begun g.State.Object.object l.fn.self.reading.first) (IsStopped l.fn.self) l.fn.self l.self;
+  goes : MemberAdvances (begun g.State.Object.object l.fn.self.reading.first) (IsStopped l.fn.self) l.fn.self l.self;
 }

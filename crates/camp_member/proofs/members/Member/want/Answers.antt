@@ -1,4 +1,4 @@
-use Rattle.std.proofs.Common.{◌≡◌, ◌<◌, ℕ, sym, subst, arith}
+use Rattle.std.proofs.Common.{◌≡◌, ◌<◌, sym, subst, arith}
 use Rattle.camp_object.specs.Objects.{begun}
 use Rattle.camp_member.specs.Inside.Settling.{IsRest}
 use Rattle.camp_member.specs.Members.{Membership}
