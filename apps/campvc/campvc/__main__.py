@@ -13,12 +13,10 @@ import sys
 from typing import Callable, List, NamedTuple, Optional, Tuple
 
 try:
-    import camp  # noqa: F401
+    from camp import BranchExists, Depends, Diverged, NoBranch, NoMerge, NoPatch, Refused, TooLarge
 except ImportError as error:
     print("campvc: {}".format(error), file=sys.stderr)
     sys.exit(128)
-
-from camp import BranchExists, Depends, Diverged, NoBranch, NoMerge, NoPatch, Refused, TooLarge
 from camp.coding import Unheld
 from camp.shared import LogRefused
 
