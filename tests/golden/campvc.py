@@ -27,7 +27,7 @@ from tests.harness.clients import built_library
 from tests.harness.etcd import servers
 from tests.harness.paths import DATA, TOP, read_text
 
-SECONDS, GATE = 90, "after camp_c"
+SECONDS, GATE = 150, "after camp_c"
 PARTS = ("coding", "sessions", "etcd", "mishaps", "git", "page")
 AUTHORS = {"anna": "Anna Berg <anna@example.org>", "ben": "Ben Ole <ben@example.org>"}
 DATE = "2026-11-30T03:00:00+00:00"
