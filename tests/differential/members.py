@@ -7,7 +7,6 @@ of camp.shared, in clients/python; the library is found as golden/clients finds 
 import contextlib
 import glob
 import os
-import shutil
 import subprocess
 import sys
 import tempfile
@@ -15,6 +14,7 @@ from concurrent.futures import ThreadPoolExecutor
 
 from tests.harness import programs
 from tests.harness.clients import built_library
+from tests.harness.etcd import servers
 from tests.harness.paths import TOP
 
 SECONDS, GATE = 25, "after camp_c"
@@ -54,16 +54,9 @@ def sqlite(report, folder, environment):
 
 def etcd(report, folder, environment):
     """Three members of a log in three servers on this machine."""
-    if not shutil.which("etcd"):
-        report.skip("etcd")
-        return
-    environment = {**environment, "ETCD_DIR": f"{folder}/etcd"}
-    started = programs.run([f"{TOP}/clients/etcd", "start"], env=environment)
-    try:
-        if report.expect("clients/etcd start", started.returncode, 0):
-            agrees(report, "etcd", check(f"etcd:{started.stdout.decode().strip()}/right", environment, 3, 25, 1))
-    finally:
-        programs.run([f"{TOP}/clients/etcd", "stop"], env=environment)
+    with servers(report, folder) as endpoints:
+        if endpoints:
+            agrees(report, "etcd", check(f"etcd:{endpoints}/right", environment, 3, 25, 1))
 
 
 def postgres(report, folder, environment):

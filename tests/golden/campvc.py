@@ -24,9 +24,10 @@ from concurrent.futures import ThreadPoolExecutor
 
 from tests.harness import programs
 from tests.harness.clients import built_library
+from tests.harness.etcd import servers
 from tests.harness.paths import DATA, TOP, read_text
 
-SECONDS, GATE = 90, "after camp_c"
+SECONDS, GATE = 150, "after camp_c"
 PARTS = ("coding", "sessions", "etcd", "mishaps", "git", "page")
 AUTHORS = {"anna": "Anna Berg <anna@example.org>", "ben": "Ben Ole <ben@example.org>"}
 DATE = "2026-11-30T03:00:00+00:00"
@@ -177,24 +178,9 @@ def sessions(report, folder):
     play_all(report, folder, f"sqlite:{folder}/{{number}}/log.db", lambda words: True)
 
 
-@contextlib.contextmanager
-def etcd_servers(report, folder):
-    """The endpoints of three members of etcd, or None where it is missing."""
-    if not shutil.which("etcd"):
-        report.skip("etcd")
-        yield None
-        return
-    how = {"env": {**os.environ, "ETCD_DIR": f"{folder}/etcd"}}
-    started = programs.run([f"{TOP}/clients/etcd", "start"], **how)
-    try:
-        yield started.stdout.decode().strip() if report.expect("clients/etcd start", started.returncode, 0) else None
-    finally:
-        programs.run([f"{TOP}/clients/etcd", "stop"], **how)
-
-
 def etcd(report, folder):
     """The shared sessions over three members of etcd."""
-    with etcd_servers(report, folder) as endpoints:
+    with servers(report, folder) as endpoints:
         if endpoints:
             play_all(report, folder, f"etcd:{endpoints}/s{{number}}", lambda words: "shared" in words)
 

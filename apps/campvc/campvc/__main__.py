@@ -13,13 +13,11 @@ import sys
 from typing import Callable, List, NamedTuple, Optional, Tuple
 
 try:
-    import camp
-    camp.require_library()
+    from camp import BranchExists, Depends, Diverged, NoBranch, NoMerge, NoPatch, Refused, TooLarge, require_library
+    require_library()
 except ImportError as error:
     print("campvc: {}".format(error), file=sys.stderr)
     sys.exit(128)
-
-from camp import BranchExists, Depends, Diverged, NoBranch, NoMerge, NoPatch, Refused, TooLarge
 from camp.coding import Unheld
 from camp.shared import LogRefused
 
