@@ -12,9 +12,26 @@ use std::alloc::{AllocError, Global};
 /// Names of patches, each once.
 pub type NameSet = SharedMap<Name, ()>;
 
-/// Makes the set of names.
+/// The most names that `set_of` inserts in the order in which they are given.
+const FEW_NAMES: usize = 64;
+
+/// Makes the set of names. Many names are sorted first: each is then inserted at the end of the set's entries,
+/// where an insertion before others moves all of those.
 pub fn set_of(alloc: Global, names: &[Name]) -> Result<NameSet, AllocError>
     ensures exact { IfOk result (λ set. (name : List ℕ) → is_among (names_in set) name ≡ is_among names.now name) }
+{
+    if names.len() <= FEW_NAMES {
+        return filled(alloc, names);
+    }
+    let mut sorted = Vec::from_slice(alloc, names)?;
+    sorted.sort_unstable();
+    let set = filled(alloc, &sorted)?;
+    Ok(set)
+}
+
+/// Inserts names, in this order, into an empty set.
+fn filled(alloc: Global, names: &[Name]) -> Result<NameSet, AllocError>
+    ensures { IfOk result (λ set. (name : List ℕ) → is_among (names_in set) name ≡ is_among names.now name) }
 {
     let mut set = MapBuilder::from_map(&SharedMap::new(alloc))?;
     for name in names {
