@@ -1,19 +1,19 @@
 -- Changes of one file, one after another.
 use Rattle.std.proofs.Common.{◌≡◌, ℕ, ◌+◌, ◌<◌, ◌≤◌, List, [], ◌∷◌, ◌++◌, length, drop, refl, sym, ap, subst, ◌∙◌, append_assoc, append-nil, arith, inl, inr, ⊎_elim, Option, None, Some, Result, Ok, Err}
-use Rattle.std.proofs.Common.{add-one, drop-cons, get_or, length-drop}
-use Rattle.std.proofs.lemmas.List.{nil_from_length}
+use Rattle.std.proofs.Common.{add-one, drop-cons, get_or, length-append, length-drop, suc, take, take_all, zero, ◌-◌}
+use Rattle.std.proofs.lemmas.List.{drop-drop, length-take, length-take-le, nil_from_length}
 use Rattle.std.specs.FinMap.{get, insert, remove}
 use Rattle.std.specs.List.{AllByRecursion}
 use Rattle.camp_base.specs.Trees.{Files, Lines}
 use Rattle.camp_coding.proofs.PlaceLemmas.{inserted_at, inserted_other, removed_at, removed_other}
-use Rattle.camp_diff.specs.EditScripts.{AppliesHunk, AppliesInOrder, IsEditScript, IsTightHunk}
+use Rattle.camp_diff.specs.EditScripts.{AppliesHunk, AppliesInOrder, IsEditScript, IsTightHunk, IsWithin, lines_between}
 use Rattle.camp_diff.specs.declared.hunks.DiffHunk.{DiffHunk}
 use Rattle.camp_prim.specs.declared.primitives.Primitive.{Primitive}
 use Rattle.camp_prim.specs.declared.primitives.Primitive.TheVariants.{Add, Remove}
-use Rattle.camp_import.specs.TreeChanges.{LeadThrough}
+use Rattle.camp_import.specs.TreeChanges.{HasShortSides, LeadThrough}
 use Rattle.camp_import.specs.declared.edits.ChangeFault.{ChangeFault}
 use Rattle.camp_import.specs.declared.edits.ChangeFault.TheVariants.{Memory, TooManyLines}
-use Rattle.camp_import.specs.Inside.Growing.{AreTooMany, GrowsByFile, GrowsByFileOr, LeadToFile, SetsFile, primitive_of}
+use Rattle.camp_import.specs.Inside.Growing.{AreTooMany, GrowsByFile, GrowsByFileOr, GrowsByHunk, IsFirstPiece, IsShort, LeadToFile, SetsFile, primitive_of}
 
 -- changes after changes
 pub lead_on : (first second : List Primitive) (old mid new : Files) → LeadThrough first old mid → LeadThrough second mid new → LeadThrough (first ++ second) old new
@@ -61,12 +61,126 @@ from_to_add path files is = record {
   sets = record { at = inserted_at files path []; other = inserted_other files path [] };
 }
 
+-- changes of both lists are short
+pub all_short : (first second : List Primitive) → AllByRecursion HasShortSides first → AllByRecursion HasShortSides second → AllByRecursion HasShortSides (first ++ second)
+all_short [] second a b = b
+all_short (change ∷ first) second a b = (a.0, all_short first second a.1 b)
+
+front : (j n : ℕ) (xs : Lines) → take j xs ++ take n (drop j xs) ≡ take (j + n) xs
+front zero n xs = let e : n ≡ 0 + n = omega arith in ap (λ (k : ℕ). take k xs) e
+front (suc j) n [] = take_all n [] (omega arith) ∙ sym (take_all (suc j + n) [] (omega arith))
+front (suc j) n (x ∷ xs) =
+    let e : suc (j + n) ≡ suc j + n = omega arith in
+    ap (λ (l : Lines). x ∷ l) (front j n xs) ∙ ap (λ (k : ℕ). take k (x ∷ xs)) e
+
+-- lines in two ranges
+between_both : (i k j : ℕ) (xs : Lines) → i ≤ k → k ≤ j → lines_between i j xs ≡ lines_between i k xs ++ lines_between k j xs
+between_both i k j xs le le' =
+    let n : k - i + (j - k) ≡ j - i = omega (arith, le, le') in
+    let at : i + (k - i) ≡ k = omega (arith, le) in
+    ap (λ (m : ℕ). take m (drop i xs)) (sym n)
+    ∙ sym (front (k - i) (j - k) (drop i xs))
+    ∙ ap (λ (l : Lines). lines_between i k xs ++ take (j - k) l) (drop-drop (k - i) i xs ∙ ap (λ (m : ℕ). drop m xs) at)
+
+-- the file between a piece of a hunk and its rest
+pub record CutsHunk (old new : Lines) (piece rest : DiffHunk) (file later : Lines) : Type 0 where
+  pub mid : Lines
+  pub first : AppliesHunk old new piece file mid
+  pub second : AppliesHunk old new rest mid later
+
+pub cuts_hunk : (old new : Lines) (os i oe ns j ne : ℕ) (file later : Lines) → os ≤ i → i ≤ oe → ns ≤ j → j ≤ ne → j ≤ length new
+    → AppliesHunk old new (record { old_start = os; old_end = oe; new_start = ns; new_end = ne }) file later
+    → CutsHunk old new (record { old_start = os; old_end = i; new_start = ns; new_end = j }) (record { old_start = i; old_end = oe; new_start = j; new_end = ne }) file later
+cuts_hunk old new os i oe ns j ne file later o1 o2 n1 n2 within applies =
+    let b = applies.before in
+    let a = applies.after in
+    let g1 : Lines = lines_between os i old in
+    let g2 : Lines = lines_between i oe old in
+    let c1 : Lines = lines_between ns j new in
+    let c2 : Lines = lines_between j ne new in
+    let size : length c1 ≡ j - ns = length-take-le (j - ns) (drop ns new) (omega (arith, n1, within, length-drop ns new)) in
+    record {
+      mid = b ++ c1 ++ (g2 ++ a);
+      first = record {
+        before = b;
+        after = g2 ++ a;
+        at = applies.at;
+        was = applies.was
+            ∙ ap (λ (l : Lines). b ++ l ++ a) (between_both os i oe old o1 o2)
+            ∙ ap (λ (l : Lines). l ++ a) (sym (append_assoc b g1 g2))
+            ∙ append_assoc (b ++ g1) g2 a;
+        becomes = refl;
+      };
+      second = record {
+        before = b ++ c1;
+        after = a;
+        at = omega (arith, applies.at, size, n1, length-append b c1);
+        was = sym (append_assoc (b ++ c1) g2 a);
+        becomes = applies.becomes
+            ∙ ap (λ (l : Lines). b ++ l ++ a) (between_both ns j ne new n1 n2)
+            ∙ ap (λ (l : Lines). l ++ a) (sym (append_assoc b c1 c2));
+      };
+    }
+
+-- a hunk whose sides are short
+pub grows_by_one : (path : List ℕ) (old new : Lines) (hunk : DiffHunk) (before after : List Primitive)
+    → IsShort hunk → after ≡ before ++ primitive_of path old new hunk ∷ [] → GrowsByHunk path old new hunk before after
+grows_by_one path old new hunk before after short is = record {
+  more = primitive_of path old new hunk ∷ [];
+  grows = is;
+  changes = from_to_hunk path old new hunk;
+  short = (
+    (
+      omega (arith, short.old_short, length-take (hunk.old_end - hunk.old_start) (drop hunk.old_start old)),
+      omega (arith, short.new_short, length-take (hunk.new_end - hunk.new_start) (drop hunk.new_start new)),
+    ),
+    tt,
+  );
+}
+
+-- a piece of a hunk, and then its rest
+pub grows_by_pieces : (path : List ℕ) (old new : Lines) (hunk piece : DiffHunk) (before between after : List Primitive)
+    → IsWithin old new hunk → IsFirstPiece hunk piece → between ≡ before ++ primitive_of path old new piece ∷ []
+    → GrowsByHunk path old new (record { old_start = piece.old_end; old_end = hunk.old_end; new_start = piece.new_end; new_end = hunk.new_end }) between after
+    → GrowsByHunk path old new hunk before after
+grows_by_pieces path old new hunk piece before between after within is one grown =
+    let first = grows_by_one path old new piece before between is.short one in
+    let rest : DiffHunk = record { old_start = piece.old_end; old_end = hunk.old_end; new_start = piece.new_end; new_end = hunk.new_end } in
+    record {
+      more = first.more ++ grown.more;
+      grows = grown.grows ∙ ap (λ (l : List Primitive). l ++ grown.more) first.grows ∙ append_assoc before first.more grown.more;
+      changes = λ file later applies.
+          let cut : CutsHunk old new (record { old_start = hunk.old_start; old_end = piece.old_end; new_start = hunk.new_start; new_end = piece.new_end }) rest file later =
+          cuts_hunk old new hunk.old_start piece.old_end hunk.old_end hunk.new_start piece.new_end hunk.new_end file later
+          (omega (arith, is.old_start, is.old_from)) is.old_to (omega (arith, is.new_start, is.new_from)) is.new_to (omega (arith, is.new_to, within.new_within)) applies in
+          let start : AppliesHunk old new piece file cut.mid =
+          subst (λ (k : ℕ). AppliesHunk old new (record { old_start = piece.old_start; old_end = piece.old_end; new_start = k; new_end = piece.new_end }) file cut.mid) (sym is.new_start)
+          (subst (λ (k : ℕ). AppliesHunk old new (record { old_start = k; old_end = piece.old_end; new_start = hunk.new_start; new_end = piece.new_end }) file cut.mid) (sym is.old_start) cut.first) in
+          from_to_both path (Some file) (Some cut.mid) (Some later) first.more grown.more (first.changes file cut.mid start) (grown.changes cut.mid later cut.second);
+      short = all_short first.more grown.more first.short grown.short;
+    }
+
+-- what is left of a hunk after a piece
+pub rest_within : (old new : Lines) (hunk piece : DiffHunk) → IsWithin old new hunk → IsFirstPiece hunk piece
+    → IsWithin old new (record { old_start = piece.old_end; old_end = hunk.old_end; new_start = piece.new_end; new_end = hunk.new_end })
+rest_within old new hunk piece within is = record { old_ordered = is.old_to; old_within = within.old_within; new_ordered = is.new_to; new_within = within.new_within }
+
+-- a piece lies in the two lists
+pub piece_within : (old new : Lines) (hunk piece : DiffHunk) → IsWithin old new hunk → IsFirstPiece hunk piece → IsWithin old new piece
+piece_within old new hunk piece within is = record {
+  old_ordered = is.old_from;
+  old_within = omega (arith, is.old_to, within.old_within);
+  new_ordered = is.new_from;
+  new_within = omega (arith, is.new_to, within.new_within);
+}
+
 -- the hunks before the rest of an edit script were appended
 pub record EditsSoFar (path : List ℕ) (old new : Lines) (rest : List DiffHunk) (before after : List Primitive) : Type 0 where
   pub more : List Primitive
   pub grows : after ≡ before ++ more
   pub mid : Lines
   pub changes : FromTo path (Some old) (Some mid) more
+  pub short : AllByRecursion HasShortSides more
   pub left : AppliesInOrder old new rest mid new
   pub tight : AllByRecursion (IsTightHunk old new) rest
 
@@ -76,19 +190,21 @@ edits_start path old new hunks before script = record {
   grows = sym (append-nil before);
   mid = old;
   changes = from_to_none path (Some old);
+  short = tt;
   left = script.leads;
   tight = script.tight;
 }
 
 pub one_more_hunk : (path : List ℕ) (old new : Lines) (hunk : DiffHunk) (rest : List DiffHunk) (before after longer : List Primitive)
-    → EditsSoFar path old new (hunk ∷ rest) before after → longer ≡ after ++ primitive_of path old new hunk ∷ [] → EditsSoFar path old new rest before longer
-one_more_hunk path old new hunk rest before after longer so_far is =
+    → EditsSoFar path old new (hunk ∷ rest) before after → GrowsByHunk path old new hunk after longer → EditsSoFar path old new rest before longer
+one_more_hunk path old new hunk rest before after longer so_far grown =
     let step = so_far.left in
     record {
-      more = so_far.more ++ primitive_of path old new hunk ∷ [];
-      grows = is ∙ ap (λ (l : List Primitive). l ++ primitive_of path old new hunk ∷ []) so_far.grows ∙ append_assoc before so_far.more (primitive_of path old new hunk ∷ []);
+      more = so_far.more ++ grown.more;
+      grows = grown.grows ∙ ap (λ (l : List Primitive). l ++ grown.more) so_far.grows ∙ append_assoc before so_far.more grown.more;
       mid = step.0;
-      changes = from_to_both path (Some old) (Some so_far.mid) (Some step.0) so_far.more (primitive_of path old new hunk ∷ []) so_far.changes (from_to_hunk path old new hunk so_far.mid step.0 step.1);
+      changes = from_to_both path (Some old) (Some so_far.mid) (Some step.0) so_far.more grown.more so_far.changes (grown.changes so_far.mid step.0 step.1);
+      short = all_short so_far.more grown.more so_far.short grown.short;
       left = step.2;
       tight = so_far.tight.1;
     }
@@ -98,6 +214,7 @@ edits_done path old new before after so_far = record {
   more = so_far.more;
   grows = so_far.grows;
   changes = subst (λ (l : Lines). FromTo path (Some old) (Some l) so_far.more) so_far.left so_far.changes;
+  short = so_far.short;
 }
 
 pub grows_removed : (path : List ℕ) (old : Lines) (before after longer : List Primitive)
@@ -106,6 +223,7 @@ grows_removed path old before after longer grown is = record {
   more = grown.more ++ Remove path ∷ [];
   grows = is ∙ ap (λ (l : List Primitive). l ++ Remove path ∷ []) grown.grows ∙ append_assoc before grown.more (Remove path ∷ []);
   changes = from_to_both path (Some old) (Some []) None grown.more (Remove path ∷ []) grown.changes (from_to_remove path);
+  short = all_short grown.more (Remove path ∷ []) grown.short (tt, tt);
 }
 
 pub grows_added : (path : List ℕ) (new : Lines) (before between after : List Primitive)
@@ -114,10 +232,11 @@ grows_added path new before between after is grown = record {
   more = (Add path ∷ []) ++ grown.more;
   grows = grown.grows ∙ ap (λ (l : List Primitive). l ++ grown.more) is ∙ append_assoc before (Add path ∷ []) grown.more;
   changes = from_to_both path None (Some []) (Some new) (Add path ∷ []) grown.more (from_to_add path) grown.changes;
+  short = (tt, grown.short);
 }
 
 pub grows_none : (path : List ℕ) (before : List Primitive) → GrowsByFile path None None before before
-grows_none path before = record { more = []; grows = sym (append-nil before); changes = from_to_none path None }
+grows_none path before = record { more = []; grows = sym (append-nil before); changes = from_to_none path None; short = tt }
 
 -- the same where the changes of the lines may have failed
 pub added_or : (path : List ℕ) (new lines : Lines) (before between after : List Primitive) (result : Result (Unit {0}) ChangeFault)
@@ -138,7 +257,7 @@ not_removed path old lines before after Memory same out = tt
 -- the next hunk of an edit script was appended
 pub next_hunk : (path : List ℕ) (old new : Lines) (hunks : List DiffHunk) (index : ℕ) (before after longer : List Primitive) (none : DiffHunk)
     → index < length hunks → EditsSoFar path old new (drop index hunks) before after
-    → longer ≡ after ++ primitive_of path old new (get_or hunks index none) ∷ []
+    → GrowsByHunk path old new (get_or hunks index none) after longer
     → EditsSoFar path old new (drop (index + 1) hunks) before longer
 next_hunk path old new hunks index before after longer none within so_far is =
     let cut : drop index hunks ≡ get_or hunks index none ∷ drop (index + 1) hunks =

@@ -3,6 +3,7 @@ use Rattle.std.proofs.Common.{◌≡◌, ℕ, Bool, true, false, ◌&&◌, T, Li
 use Rattle.std.specs.Prelude.{option_map}
 use Rattle.std.specs.FinMap.{entries, entries_sorted, find, get, get-entries, is_sorted, nat_cmp-IsAntisymmetric, same_map, slice_cmp-IsAntisymmetric}
 use Rattle.std.specs.FinMap.Entries.{below_all}
+use Rattle.std.specs.List.{AllByRecursion}
 use Rattle.std.specs.Ordering.{eq_by_cmp, is_lt, nat_cmp}
 use Rattle.std.specs.declared.cmp.Ordering.{Ordering}
 use Rattle.std.specs.Cmp.Lexicographic.{slice_cmp}
@@ -16,10 +17,10 @@ use Rattle.camp_coding.proofs.PlaceLemmas.{bytes_or_not}
 use Rattle.camp_prim.specs.declared.primitives.Primitive.{Primitive}
 use Rattle.camp_share.specs.Maps.{map_of}
 use Rattle.camp_import.specs.Inside.Growing.{AreTooMany, GrowsByFile, GrowsByFileOr}
-use Rattle.camp_import.specs.TreeChanges.{DifferWithin, GivesChanges, HasLongFile, HasPath, LeadThrough}
+use Rattle.camp_import.specs.TreeChanges.{DifferWithin, GivesChanges, HasLongFile, HasPath, HasShortSides, LeadThrough}
 use Rattle.camp_import.specs.declared.edits.ChangeFault.{ChangeFault}
 use Rattle.camp_import.specs.declared.edits.ChangeFault.TheVariants.{Memory, TooManyLines}
-use Rattle.camp_import.proofs.FileLemmas.{lead_on}
+use Rattle.camp_import.proofs.FileLemmas.{all_short, lead_on}
 
 -- entries of a set of paths
 abbrev pub PathEntries : Type 0
@@ -92,6 +93,7 @@ pub record LeadsSoFar (old new : Files) (rest : PathEntries) (changes : List Pri
   pub left : (path : List ℕ) → HasEntry rest path → get reached path ≡ get old path
   pub made : (path : List ℕ) → ¬ (HasEntry rest path) → get reached path ≡ get new path
   pub apart : AreApart rest
+  pub short : AllByRecursion HasShortSides changes
 
 pub leads_start : (set : PathEntries) (old new : Files) → DifferWithin set old new → LeadsSoFar old new (entries_of set) []
 leads_start set old new within = record {
@@ -100,6 +102,7 @@ leads_start set old new within = record {
   left = λ path has. refl;
   made = λ path none. within path (λ has. none (has_entry set path has));
   apart = apart_from_sorted (entries_of set) (entries_sorted (map_of path_cmp set));
+  short = tt;
 }
 
 leads_one_more : (old new : Files) (entry : List ℕ × Unit {0}) (rest : PathEntries) (changes longer : List Primitive)
@@ -117,6 +120,7 @@ leads_one_more old new entry rest changes longer grown so_far =
           (λ differs. to.sets.other path differs ∙ so_far.made path (λ has. ⊎_elim (λ same. differs (sym same)) none has))
           (bytes_or_not path entry.0);
       apart = so_far.apart.1;
+      short = subst (AllByRecursion HasShortSides) (sym grown.grows) (all_short changes grown.more so_far.short grown.short);
     }
 
 -- the changes of one more path

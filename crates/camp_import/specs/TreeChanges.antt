@@ -1,5 +1,5 @@
 -- Changes that lead from one tree to another.
-use Rattle.std.specs.Prelude.{◌≡◌, ℕ, ◌<◌, ◌⊎◌, List, [], ◌∷◌, length, Some, Result, Ok, Err}
+use Rattle.std.specs.Prelude.{◌≡◌, ℕ, ◌<◌, ◌≤◌, ◌⊎◌, List, [], ◌∷◌, length, Some, Result, Ok, Err}
 use Rattle.std.specs.FinMap.{get}
 use Rattle.std.specs.Global.{Vec}
 use Rattle.std.specs.Ordering.{nat_cmp}
@@ -7,6 +7,7 @@ use Rattle.std.specs.Cmp.Lexicographic.{slice_cmp}
 use Rattle.camp_base.specs.Trees.{Files, Lines}
 use Rattle.camp_prim.specs.Effect.{Applies}
 use Rattle.camp_prim.specs.declared.primitives.Primitive.{Primitive}
+use Rattle.camp_prim.specs.declared.primitives.Primitive.TheVariants.{Add, Remove, Hunk}
 use Rattle.camp_share.specs.Maps.{map_of}
 use Rattle.camp_import.specs.declared.edits.ChangeFault.{ChangeFault}
 use Rattle.camp_import.specs.declared.edits.ChangeFault.TheVariants.{Memory, TooManyLines}
@@ -40,3 +41,13 @@ abbrev pub GivesChanges : (old new : Files) → Result (Vec Primitive) ChangeFau
 GivesChanges old new (Ok changes) = LeadThrough changes.items old new
 GivesChanges old new (Err TooManyLines) = HasLongFile old ⊎ HasLongFile new
 GivesChanges old new (Err Memory) = Unit {0}
+
+-- the most lines of a side of a hunk that a script can hold
+abbrev pub most_side_lines : ℕ
+most_side_lines = 65_535
+
+-- a script can hold a change: the sides of a hunk are not too long
+abbrev pub HasShortSides : Primitive → Type 0
+HasShortSides (Add path) = Unit {0}
+HasShortSides (Remove path) = Unit {0}
+HasShortSides (Hunk hunk) = (length hunk.old ≤ most_side_lines) × (length hunk.new ≤ most_side_lines)

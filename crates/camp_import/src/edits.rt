@@ -1,8 +1,8 @@
 //! The changes of the lines of one file.
 
-ghost use Rattle.std.specs.Prelude.{◌≡◌, ◌≤◌, ◌<◌, ◌++◌, ◌∷◌, [], IfOk, OnOk, Some, length};
-ghost use Rattle.camp_diff.specs.EditScripts.{IsTightHunk};
-ghost use Rattle.camp_import.specs.Inside.Growing.{GrowsByFile, GrowsByFileOr, primitive_of};
+ghost use Rattle.std.specs.Prelude.{◌≡◌, ◌≤◌, ◌<◌, ◌++◌, ◌∷◌, [], IfOk, MatchOption, OnOk, Some, length};
+ghost use Rattle.camp_diff.specs.EditScripts.{IsWithin};
+ghost use Rattle.camp_import.specs.Inside.Growing.{GrowsByFile, GrowsByFileOr, GrowsByHunk, IsFirstPiece, IsShort, primitive_of};
 ghost use Rattle.camp_import.specs.declared.edits.ChangeFault.TheVariants as fault;
 
 use camp_base::{Line, Path};
@@ -13,6 +13,9 @@ use thiserror::Error;
 
 /// The most lines of a file.
 pub(crate) const MAX_LINES: usize = 1_000_000;
+
+/// The most lines of a side of a hunk that a script can hold.
+const MAX_SIDE: usize = 65_535;
 
 /// Why the changes between two trees were not made.
 #[derive(Clone, Copy, PartialEq, Eq, Debug, Error)]
@@ -70,9 +73,62 @@ fn append_script(
 {
     let hunks = diff(alloc, old, new)?;
     for hunk in &hunks {
-        append_hunk(alloc, changes, path, old, new, *hunk)?;
+        append_pieces(alloc, changes, path, old, new, *hunk)?;
     }
     Ok(())
+}
+
+/// Appends the changes of one hunk: one, or several where a side has more than 65,535 lines.
+fn append_pieces(
+    alloc: Global,
+    changes: &mut Vec<Primitive>,
+    path: &Path,
+    old: &[Line],
+    new: &[Line],
+    hunk: DiffHunk,
+) -> Result<(), AllocError>
+    requires within { IsWithin old.now new.now hunk }
+    requires old_short { length old.now ≤ 1_000_000 }
+    requires new_short { length new.now ≤ 1_000_000 }
+    ensures { OnOk result (GrowsByHunk path.now old.now new.now hunk changes.old.items changes.new.items) }
+{
+    let Some(piece) = first_piece(hunk) else {
+        return append_hunk(alloc, changes, path, old, new, hunk);
+    };
+    append_hunk(alloc, changes, path, old, new, piece)?;
+    let rest = DiffHunk {
+        old_start: piece.old_end,
+        old_end: hunk.old_end,
+        new_start: piece.new_end,
+        new_end: hunk.new_end,
+    };
+    append_pieces(alloc, changes, path, old, new, rest)
+}
+
+/// Returns the first piece of a hunk that is too long: as many old lines as a side may have, or, where these
+/// fit, all of them and as many new ones. `None` if no side is too long.
+fn first_piece(hunk: DiffHunk) -> Option<DiffHunk>
+    requires old_ordered { hunk.old_start ≤ hunk.old_end }
+    requires new_ordered { hunk.new_start ≤ hunk.new_end }
+    ensures { MatchOption result (IsShort hunk) (λ piece. IsFirstPiece hunk piece) }
+{
+    if hunk.old_end - hunk.old_start > MAX_SIDE {
+        return Some(DiffHunk {
+            old_start: hunk.old_start,
+            old_end: hunk.old_start + MAX_SIDE,
+            new_start: hunk.new_start,
+            new_end: hunk.new_start,
+        });
+    }
+    if hunk.new_end - hunk.new_start > MAX_SIDE {
+        return Some(DiffHunk {
+            old_start: hunk.old_start,
+            old_end: hunk.old_end,
+            new_start: hunk.new_start,
+            new_end: hunk.new_start + MAX_SIDE,
+        });
+    }
+    None
 }
 
 fn append_hunk(
@@ -83,7 +139,7 @@ fn append_hunk(
     new: &[Line],
     hunk: DiffHunk,
 ) -> Result<(), AllocError>
-    requires tight { IsTightHunk old.now new.now hunk }
+    requires within { IsWithin old.now new.now hunk }
     requires old_short { length old.now ≤ 1_000_000 }
     requires new_short { length new.now ≤ 1_000_000 }
     ensures { OnOk result (changes.new.items ≡ changes.old.items ++ primitive_of path.now old.now new.now hunk ∷ []) }

@@ -82,6 +82,15 @@ fn changes_apply(rt: HostRuntime) -> Result<(), Fail> {
     Ok(())
 }
 
+/// 70,000 lines are removed by two hunks, before the file is.
+#[test]
+fn long_side(rt: HostRuntime) -> Result<(), Fail> {
+    let text = [b'x'; 70_000];
+    let old = [(b"a".as_slice(), text.as_slice())];
+    assert_eq!(rt; applied(&rt, rt.alloc(), &old, &[])?, 3);
+    Ok(())
+}
+
 /// 130 changes are two parts of 64 and one of 2; the last part has the name of the patch.
 #[test]
 fn parts(rt: HostRuntime) -> Result<(), Fail> {

@@ -1,7 +1,8 @@
 //! The changes between two trees.
 
-ghost use Rattle.std.specs.Prelude.{◌≡◌};
-ghost use Rattle.camp_import.specs.TreeChanges.{DifferWithin, GivesChanges};
+ghost use Rattle.std.specs.Prelude.{IfOk};
+ghost use Rattle.std.specs.List.{AllByRecursion};
+ghost use Rattle.camp_import.specs.TreeChanges.{DifferWithin, GivesChanges, HasShortSides};
 
 use crate::edits::ChangeFault;
 use crate::file_changes::append_file_changes;
@@ -20,6 +21,7 @@ pub fn changes_between(
 ) -> Result<Vec<Primitive>, ChangeFault>
     requires within { DifferWithin paths.now old.now new.now }
     ensures exact { GivesChanges old.now new.now result }
+    ensures short { IfOk result (λ changes. AllByRecursion HasShortSides changes.items) }
 {
     let mut changes = Vec::new(alloc);
     'paths: for entry in paths.iter() {

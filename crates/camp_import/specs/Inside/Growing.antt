@@ -1,13 +1,14 @@
 -- Lists of changes that grow by the changes of one file.
-use Rattle.std.specs.Prelude.{◌≡◌, ℕ, ◌+◌, ◌<◌, ◌⊎◌, List, ◌++◌, length, Option, Some, None, Result, Ok, Err}
+use Rattle.std.specs.Prelude.{◌≡◌, ℕ, ◌+◌, ◌-◌, ◌<◌, ◌≤◌, ◌⊎◌, List, ◌++◌, length, Option, Some, None, Result, Ok, Err}
 use Rattle.std.specs.FinMap.{get}
+use Rattle.std.specs.List.{AllByRecursion}
 use Rattle.camp_base.specs.Trees.{Files, Lines}
-use Rattle.camp_diff.specs.EditScripts.{lines_between}
+use Rattle.camp_diff.specs.EditScripts.{AppliesHunk, lines_between}
 use Rattle.camp_diff.specs.declared.hunks.DiffHunk.{DiffHunk}
 use Rattle.camp_prim.specs.Hunks.{hunk_of}
 use Rattle.camp_prim.specs.declared.primitives.Primitive.{Primitive}
 use Rattle.camp_prim.specs.declared.primitives.Primitive.TheVariants.{Hunk}
-use Rattle.camp_import.specs.TreeChanges.{LeadThrough, most_lines}
+use Rattle.camp_import.specs.TreeChanges.{HasShortSides, LeadThrough, most_lines, most_side_lines}
 use Rattle.camp_import.specs.declared.edits.ChangeFault.{ChangeFault}
 use Rattle.camp_import.specs.declared.edits.ChangeFault.TheVariants.{Memory, TooManyLines}
 
@@ -27,6 +28,7 @@ pub record GrowsByFile (path : List ℕ) (old new : Option Lines) (before after 
   pub more : List Primitive
   pub grows : after ≡ before ++ more
   pub changes : (files : Files) → get files path ≡ old → LeadToFile path new more files
+  pub short : AllByRecursion HasShortSides more
 
 -- the primitive of a hunk of an edit script
 abbrev pub primitive_of : List ℕ → (old new : Lines) → DiffHunk → Primitive
@@ -43,3 +45,26 @@ abbrev pub GrowsByFileOr : List ℕ → (old new : Option Lines) → List Primit
 GrowsByFileOr path old new before (Ok done) after = GrowsByFile path old new before after
 GrowsByFileOr path old new before (Err TooManyLines) after = AreTooMany old ⊎ AreTooMany new
 GrowsByFileOr path old new before (Err Memory) after = Unit {0}
+
+-- a list grows by the changes of a hunk, whatever the file is
+pub record GrowsByHunk (path : List ℕ) (old new : Lines) (hunk : DiffHunk) (before after : List Primitive) : Type 0 where
+  pub more : List Primitive
+  pub grows : after ≡ before ++ more
+  pub changes : (file later : Lines) → AppliesHunk old new hunk file later → (files : Files) → get files path ≡ Some file → LeadToFile path (Some later) more files
+  pub short : AllByRecursion HasShortSides more
+
+-- the sides of a hunk are not too long
+pub record IsShort (hunk : DiffHunk) : Type 0 where
+  pub old_short : hunk.old_end ≤ hunk.old_start + most_side_lines
+  pub new_short : hunk.new_end ≤ hunk.new_start + most_side_lines
+
+-- a piece is the start of a hunk: its sides are not too long, and lines are left
+pub record IsFirstPiece (hunk piece : DiffHunk) : Type 0 where
+  pub old_start : piece.old_start ≡ hunk.old_start
+  pub new_start : piece.new_start ≡ hunk.new_start
+  pub old_from : piece.old_start ≤ piece.old_end
+  pub new_from : piece.new_start ≤ piece.new_end
+  pub old_to : piece.old_end ≤ hunk.old_end
+  pub new_to : piece.new_end ≤ hunk.new_end
+  pub short : IsShort piece
+  pub smaller : hunk.old_end - piece.old_end + (hunk.new_end - piece.new_end) < hunk.old_end - hunk.old_start + (hunk.new_end - hunk.new_start)

@@ -6,8 +6,8 @@ use Rattle.camp_import.proofs.edits.append_script.Goals as goal
 pub loop-hunk-preserved : goal.loop-hunk-preserved
 loop-hunk-preserved c =
     next_hunk c.args.path.now c.args.old.now c.args.new.now c.deref-hunk-items.result.now c.loop-hunk.hunk-index
-    c.args.changes.now.items c.loop-hunk.changes.items c.append_hunk.new.changes.items _
-    c.loop-hunk-test.true c.loop-hunk.invariant c.in_ok-append_hunk.ensures
+    c.args.changes.now.items c.loop-hunk.changes.items c.append_pieces.new.changes.items _
+    c.loop-hunk-test.true c.loop-hunk.invariant c.in_ok-append_pieces.ensures
 
 pub returns : goal.returns
 returns c =

@@ -22,19 +22,18 @@ paths-preserved c =
     (file_is (λ lines. lines.now) c.file-in-paths.result (get c.args.new.now entry.0) c.file-in-paths.ensures.exact)
     c.in_ok-append_file_changes.ensures c.paths.invariant
 
-pub returns-in_err-append_file_changes : goal.returns-in_err-append_file_changes
-returns-in_err-append_file_changes c =
+pub returns-in_err-append_file_changes-clause-exact : goal.returns-in_err-append_file_changes-clause-exact
+returns-in_err-append_file_changes-clause-exact c =
     let entry = c.in-Some.entry.now in
     let p = err_from_is_err_and c.from_residual.result c.from_residual.ensures.1 in
-    record {
-      exact = rw (p.1, p.2)
-          (fails_at c.args.old.now c.args.new.now entry.0 _ _ c.paths.changes.items c.append_file_changes.new.changes.items c.in_err-append_file_changes.field-0.0
-          (file_is (λ lines. lines.now) c.file.result (get c.args.old.now entry.0) c.file.ensures.exact)
-          (file_is (λ lines. lines.now) c.file-in-paths.result (get c.args.new.now entry.0) c.file-in-paths.ensures.exact)
-          c.in_err-append_file_changes.ensures);
-    }
+    rw (p.1, p.2)
+    (fails_at c.args.old.now c.args.new.now entry.0 _ _ c.paths.changes.items c.append_file_changes.new.changes.items c.in_err-append_file_changes.field-0.0
+    (file_is (λ lines. lines.now) c.file.result (get c.args.old.now entry.0) c.file.ensures.exact)
+    (file_is (λ lines. lines.now) c.file-in-paths.result (get c.args.new.now entry.0) c.file-in-paths.ensures.exact)
+    c.in_err-append_file_changes.ensures)
 
 pub returns : goal.returns
 returns c = record {
   exact = leads_there c.args.old.now c.args.new.now c.paths.entry-iterator c.paths.changes.items c.in-None.ensures.steps.0 c.paths.invariant;
+  short = c.paths.invariant.short;
 }
