@@ -9,7 +9,7 @@ again c =
     let stand = subst (λ history. AllByRecursion CanStand (calls_of history)) c.history.ensures.value c.in_ok-text.ensures.stand in
     let written = c.deref.ensures.value ∙ c.in_ok-text.ensures.text ∙ ap kept_text c.history.ensures.value in
     comes_back c.kept_text_leads_back.ensures.law c.one_by_one_is_serial.ensures.law c.args.book.now c.in_ok-run.run'.book c.in_ok-first.first c.deref.result.now _ (lists_of c.sections.result.now) (lists_of c.in_ok-run.run'.answers.items)
-    c.history.ensures.first (c.in_ok-first.ensures ∙ c.state.ensures.began) c.in_ok-run.ensures.begins
+    c.history.ensures.first (c.in_ok-first.ensures.exact ∙ c.state.ensures.began) c.in_ok-run.ensures.begins
     c.history.ensures.legal stand c.requires written c.in-Ok.ensures.given c.sections.ensures.value c.history-kept.ensures.legal c.in_ok-run.ensures.serial
 
 pub returns-clause-history : goal.returns-clause-history
