@@ -13,14 +13,14 @@ use Rattle.camp_prim.specs.declared.primitives.Primitive.TheVariants.{Add, Remov
 use Rattle.camp_import.specs.TreeChanges.{HasShortSides, LeadThrough}
 use Rattle.camp_import.specs.declared.edits.ChangeFault.{ChangeFault}
 use Rattle.camp_import.specs.declared.edits.ChangeFault.TheVariants.{Memory, TooManyLines}
-use Rattle.camp_import.specs.Inside.Growing.{AreTooMany, GrowsByFile, GrowsByFileOr, GrowsByHunk, IsFirstPiece, IsShort, LeadToFile, SetsFile, primitive_of}
+use Rattle.camp_import.specs.Inside.Growing.{AreTooMany, GrowsByFile, GrowsByFileOr, GrowsByHunk, IsFirstPiece, IsShort, LeadToFile, PutsLines, primitive_of}
 
 -- changes after changes
 pub lead_on : (first second : List Primitive) (old mid new : Files) → LeadThrough first old mid → LeadThrough second mid new → LeadThrough (first ++ second) old new
 lead_on [] second old mid new a b = subst (λ (f : Files). LeadThrough second f new) (sym a) b
 lead_on (change ∷ first) second old mid new a b = (a.0, a.1, lead_on first second a.0 mid new a.2 b)
 
-sets_again : (path : List ℕ) (lines more : Option Lines) (old mid new : Files) → SetsFile path lines old mid → SetsFile path more mid new → SetsFile path more old new
+sets_again : (path : List ℕ) (lines more : Option Lines) (old mid new : Files) → PutsLines path lines old mid → PutsLines path more mid new → PutsLines path more old new
 sets_again path lines more old mid new a b = record { at = b.at; other = λ another differs. b.other another differs ∙ a.other another differs }
 
 -- changes that lead from these lines at a path to those

@@ -18,8 +18,8 @@ LeadThrough [] old new = old ≡ new
 LeadThrough (change ∷ changes) old new = (between : Files) × Applies change old between × LeadThrough changes between new
 
 -- the most lines of a file
-abbrev pub most_lines : ℕ
-most_lines = 1_000_000
+abbrev pub most_file_lines : ℕ
+most_file_lines = 1_000_000
 
 -- a set of paths has a path
 abbrev pub HasPath : List (List ℕ × Unit {0}) → List ℕ → Type 0
@@ -34,7 +34,7 @@ pub record HasLongFile (files : Files) : Type 0 where
   pub path : List ℕ
   pub lines : Lines
   pub found : get files path ≡ Some lines
-  pub long : most_lines < length lines
+  pub long : most_file_lines < length lines
 
 -- the changes lead from the old tree to the new one; or one of the two has a file of too many lines; or memory ran out
 abbrev pub GivesChanges : (old new : Files) → Result (Vec Primitive) ChangeFault → Type 0

@@ -15,8 +15,8 @@ optional_item item None = []
 optional_item item (Some line) = item_text (item line)
 
 -- the bytes of data, with an empty line after it
-abbrev pub data_text : List ℕ → List ℕ
-data_text bytes = item_text (Data bytes) ++ newline ∷ []
+abbrev pub data_item_bytes : List ℕ → List ℕ
+data_item_bytes bytes = item_text (Data bytes) ++ newline ∷ []
 
 -- the item of a change
 abbrev pub change_item : ChangeValue → ItemValue
@@ -25,8 +25,8 @@ change_item (DeleteEntry path) = Delete path
 change_item DeleteEntries = Bare DeleteAll
 
 -- the bytes of a change
-abbrev pub change_text : ChangeValue → List ℕ
-change_text change = item_text (change_item change)
+abbrev pub file_change_bytes : ChangeValue → List ℕ
+file_change_bytes change = item_text (change_item change)
 
 -- the bytes of a merge
 abbrev pub merge_text : List ℕ → List ℕ
@@ -35,19 +35,19 @@ merge_text parent = item_text (Text text.Merge parent)
 -- the bytes of a content
 unfoldable pub blob_text : BlobValue → List ℕ
 blob_text blob =
-    item_text (Bare Blob) ++ optional_item Mark blob.mark ++ optional_item (Text text.OriginalOid) blob.original_oid ++ data_text blob.content
+    item_text (Bare Blob) ++ optional_item Mark blob.mark ++ optional_item (Text text.OriginalOid) blob.original_oid ++ data_item_bytes blob.content
 
 -- the bytes of what describes a commit
 unfoldable pub description_text : CommitValue → List ℕ
 description_text commit =
     optional_item Mark commit.mark ++ optional_item (Text text.OriginalOid) commit.original_oid
     ++ optional_item (Text text.Author) commit.author ++ item_text (Text text.Committer commit.committer)
-    ++ optional_item (Text text.Encoding) commit.encoding ++ data_text commit.message
+    ++ optional_item (Text text.Encoding) commit.encoding ++ data_item_bytes commit.message
 
 -- the bytes of the parents and changes of a commit, and an empty line
 unfoldable pub contents_text : CommitValue → List ℕ
 contents_text commit =
-    optional_item (Text text.From) commit.from ++ flat_map merge_text commit.merges ++ flat_map change_text commit.changes ++ newline ∷ []
+    optional_item (Text text.From) commit.from ++ flat_map merge_text commit.merges ++ flat_map file_change_bytes commit.changes ++ newline ∷ []
 
 -- the bytes of a commit
 unfoldable pub commit_text : CommitValue → List ℕ
@@ -61,55 +61,55 @@ reset_text reset = item_text (Text text.Reset reset.reference) ++ optional_item 
 unfoldable pub tag_text : TagValue → List ℕ
 tag_text tag =
     item_text (Text text.Tag tag.name) ++ optional_item Mark tag.mark ++ item_text (Text text.From tag.from)
-    ++ optional_item (Text text.OriginalOid) tag.original_oid ++ optional_item (Text text.Tagger) tag.tagger ++ data_text tag.message
+    ++ optional_item (Text text.OriginalOid) tag.original_oid ++ optional_item (Text text.Tagger) tag.tagger ++ data_item_bytes tag.message
 
 -- the bytes of a command
-abbrev pub command_text : CommandValue → List ℕ
-command_text (BlobCommand blob) = blob_text blob
-command_text (CommitCommand commit) = commit_text commit
-command_text (ResetCommand reset) = reset_text reset
-command_text (TagCommand tag) = tag_text tag
-command_text (ProgressCommand line) = item_text (Text text.Progress line) ++ newline ∷ []
-command_text (FeatureCommand line) = item_text (Text text.Feature line)
-command_text (OptionCommand line) = item_text (Text text.Option line)
-command_text CheckpointCommand = item_text (Bare Checkpoint) ++ newline ∷ []
-command_text DoneCommand = item_text (Bare Done)
+abbrev pub stream_command_bytes : CommandValue → List ℕ
+stream_command_bytes (BlobCommand blob) = blob_text blob
+stream_command_bytes (CommitCommand commit) = commit_text commit
+stream_command_bytes (ResetCommand reset) = reset_text reset
+stream_command_bytes (TagCommand tag) = tag_text tag
+stream_command_bytes (ProgressCommand line) = item_text (Text text.Progress line) ++ newline ∷ []
+stream_command_bytes (FeatureCommand line) = item_text (Text text.Feature line)
+stream_command_bytes (OptionCommand line) = item_text (Text text.Option line)
+stream_command_bytes CheckpointCommand = item_text (Bare Checkpoint) ++ newline ∷ []
+stream_command_bytes DoneCommand = item_text (Bare Done)
 
 -- an item that may be there can be written
-abbrev pub CanBeWritten : (List ℕ → ItemValue) → Option (List ℕ) → Type 0
-CanBeWritten item line = IfSome line (λ line. IsWritable (item line))
+abbrev pub IsWritableIfAny : (List ℕ → ItemValue) → Option (List ℕ) → Type 0
+IsWritableIfAny item line = IfSome line (λ line. IsWritable (item line))
 
 -- a content that can be written
 pub record IsWritableBlob (blob : BlobValue) : Type 0 where
-  pub mark : CanBeWritten Mark blob.mark
-  pub original_oid : CanBeWritten (Text text.OriginalOid) blob.original_oid
+  pub mark : IsWritableIfAny Mark blob.mark
+  pub original_oid : IsWritableIfAny (Text text.OriginalOid) blob.original_oid
   pub content : IsWritable (Data blob.content)
 
 -- a commit that can be written
 pub record IsWritableCommit (commit : CommitValue) : Type 0 where
   pub reference : IsWritable (Text text.Commit commit.reference)
-  pub mark : CanBeWritten Mark commit.mark
-  pub original_oid : CanBeWritten (Text text.OriginalOid) commit.original_oid
-  pub author : CanBeWritten (Text text.Author) commit.author
+  pub mark : IsWritableIfAny Mark commit.mark
+  pub original_oid : IsWritableIfAny (Text text.OriginalOid) commit.original_oid
+  pub author : IsWritableIfAny (Text text.Author) commit.author
   pub committer : IsWritable (Text text.Committer commit.committer)
-  pub encoding : CanBeWritten (Text text.Encoding) commit.encoding
+  pub encoding : IsWritableIfAny (Text text.Encoding) commit.encoding
   pub message : IsWritable (Data commit.message)
-  pub from : CanBeWritten (Text text.From) commit.from
+  pub from : IsWritableIfAny (Text text.From) commit.from
   pub merges : AllByRecursion (λ parent. IsWritable (Text text.Merge parent)) commit.merges
   pub changes : AllByRecursion (λ change. IsWritable (change_item change)) commit.changes
 
 -- a reset that can be written
 pub record IsWritableReset (reset : ResetValue) : Type 0 where
   pub reference : IsWritable (Text text.Reset reset.reference)
-  pub from : CanBeWritten (Text text.From) reset.from
+  pub from : IsWritableIfAny (Text text.From) reset.from
 
 -- a tag that can be written
 pub record IsWritableTag (tag : TagValue) : Type 0 where
   pub name : IsWritable (Text text.Tag tag.name)
-  pub mark : CanBeWritten Mark tag.mark
+  pub mark : IsWritableIfAny Mark tag.mark
   pub from : IsWritable (Text text.From tag.from)
-  pub original_oid : CanBeWritten (Text text.OriginalOid) tag.original_oid
-  pub tagger : CanBeWritten (Text text.Tagger) tag.tagger
+  pub original_oid : IsWritableIfAny (Text text.OriginalOid) tag.original_oid
+  pub tagger : IsWritableIfAny (Text text.Tagger) tag.tagger
   pub message : IsWritable (Data tag.message)
 
 -- a command that can be written: its texts are in one line, and what they have to be
@@ -128,7 +128,7 @@ IsWritableCommand DoneCommand = Unit {0}
 abbrev pub CommandsComeBack : Type 0
 CommandsComeBack =
     (command : CommandValue) (rest : List ℕ) → IsWritableCommand command
-    → command_at (command_text command ++ rest) ≡ Ok (command, rest)
+    → command_at (stream_command_bytes command ++ rest) ≡ Ok (command, rest)
 
 -- a command that can be written, and does not end the stream
 abbrev pub IsWritableInside : CommandValue → Type 0
@@ -136,7 +136,7 @@ IsWritableInside command = IsWritableCommand command × (unless_done command ≡
 
 -- the bytes of commands
 abbrev pub stream_text : List CommandValue → List ℕ
-stream_text commands = flat_map command_text commands
+stream_text commands = flat_map stream_command_bytes commands
 
 -- what is read of commands that were written is these commands
 abbrev pub StreamsComeBack : Type 0

@@ -16,8 +16,8 @@ use Rattle.camp_stream.specs.declared.items.TextItem.{TextItem}
 use Rattle.camp_stream.specs.declared.items.TextItem.TheVariants as text
 
 -- a value and the bytes after it, or the first fault
-abbrev pub Reading : Type 0 → Type 0
-Reading A = Result (A × List ℕ) StreamFault
+abbrev pub ReadResult : Type 0 → Type 0
+ReadResult A = Result (A × List ℕ) StreamFault
 
 -- one step of reading after another: the first fault ends it
 infixl 10 ◌>>=◌
@@ -26,16 +26,16 @@ abbrev pub ◌>>=◌ : {A B : Type 0} → Result A StreamFault → (A → Result
 (Err fault) >>= next = Err fault
 
 -- a fault of the item at the front of these bytes
-abbrev pub fault_at : StreamFaultKind → List ℕ → StreamFault
-fault_at kind bytes = record { kind = kind; left = length bytes }
+abbrev pub item_fault : StreamFaultKind → List ℕ → StreamFault
+item_fault kind bytes = record { kind = kind; left = length bytes }
 
 -- an item, or its fault with its place
-abbrev pub located : List ℕ → Result ItemAndRest StreamFaultKind → Reading ItemValue
+abbrev pub located : List ℕ → Result ItemAndRest StreamFaultKind → ReadResult ItemValue
 located bytes (Ok found) = Ok found
-located bytes (Err kind) = Err (fault_at kind bytes)
+located bytes (Err kind) = Err (item_fault kind bytes)
 
 -- the first item
-unfoldable pub first_item : List ℕ → Reading ItemValue
+unfoldable pub first_item : List ℕ → ReadResult ItemValue
 first_item bytes = located bytes (item_at bytes)
 
 -- the text of an item that is this word and a text
@@ -96,48 +96,48 @@ change_if (Modify mode content path) = Some (SetEntry mode content path)
 change_if (Delete path) = Some (DeleteEntry path)
 
 -- an item that may be there: it is read if it was wanted
-abbrev pub if_wanted : {A : Type 0} → Option A → (bytes rest : List ℕ) → Reading (Option A)
-if_wanted None bytes rest = Ok (None, bytes)
-if_wanted (Some value) bytes rest = Ok (Some value, rest)
+abbrev pub item_if_wanted : {A : Type 0} → Option A → (bytes rest : List ℕ) → ReadResult (Option A)
+item_if_wanted None bytes rest = Ok (None, bytes)
+item_if_wanted (Some value) bytes rest = Ok (Some value, rest)
 
 -- the next item, if there is one and it is wanted; else nothing is read
-unfoldable pub optional : {A : Type 0} → (ItemValue → Option A) → List ℕ → Reading (Option A)
+unfoldable pub optional : {A : Type 0} → (ItemValue → Option A) → List ℕ → ReadResult (Option A)
 optional wanted bytes =
     if length bytes == 0 then Ok (None, bytes)
-    else first_item bytes >>= λ found. if_wanted (wanted found.0) bytes found.1
+    else first_item bytes >>= λ found. item_if_wanted (wanted found.0) bytes found.1
 
 -- an item that has to be there
-abbrev pub must_be_wanted : {A : Type 0} → Option A → (bytes rest : List ℕ) → Reading A
-must_be_wanted None bytes rest = Err (fault_at Misplaced bytes)
+abbrev pub must_be_wanted : {A : Type 0} → Option A → (bytes rest : List ℕ) → ReadResult A
+must_be_wanted None bytes rest = Err (item_fault Misplaced bytes)
 must_be_wanted (Some value) bytes rest = Ok (value, rest)
 
 -- the next item, which has to be wanted
-unfoldable pub required : {A : Type 0} → (ItemValue → Option A) → List ℕ → Reading A
+unfoldable pub required : {A : Type 0} → (ItemValue → Option A) → List ℕ → ReadResult A
 required wanted bytes = first_item bytes >>= λ found. must_be_wanted (wanted found.0) bytes found.1
 
 -- a value before others that are read after it; with none there are no others
-abbrev pub with_others : {A : Type 0} → Option A → List ℕ → Reading (List A) → Reading (List A)
+abbrev pub with_others : {A : Type 0} → Option A → List ℕ → ReadResult (List A) → ReadResult (List A)
 with_others None rest others = Ok ([], rest)
 with_others (Some value) rest others = others >>= λ more. Ok (value ∷ more.0, more.1)
 
 -- values one after another, at most this many, up to the first that is not there
-unfoldable pub many : {A : Type 0} → (List ℕ → Reading (Option A)) → ℕ → List ℕ → Reading (List A)
+unfoldable pub many : {A : Type 0} → (List ℕ → ReadResult (Option A)) → ℕ → List ℕ → ReadResult (List A)
 many read zero bytes = Ok ([], bytes)
 many read (suc count) bytes = read bytes >>= λ found. with_others found.0 found.1 (many read count found.1)
 
 -- the text of the next item, if it is this word and a text
-abbrev pub optional_text : TextItem → List ℕ → Reading (Option (List ℕ))
+abbrev pub optional_text : TextItem → List ℕ → ReadResult (Option (List ℕ))
 optional_text item bytes = optional (text_if item) bytes
 
 -- data, and an empty line after it if there is one
-unfoldable pub data_at : List ℕ → Reading (List ℕ)
+unfoldable pub data_at : List ℕ → ReadResult (List ℕ)
 data_at bytes = do
   found ← required data_if bytes
   blank ← optional blank_if found.1
   Ok (found.0, blank.1)
 
 -- a content, after `blob`
-unfoldable pub blob_at : List ℕ → Reading BlobValue
+unfoldable pub blob_at : List ℕ → ReadResult BlobValue
 blob_at bytes = do
   mark ← optional mark_if bytes
   id ← optional_text text.OriginalOid mark.1
@@ -145,15 +145,15 @@ blob_at bytes = do
   Ok (record { mark = mark.0; original_oid = id.0; content = content.0 }, content.1)
 
 -- the merges of a commit
-unfoldable pub merges_at : List ℕ → Reading (List (List ℕ))
+unfoldable pub merges_at : List ℕ → ReadResult (List (List ℕ))
 merges_at bytes = many (optional_text text.Merge) (length bytes) bytes
 
 -- the changes of a commit
-unfoldable pub changes_at : List ℕ → Reading (List ChangeValue)
+unfoldable pub changes_at : List ℕ → ReadResult (List ChangeValue)
 changes_at bytes = many (optional change_if) (length bytes) bytes
 
 -- a commit, after `commit` and its reference: mark, id, author, committer, encoding, message, parents, changes
-unfoldable pub commit_at : List ℕ → List ℕ → Reading CommitValue
+unfoldable pub commit_at : List ℕ → List ℕ → ReadResult CommitValue
 commit_at reference bytes = do
   mark ← optional mark_if bytes
   id ← optional_text text.OriginalOid mark.1
@@ -182,14 +182,14 @@ commit_at reference bytes = do
   )
 
 -- a reset, after `reset` and its reference
-unfoldable pub reset_at : List ℕ → List ℕ → Reading ResetValue
+unfoldable pub reset_at : List ℕ → List ℕ → ReadResult ResetValue
 reset_at reference bytes = do
   from ← optional_text text.From bytes
   blank ← optional blank_if from.1
   Ok (record { reference = reference; from = from.0 }, blank.1)
 
 -- a tag, after `tag` and its name
-unfoldable pub tag_at : List ℕ → List ℕ → Reading TagValue
+unfoldable pub tag_at : List ℕ → List ℕ → ReadResult TagValue
 tag_at name bytes = do
   mark ← optional mark_if bytes
   from ← required (text_if text.From) mark.1
@@ -199,48 +199,48 @@ tag_at name bytes = do
   Ok (record { name = name; mark = mark.0; from = from.0; original_oid = id.0; tagger = tagger.0; message = message.0 }, message.1)
 
 -- a command of one item, and an empty line after it if there is one
-unfoldable pub short_command : CommandValue → List ℕ → Reading CommandValue
+unfoldable pub short_command : CommandValue → List ℕ → ReadResult CommandValue
 short_command command bytes = optional blank_if bytes >>= λ blank. Ok (command, blank.1)
 
 -- what was read, as a command
-abbrev pub as_command : {A : Type 0} → (A → CommandValue) → Reading A → Reading CommandValue
+abbrev pub as_command : {A : Type 0} → (A → CommandValue) → ReadResult A → ReadResult CommandValue
 as_command command reading = reading >>= λ found. Ok (command found.0, found.1)
 
 -- the command that begins with a word and a text, in bytes that begin with it
-abbrev pub text_command : TextItem → List ℕ → (bytes rest : List ℕ) → Reading CommandValue
+abbrev pub text_command : TextItem → List ℕ → (bytes rest : List ℕ) → ReadResult CommandValue
 text_command text.Commit line bytes rest = as_command CommitCommand (commit_at line rest)
 text_command text.Tag line bytes rest = as_command TagCommand (tag_at line rest)
 text_command text.Reset line bytes rest = as_command ResetCommand (reset_at line rest)
-text_command text.OriginalOid line bytes rest = Err (fault_at Misplaced bytes)
-text_command text.Author line bytes rest = Err (fault_at Misplaced bytes)
-text_command text.Committer line bytes rest = Err (fault_at Misplaced bytes)
-text_command text.Tagger line bytes rest = Err (fault_at Misplaced bytes)
-text_command text.Encoding line bytes rest = Err (fault_at Misplaced bytes)
-text_command text.From line bytes rest = Err (fault_at Misplaced bytes)
-text_command text.Merge line bytes rest = Err (fault_at Misplaced bytes)
+text_command text.OriginalOid line bytes rest = Err (item_fault Misplaced bytes)
+text_command text.Author line bytes rest = Err (item_fault Misplaced bytes)
+text_command text.Committer line bytes rest = Err (item_fault Misplaced bytes)
+text_command text.Tagger line bytes rest = Err (item_fault Misplaced bytes)
+text_command text.Encoding line bytes rest = Err (item_fault Misplaced bytes)
+text_command text.From line bytes rest = Err (item_fault Misplaced bytes)
+text_command text.Merge line bytes rest = Err (item_fault Misplaced bytes)
 text_command text.Progress line bytes rest = short_command (ProgressCommand line) rest
 text_command text.Feature line bytes rest = Ok (FeatureCommand line, rest)
 text_command text.Option line bytes rest = Ok (OptionCommand line, rest)
 
 -- the command that begins with a word alone, in bytes that begin with it
-abbrev pub bare_command : BareItem → (bytes rest : List ℕ) → Reading CommandValue
+abbrev pub bare_command : BareItem → (bytes rest : List ℕ) → ReadResult CommandValue
 bare_command Blob bytes rest = as_command BlobCommand (blob_at rest)
-bare_command DeleteAll bytes rest = Err (fault_at Misplaced bytes)
+bare_command DeleteAll bytes rest = Err (item_fault Misplaced bytes)
 bare_command Checkpoint bytes rest = short_command CheckpointCommand rest
 bare_command Done bytes rest = Ok (DoneCommand, rest)
 
 -- the command that begins with an item, in bytes that begin with it
-abbrev pub command_from : ItemValue → (bytes rest : List ℕ) → Reading CommandValue
-command_from Blank bytes rest = Err (fault_at Misplaced bytes)
+abbrev pub command_from : ItemValue → (bytes rest : List ℕ) → ReadResult CommandValue
+command_from Blank bytes rest = Err (item_fault Misplaced bytes)
 command_from (Bare item) bytes rest = bare_command item bytes rest
 command_from (Text item line) bytes rest = text_command item line bytes rest
-command_from (Mark mark) bytes rest = Err (fault_at Misplaced bytes)
-command_from (Data content) bytes rest = Err (fault_at Misplaced bytes)
-command_from (Modify mode content path) bytes rest = Err (fault_at Misplaced bytes)
-command_from (Delete path) bytes rest = Err (fault_at Misplaced bytes)
+command_from (Mark mark) bytes rest = Err (item_fault Misplaced bytes)
+command_from (Data content) bytes rest = Err (item_fault Misplaced bytes)
+command_from (Modify mode content path) bytes rest = Err (item_fault Misplaced bytes)
+command_from (Delete path) bytes rest = Err (item_fault Misplaced bytes)
 
 -- the first command of a stream and the bytes after it, or its fault
-unfoldable pub command_at : List ℕ → Reading CommandValue
+unfoldable pub command_at : List ℕ → ReadResult CommandValue
 command_at bytes = first_item bytes >>= λ found. command_from found.0 bytes found.1
 
 -- a command, unless it is the one that ends the stream
@@ -256,25 +256,25 @@ unless_done CheckpointCommand = Some CheckpointCommand
 unless_done DoneCommand = None
 
 -- the next command, if the stream does not end here
-unfoldable pub next_command : List ℕ → Reading (Option CommandValue)
+unfoldable pub next_command : List ℕ → ReadResult (Option CommandValue)
 next_command bytes =
     if length bytes == 0 then Ok (None, bytes)
     else command_at bytes >>= λ found. Ok (unless_done found.0, found.1)
 
 -- the commands of a stream up to its end or to `done`, and the bytes after that; or the first fault
-unfoldable pub stream_at : List ℕ → Reading (List CommandValue)
+unfoldable pub stream_at : List ℕ → ReadResult (List CommandValue)
 stream_at bytes = many next_command (length bytes) bytes
 
 -- reading ended without memory, or with this fault
-abbrev pub Fails : {A : Type 0} → ReadError → Result A StreamFault → Type 0
-Fails error.Memory reading = Unit {0}
-Fails (error.Fault fault) reading = reading ≡ Err fault
+abbrev pub FailsToRead : {A : Type 0} → ReadError → Result A StreamFault → Type 0
+FailsToRead error.Memory reading = Unit {0}
+FailsToRead (error.Fault fault) reading = reading ≡ Err fault
 
 -- what was returned, seen by a view, is what reading gives, unless memory ran out
-abbrev pub Gives : {X A : Type 0} → (X → A) → Result X ReadError → Result A StreamFault → Type 0
-Gives view (Ok found) reading = reading ≡ Ok (view found)
-Gives view (Err problem) reading = Fails problem reading
+abbrev pub ReadsTo : {X A : Type 0} → (X → A) → Result X ReadError → Result A StreamFault → Type 0
+ReadsTo view (Ok found) reading = reading ≡ Ok (view found)
+ReadsTo view (Err problem) reading = FailsToRead problem reading
 
 -- the line, counted from 1, of what begins where this many bytes are left of a stream
-abbrev pub line_of : List ℕ → ℕ → ℕ
-line_of stream left = count_by (λ byte. byte == newline) (take (length stream - left) stream) + 1
+abbrev pub line_at_rest : List ℕ → ℕ → ℕ
+line_at_rest stream left = count_by (λ byte. byte == newline) (take (length stream - left) stream) + 1

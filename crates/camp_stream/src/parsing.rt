@@ -2,7 +2,7 @@
 
 ghost use Rattle.std.specs.Prelude.{◌≡◌, IfOk, option_map};
 ghost use Rattle.camp_stream.specs.CommandValues.{change_values, command_values, text_values, value_of_blob, value_of_command, value_of_commit, value_of_reset, value_of_tag};
-ghost use Rattle.camp_stream.specs.Commands.{Gives, bare_command, blob_at, changes_at, command_at, command_from, commit_at, line_of, merges_at, next_command, reset_at, short_command, stream_at, tag_at, text_command, unless_done};
+ghost use Rattle.camp_stream.specs.Commands.{ReadsTo, bare_command, blob_at, changes_at, command_at, command_from, commit_at, line_at_rest, merges_at, next_command, reset_at, short_command, stream_at, tag_at, text_command, unless_done};
 ghost use Rattle.camp_stream.specs.StreamValues.{value_of_item};
 
 use crate::commands::{Blob, Command, Commit, FileChange, ReadError, Reset, Tag};
@@ -16,7 +16,7 @@ use std::alloc::Global;
 /// Reads the first command of a stream, and returns it with the bytes after it. Its texts lie in the stream.
 #[tactic(auto, unfolding(crate::specs::Commands::command_at))]
 pub fn read_command(alloc: Global, stream: &[u8]) -> Result<(Command<'_>, &[u8]), ReadError>
-    ensures exact { Gives (λ found. (value_of_command found.0, found.1.now)) result (command_at stream.now) }
+    ensures exact { ReadsTo (λ found. (value_of_command found.0, found.1.now)) result (command_at stream.now) }
 {
     let (item, rest) = first_item(stream)?;
     read_from(alloc, item, stream, rest)
@@ -26,7 +26,7 @@ pub fn read_command(alloc: Global, stream: &[u8]) -> Result<(Command<'_>, &[u8])
 /// texts lie in the stream.
 #[tactic(auto, unfolding(crate::specs::Commands::stream_at))]
 pub fn read_stream(alloc: Global, stream: &[u8]) -> Result<(Vec<Command<'_>>, &[u8]), ReadError>
-    ensures exact { Gives (λ found. (command_values found.0.items, found.1.now)) result (stream_at stream.now) }
+    ensures exact { ReadsTo (λ found. (command_values found.0.items, found.1.now)) result (stream_at stream.now) }
 {
     let mut commands = Vec::new(alloc);
     let mut rest = stream;
@@ -43,7 +43,7 @@ pub fn read_stream(alloc: Global, stream: &[u8]) -> Result<(Vec<Command<'_>>, &[
 
 #[tactic(auto, unfolding(crate::specs::Commands::next_command))]
 fn next_command(alloc: Global, bytes: &[u8]) -> Result<(Option<Command<'_>>, &[u8]), ReadError>
-    ensures { Gives (λ found. (option_map value_of_command found.0, found.1.now)) result (next_command bytes.now) }
+    ensures { ReadsTo (λ found. (option_map value_of_command found.0, found.1.now)) result (next_command bytes.now) }
 {
     if bytes.is_empty() {
         return Ok((None, bytes));
@@ -63,7 +63,7 @@ fn unless_done(command: Command<'_>) -> Option<Command<'_>>
 
 /// Returns the line, counted from 1, of what begins where `left` bytes are left of a stream.
 pub fn line_of(stream: &[u8], left: usize) -> usize
-    ensures exact { result ≡ line_of stream.now left }
+    ensures exact { result ≡ line_at_rest stream.now left }
 {
     let read = &stream[..stream.len().saturating_sub(left)];
     let mut feeds = 0;
@@ -81,7 +81,7 @@ fn read_from<'a>(
     bytes: &'a [u8],
     rest: &'a [u8],
 ) -> Result<(Command<'a>, &'a [u8]), ReadError>
-    ensures { Gives (λ found. (value_of_command found.0, found.1.now)) result (command_from (value_of_item item.entry) bytes.now rest.now) }
+    ensures { ReadsTo (λ found. (value_of_command found.0, found.1.now)) result (command_from (value_of_item item.entry) bytes.now rest.now) }
 {
     match item {
         StreamItem::Bare(item) => read_bare(item, bytes, rest),
@@ -95,7 +95,7 @@ fn read_bare<'a>(
     bytes: &'a [u8],
     rest: &'a [u8],
 ) -> Result<(Command<'a>, &'a [u8]), ReadError>
-    ensures { Gives (λ found. (value_of_command found.0, found.1.now)) result (bare_command item bytes.now rest.now) }
+    ensures { ReadsTo (λ found. (value_of_command found.0, found.1.now)) result (bare_command item bytes.now rest.now) }
 {
     match item {
         BareItem::Blob => {
@@ -115,7 +115,7 @@ fn read_text<'a>(
     bytes: &'a [u8],
     rest: &'a [u8],
 ) -> Result<(Command<'a>, &'a [u8]), ReadError>
-    ensures { Gives (λ found. (value_of_command found.0, found.1.now)) result (text_command item text.now bytes.now rest.now) }
+    ensures { ReadsTo (λ found. (value_of_command found.0, found.1.now)) result (text_command item text.now bytes.now rest.now) }
 {
     match item {
         TextItem::Commit => {
@@ -142,7 +142,7 @@ fn read_short<'a>(
     command: Command<'a>,
     bytes: &'a [u8],
 ) -> Result<(Command<'a>, &'a [u8]), ReadError>
-    ensures { Gives (λ found. (value_of_command found.0, found.1.now)) result (short_command (value_of_command command.entry) bytes.now) }
+    ensures { ReadsTo (λ found. (value_of_command found.0, found.1.now)) result (short_command (value_of_command command.entry) bytes.now) }
 {
     let (_, rest) = skip_blank(bytes)?;
     Ok((command, rest))
@@ -150,7 +150,7 @@ fn read_short<'a>(
 
 #[tactic(auto, unfolding(crate::specs::Commands::blob_at))]
 fn read_blob(bytes: &[u8]) -> Result<(Blob<'_>, &[u8]), ReadError>
-    ensures { Gives (λ found. (value_of_blob found.0, found.1.now)) result (blob_at bytes.now) }
+    ensures { ReadsTo (λ found. (value_of_blob found.0, found.1.now)) result (blob_at bytes.now) }
 {
     let (mark, rest) = optional_mark(bytes)?;
     let (original_oid, rest) = optional_text(TextItem::OriginalOid, rest)?;
@@ -165,7 +165,7 @@ fn read_blob(bytes: &[u8]) -> Result<(Blob<'_>, &[u8]), ReadError>
 
 #[tactic(auto, unfolding(crate::specs::Commands::reset_at))]
 fn read_reset<'a>(reference: &'a [u8], bytes: &'a [u8]) -> Result<(Reset<'a>, &'a [u8]), ReadError>
-    ensures { Gives (λ found. (value_of_reset found.0, found.1.now)) result (reset_at reference.now bytes.now) }
+    ensures { ReadsTo (λ found. (value_of_reset found.0, found.1.now)) result (reset_at reference.now bytes.now) }
 {
     let (from, rest) = optional_text(TextItem::From, bytes)?;
     let (_, rest) = skip_blank(rest)?;
@@ -174,7 +174,7 @@ fn read_reset<'a>(reference: &'a [u8], bytes: &'a [u8]) -> Result<(Reset<'a>, &'
 
 #[tactic(auto, unfolding(crate::specs::Commands::tag_at))]
 fn read_tag<'a>(name: &'a [u8], bytes: &'a [u8]) -> Result<(Tag<'a>, &'a [u8]), ReadError>
-    ensures { Gives (λ found. (value_of_tag found.0, found.1.now)) result (tag_at name.now bytes.now) }
+    ensures { ReadsTo (λ found. (value_of_tag found.0, found.1.now)) result (tag_at name.now bytes.now) }
 {
     let (mark, rest) = optional_mark(bytes)?;
     let (from, rest) = required_text(TextItem::From, rest)?;
@@ -198,7 +198,7 @@ fn read_commit<'a>(
     reference: &'a [u8],
     bytes: &'a [u8],
 ) -> Result<(Commit<'a>, &'a [u8]), ReadError>
-    ensures { Gives (λ found. (value_of_commit found.0, found.1.now)) result (commit_at reference.now bytes.now) }
+    ensures { ReadsTo (λ found. (value_of_commit found.0, found.1.now)) result (commit_at reference.now bytes.now) }
 {
     let (mark, rest) = optional_mark(bytes)?;
     let (original_oid, rest) = optional_text(TextItem::OriginalOid, rest)?;
@@ -227,7 +227,7 @@ fn read_commit<'a>(
 
 #[tactic(auto, unfolding(crate::specs::Commands::merges_at))]
 fn read_merges(alloc: Global, bytes: &[u8]) -> Result<(Vec<&[u8]>, &[u8]), ReadError>
-    ensures { Gives (λ found. (text_values found.0.items, found.1.now)) result (merges_at bytes.now) }
+    ensures { ReadsTo (λ found. (text_values found.0.items, found.1.now)) result (merges_at bytes.now) }
 {
     let mut merges = Vec::new(alloc);
     let mut rest = bytes;
@@ -244,7 +244,7 @@ fn read_merges(alloc: Global, bytes: &[u8]) -> Result<(Vec<&[u8]>, &[u8]), ReadE
 
 #[tactic(auto, unfolding(crate::specs::Commands::changes_at))]
 fn read_changes(alloc: Global, bytes: &[u8]) -> Result<(Vec<FileChange<'_>>, &[u8]), ReadError>
-    ensures { Gives (λ found. (change_values found.0.items, found.1.now)) result (changes_at bytes.now) }
+    ensures { ReadsTo (λ found. (change_values found.0.items, found.1.now)) result (changes_at bytes.now) }
 {
     let mut changes = Vec::new(alloc);
     let mut rest = bytes;

@@ -2,7 +2,7 @@
 
 ghost use Rattle.std.specs.Prelude.{◌≡◌, ◌++◌, OnOk};
 ghost use Rattle.std.specs.List.{flat_map};
-ghost use Rattle.camp_stream.specs.CommandTexts.{CommandsComeBack, StreamsComeBack, blob_text, change_text, command_text, commit_text, contents_text, data_text, description_text, merge_text, optional_item, reset_text, tag_text};
+ghost use Rattle.camp_stream.specs.CommandTexts.{CommandsComeBack, StreamsComeBack, blob_text, file_change_bytes, stream_command_bytes, commit_text, contents_text, data_item_bytes, description_text, merge_text, optional_item, reset_text, tag_text};
 ghost use Rattle.camp_stream.specs.CommandValues.{change_values, text_value, text_values, value_of_blob, value_of_change, value_of_command, value_of_commit, value_of_reset, value_of_tag};
 ghost use Rattle.camp_stream.specs.StreamValues.{Mark, Text};
 
@@ -14,7 +14,7 @@ use std::alloc::AllocError;
 /// Appends the bytes of a command to a stream: an empty line stands after each data, and after a commit, a
 /// reset, `progress` and `checkpoint`.
 pub fn append_command(stream: &mut Vec<u8>, command: &Command<'_>) -> Result<(), AllocError>
-    ensures exact { OnOk result (stream.new.items ≡ stream.old.items ++ command_text (value_of_command command.now)) }
+    ensures exact { OnOk result (stream.new.items ≡ stream.old.items ++ stream_command_bytes (value_of_command command.now)) }
 {
     match command {
         Command::Blob(blob) => append_blob(stream, blob),
@@ -132,7 +132,7 @@ fn append_text(stream: &mut Vec<u8>, item: TextItem, text: Option<&[u8]>) -> Res
 }
 
 fn append_data(stream: &mut Vec<u8>, bytes: &[u8]) -> Result<(), AllocError>
-    ensures { OnOk result (stream.new.items ≡ stream.old.items ++ data_text bytes.now) }
+    ensures { OnOk result (stream.new.items ≡ stream.old.items ++ data_item_bytes bytes.now) }
 {
     append_item(stream, &StreamItem::Data(bytes))?;
     Ok(stream.push(b'\n')?)
@@ -148,7 +148,7 @@ fn append_merges(stream: &mut Vec<u8>, merges: &[&[u8]]) -> Result<(), AllocErro
 }
 
 fn append_changes(stream: &mut Vec<u8>, changes: &[FileChange<'_>]) -> Result<(), AllocError>
-    ensures { OnOk result (stream.new.items ≡ stream.old.items ++ flat_map change_text (change_values changes.now)) }
+    ensures { OnOk result (stream.new.items ≡ stream.old.items ++ flat_map file_change_bytes (change_values changes.now)) }
 {
     for change in changes {
         append_change(stream, change)?;
@@ -157,7 +157,7 @@ fn append_changes(stream: &mut Vec<u8>, changes: &[FileChange<'_>]) -> Result<()
 }
 
 fn append_change(stream: &mut Vec<u8>, change: &FileChange<'_>) -> Result<(), AllocError>
-    ensures { OnOk result (stream.new.items ≡ stream.old.items ++ change_text (value_of_change change.now)) }
+    ensures { OnOk result (stream.new.items ≡ stream.old.items ++ file_change_bytes (value_of_change change.now)) }
 {
     match change {
         FileChange::Set {

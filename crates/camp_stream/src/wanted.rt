@@ -2,7 +2,7 @@
 
 ghost use Rattle.std.specs.Prelude.{◌≡◌, option_map};
 ghost use Rattle.camp_stream.specs.CommandValues.{text_value, value_of_change};
-ghost use Rattle.camp_stream.specs.Commands.{Gives, blank_if, change_if, data_at, data_if, fault_at, first_item, mark_if, optional, optional_text, required, text_if};
+ghost use Rattle.camp_stream.specs.Commands.{ReadsTo, blank_if, change_if, data_at, data_if, item_fault, first_item, mark_if, optional, optional_text, required, text_if};
 ghost use Rattle.camp_stream.specs.StreamValues.{value_of_item};
 ghost use Rattle.camp_stream.specs.declared.commands.ReadError.TheVariants as error;
 
@@ -14,7 +14,7 @@ use crate::words::text_word;
 /// Reads the first item; a fault says how many bytes are left.
 #[tactic(auto, unfolding(crate::specs::Commands::first_item))]
 pub(crate) fn first_item(bytes: &[u8]) -> Result<(StreamItem<'_>, &[u8]), ReadError>
-    ensures { Gives (λ found. (value_of_item found.0, found.1.now)) result (first_item bytes.now) }
+    ensures { ReadsTo (λ found. (value_of_item found.0, found.1.now)) result (first_item bytes.now) }
 {
     match read_item(bytes) {
         Ok(found) => Ok(found),
@@ -24,7 +24,7 @@ pub(crate) fn first_item(bytes: &[u8]) -> Result<(StreamItem<'_>, &[u8]), ReadEr
 
 /// The fault of the item at the front of these bytes.
 pub(crate) fn fault_at(kind: StreamFaultKind, bytes: &[u8]) -> ReadError
-    ensures { result ≡ error.Fault (fault_at kind bytes.now) }
+    ensures { result ≡ error.Fault (item_fault kind bytes.now) }
 {
     ReadError::Fault(StreamFault {
         kind,
@@ -38,7 +38,7 @@ pub(crate) fn optional_text(
     wanted: TextItem,
     bytes: &[u8],
 ) -> Result<(Option<&[u8]>, &[u8]), ReadError>
-    ensures { Gives (λ found. (text_value found.0, found.1.now)) result (optional_text wanted bytes.now) }
+    ensures { ReadsTo (λ found. (text_value found.0, found.1.now)) result (optional_text wanted bytes.now) }
 {
     if bytes.is_empty() {
         return Ok((None, bytes));
@@ -53,7 +53,7 @@ pub(crate) fn optional_text(
 /// Reads the next item, which has to be this word and a text.
 #[tactic(auto, unfolding(crate::specs::Commands::required))]
 pub(crate) fn required_text(wanted: TextItem, bytes: &[u8]) -> Result<(&[u8], &[u8]), ReadError>
-    ensures { Gives (λ found. (found.0.now, found.1.now)) result (required (text_if wanted) bytes.now) }
+    ensures { ReadsTo (λ found. (found.0.now, found.1.now)) result (required (text_if wanted) bytes.now) }
 {
     let (item, rest) = first_item(bytes)?;
     match text_if(wanted, item) {
@@ -65,7 +65,7 @@ pub(crate) fn required_text(wanted: TextItem, bytes: &[u8]) -> Result<(&[u8], &[
 /// Reads the next item if it is a mark.
 #[tactic(auto, unfolding(crate::specs::Commands::optional))]
 pub(crate) fn optional_mark(bytes: &[u8]) -> Result<(Option<&[u8]>, &[u8]), ReadError>
-    ensures { Gives (λ found. (text_value found.0, found.1.now)) result (optional mark_if bytes.now) }
+    ensures { ReadsTo (λ found. (text_value found.0, found.1.now)) result (optional mark_if bytes.now) }
 {
     if bytes.is_empty() {
         return Ok((None, bytes));
@@ -80,7 +80,7 @@ pub(crate) fn optional_mark(bytes: &[u8]) -> Result<(Option<&[u8]>, &[u8]), Read
 /// Reads the next item if it is a change of a commit's entries.
 #[tactic(auto, unfolding(crate::specs::Commands::optional))]
 pub(crate) fn optional_change(bytes: &[u8]) -> Result<(Option<FileChange<'_>>, &[u8]), ReadError>
-    ensures { Gives (λ found. (option_map value_of_change found.0, found.1.now)) result (optional change_if bytes.now) }
+    ensures { ReadsTo (λ found. (option_map value_of_change found.0, found.1.now)) result (optional change_if bytes.now) }
 {
     if bytes.is_empty() {
         return Ok((None, bytes));
@@ -95,7 +95,7 @@ pub(crate) fn optional_change(bytes: &[u8]) -> Result<(Option<FileChange<'_>>, &
 /// Returns the bytes after an empty line, if there is one at the front.
 #[tactic(auto, unfolding(crate::specs::Commands::optional))]
 pub(crate) fn skip_blank(bytes: &[u8]) -> Result<(Option<()>, &[u8]), ReadError>
-    ensures { Gives (λ found. (found.0, found.1.now)) result (optional blank_if bytes.now) }
+    ensures { ReadsTo (λ found. (found.0, found.1.now)) result (optional blank_if bytes.now) }
 {
     if bytes.is_empty() {
         return Ok((None, bytes));
@@ -110,7 +110,7 @@ pub(crate) fn skip_blank(bytes: &[u8]) -> Result<(Option<()>, &[u8]), ReadError>
 /// Reads data, and an empty line after it if there is one.
 #[tactic(auto, unfolding(crate::specs::Commands::data_at))]
 pub(crate) fn read_data(bytes: &[u8]) -> Result<(&[u8], &[u8]), ReadError>
-    ensures { Gives (λ found. (found.0.now, found.1.now)) result (data_at bytes.now) }
+    ensures { ReadsTo (λ found. (found.0.now, found.1.now)) result (data_at bytes.now) }
 {
     let (data, rest) = required_data(bytes)?;
     let (_, rest) = skip_blank(rest)?;
@@ -119,7 +119,7 @@ pub(crate) fn read_data(bytes: &[u8]) -> Result<(&[u8], &[u8]), ReadError>
 
 #[tactic(auto, unfolding(crate::specs::Commands::required))]
 fn required_data(bytes: &[u8]) -> Result<(&[u8], &[u8]), ReadError>
-    ensures { Gives (λ found. (found.0.now, found.1.now)) result (required data_if bytes.now) }
+    ensures { ReadsTo (λ found. (found.0.now, found.1.now)) result (required data_if bytes.now) }
 {
     let (item, rest) = first_item(bytes)?;
     match item {

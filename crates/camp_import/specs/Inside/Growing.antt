@@ -8,12 +8,12 @@ use Rattle.camp_diff.specs.declared.hunks.DiffHunk.{DiffHunk}
 use Rattle.camp_prim.specs.Hunks.{hunk_of}
 use Rattle.camp_prim.specs.declared.primitives.Primitive.{Primitive}
 use Rattle.camp_prim.specs.declared.primitives.Primitive.TheVariants.{Hunk}
-use Rattle.camp_import.specs.TreeChanges.{HasShortSides, LeadThrough, most_lines, most_side_lines}
+use Rattle.camp_import.specs.TreeChanges.{HasShortSides, LeadThrough, most_file_lines, most_side_lines}
 use Rattle.camp_import.specs.declared.edits.ChangeFault.{ChangeFault}
 use Rattle.camp_import.specs.declared.edits.ChangeFault.TheVariants.{Memory, TooManyLines}
 
 -- a path has these lines now, or no file; all other paths are as they were
-pub record SetsFile (path : List ℕ) (lines : Option Lines) (old new : Files) : Type 0 where
+pub record PutsLines (path : List ℕ) (lines : Option Lines) (old new : Files) : Type 0 where
   pub at : get new path ≡ lines
   pub other : (another : List ℕ) → ¬ (another ≡ path) → get new another ≡ get old another
 
@@ -21,7 +21,7 @@ pub record SetsFile (path : List ℕ) (lines : Option Lines) (old new : Files) :
 pub record LeadToFile (path : List ℕ) (lines : Option Lines) (changes : List Primitive) (old : Files) : Type 0 where
   pub after : Files
   pub lead : LeadThrough changes old after
-  pub sets : SetsFile path lines old after
+  pub sets : PutsLines path lines old after
 
 -- a list grows by changes that lead from each tree with these lines at a path to one with those
 pub record GrowsByFile (path : List ℕ) (old new : Option Lines) (before after : List Primitive) : Type 0 where
@@ -38,7 +38,7 @@ primitive_of path old new hunk =
 -- lines that may be there are too many
 abbrev pub AreTooMany : Option Lines → Type 0
 AreTooMany None = ⊥
-AreTooMany (Some lines) = most_lines < length lines
+AreTooMany (Some lines) = most_file_lines < length lines
 
 -- the list grows by the changes of a file; or one of the two sides is too long; or memory ran out
 abbrev pub GrowsByFileOr : List ℕ → (old new : Option Lines) → List Primitive → Result (Unit {0}) ChangeFault → List Primitive → Type 0

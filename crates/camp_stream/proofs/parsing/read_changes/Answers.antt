@@ -2,13 +2,13 @@ use Rattle.std.proofs.Common.{◌≡◌, ◌∙◌, ◌++◌, ◌∷◌, [], Lis
 use Rattle.std.proofs.lemmas.Result.{err_from_is_err_and}
 use Rattle.std.proofs.lemmas.List.{map_push}
 use Rattle.camp_stream.specs.CommandValues.{ChangeValue, change_values, value_of_change}
-use Rattle.camp_stream.specs.Commands.{Reading, change_if, changes_at, many, optional}
+use Rattle.camp_stream.specs.Commands.{ReadResult, change_if, changes_at, many, optional}
 use Rattle.camp_stream.specs.declared.commands.FileChange.{FileChange}
 use Rattle.camp_stream.proofs.CommandLemmas.{all_read, fails_there, none_more, one_more}
 use Rattle.camp_stream.proofs.parsing.read_changes.Goals as goal
 
 -- the changes at the front of these bytes
-abbrev all_changes : List ℕ → Reading (List ChangeValue)
+abbrev all_changes : List ℕ → ReadResult (List ChangeValue)
 all_changes bytes = many (optional change_if) (length bytes) bytes
 
 pub returns-in_err-found : goal.returns-in_err-found

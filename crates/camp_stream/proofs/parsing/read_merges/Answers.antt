@@ -2,13 +2,13 @@ use Rattle.std.proofs.Common.{◌≡◌, ◌∙◌, ◌++◌, ◌∷◌, [], Lis
 use Rattle.std.proofs.lemmas.Result.{err_from_is_err_and}
 use Rattle.std.proofs.lemmas.List.{map_push}
 use Rattle.camp_stream.specs.CommandValues.{text_value, text_values}
-use Rattle.camp_stream.specs.Commands.{Reading, many, merges_at, optional_text}
+use Rattle.camp_stream.specs.Commands.{ReadResult, many, merges_at, optional_text}
 use Rattle.camp_stream.specs.declared.items.TextItem.TheVariants as text
 use Rattle.camp_stream.proofs.CommandLemmas.{all_read, fails_there, none_more, one_more}
 use Rattle.camp_stream.proofs.parsing.read_merges.Goals as goal
 
 -- the merges at the front of these bytes
-abbrev all_merges : List ℕ → Reading (List (List ℕ))
+abbrev all_merges : List ℕ → ReadResult (List (List ℕ))
 all_merges bytes = many (optional_text text.Merge) (length bytes) bytes
 
 pub returns-in_err-found : goal.returns-in_err-found

@@ -2,13 +2,13 @@ use Rattle.std.proofs.Common.{◌≡◌, ◌∙◌, ◌++◌, ◌∷◌, [], Lis
 use Rattle.std.proofs.lemmas.Result.{err_from_is_err_and}
 use Rattle.std.proofs.lemmas.List.{map_push}
 use Rattle.camp_stream.specs.CommandValues.{CommandValue, command_values, value_of_command}
-use Rattle.camp_stream.specs.Commands.{Reading, many, next_command, stream_at}
+use Rattle.camp_stream.specs.Commands.{ReadResult, many, next_command, stream_at}
 use Rattle.camp_stream.specs.declared.commands.Command.{Command}
 use Rattle.camp_stream.proofs.CommandLemmas.{all_read, fails_there, none_more, one_more}
 use Rattle.camp_stream.proofs.parsing.read_stream.Goals as goal
 
 -- the commands at the front of these bytes
-abbrev all_commands : List ℕ → Reading (List CommandValue)
+abbrev all_commands : List ℕ → ReadResult (List CommandValue)
 all_commands bytes = many next_command (length bytes) bytes
 
 pub returns-in_err-found : goal.returns-in_err-found
