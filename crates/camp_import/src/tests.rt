@@ -54,31 +54,24 @@ fn applied(
 }
 
 #[test]
-fn changes_apply(rt: HostRuntime) -> Result<(), Fail> {
-    let none: &[(&[u8], &[u8])] = &[];
-    for (old, new, count) in [
-        (none, none, 0),
-        ([(b"a".as_slice(), b"".as_slice())].as_slice(), none, 1),
-        ([(b"a".as_slice(), b"xy".as_slice())].as_slice(), none, 2),
-        (none, [(b"a".as_slice(), b"xy".as_slice())].as_slice(), 2),
-        (
-            [(b"a".as_slice(), b"xyz".as_slice())].as_slice(),
-            [(b"a".as_slice(), b"xyz".as_slice())].as_slice(),
-            0,
-        ),
-        (
-            [(b"a".as_slice(), b"vwxyz".as_slice())].as_slice(),
-            [(b"a".as_slice(), b"vAxyzB".as_slice())].as_slice(),
-            2,
-        ),
-        (
-            [(b"a".as_slice(), b"x".as_slice())].as_slice(),
-            [(b"a/b".as_slice(), b"x".as_slice())].as_slice(),
-            4,
-        ),
-    ] {
-        assert_eq!(rt; applied(&rt, rt.alloc(), old, new)?, count);
-    }
+fn files_come_and_go(rt: HostRuntime) -> Result<(), Fail> {
+    let empty = [(b"a".as_slice(), b"".as_slice())];
+    let lines = [(b"a".as_slice(), b"xy".as_slice())];
+    let below = [(b"a/b".as_slice(), b"xy".as_slice())];
+    assert_eq!(rt; applied(&rt, rt.alloc(), &[], &[])?, 0);
+    assert_eq!(rt; applied(&rt, rt.alloc(), &empty, &[])?, 1);
+    assert_eq!(rt; applied(&rt, rt.alloc(), &lines, &[])?, 2);
+    assert_eq!(rt; applied(&rt, rt.alloc(), &[], &lines)?, 2);
+    assert_eq!(rt; applied(&rt, rt.alloc(), &lines, &below)?, 4);
+    Ok(())
+}
+
+#[test]
+fn lines_change(rt: HostRuntime) -> Result<(), Fail> {
+    let old = [(b"a".as_slice(), b"vwxyz".as_slice())];
+    let new = [(b"a".as_slice(), b"vAxyzB".as_slice())];
+    assert_eq!(rt; applied(&rt, rt.alloc(), &old, &old)?, 0);
+    assert_eq!(rt; applied(&rt, rt.alloc(), &old, &new)?, 2);
     Ok(())
 }
 
