@@ -137,20 +137,23 @@ fn commits(rt: HostRuntime) -> Result<(), Fail> {
     let (commands, rest) = read_stream(rt.alloc(), COMMITS).ok().ok_or("a fault")?;
     assert_eq!(rt; rest.len(), 0);
     assert_eq!(rt; commands.len(), 4);
-    let [_, _, Command::Commit(first), Command::Commit(second)] = commands.as_slice() else {
-        return Err("no commits".into());
-    };
-    assert_eq!(rt; first.author, Some(b"A <a@b> 1 +0000".as_slice()));
-    assert_eq!(rt; first.encoding, Some(b"latin1".as_slice()));
-    assert_eq!(rt; first.changes.len(), 1);
-    assert_eq!(rt; second.author, None);
-    assert_eq!(rt; second.message, b"n".as_slice());
-    assert_eq!(rt; second.from, Some(b":2".as_slice()));
-    assert_eq!(rt;
-        second.merges.as_slice(),
-        [b":4".as_slice(), b":5".as_slice()].as_slice()
-    );
-    assert_eq!(rt; second.changes.len(), 2);
+    let mut commits = 0;
+    for command in commands {
+        if let Command::Commit(commit) = command {
+            commits += 1;
+            if commit.author.is_some() {
+                assert_eq!(rt; commit.author, Some(b"A <a@b> 1 +0000".as_slice()));
+                assert_eq!(rt; commit.encoding, Some(b"latin1".as_slice()));
+                assert_eq!(rt; commit.changes.len(), 1);
+            } else {
+                assert_eq!(rt; commit.message, b"n".as_slice());
+                assert_eq!(rt; commit.from, Some(b":2".as_slice()));
+                assert_eq!(rt; commit.merges.len(), 2);
+                assert_eq!(rt; commit.changes.len(), 2);
+            }
+        }
+    }
+    assert_eq!(rt; commits, 2);
     Ok(())
 }
 
