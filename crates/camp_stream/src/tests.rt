@@ -137,10 +137,10 @@ fn commits(rt: HostRuntime) -> Result<(), Fail> {
     let (commands, rest) = read_stream(rt.alloc(), COMMITS).ok().ok_or("a fault")?;
     assert_eq!(rt; rest.len(), 0);
     assert_eq!(rt; commands.len(), 4);
-    let mut commits = 0;
+    let mut commits = 0_u32;
     for command in commands {
         if let Command::Commit(commit) = command {
-            commits += 1;
+            commits = commits.saturating_add(1);
             if commit.author.is_some() {
                 assert_eq!(rt; commit.author, Some(b"A <a@b> 1 +0000".as_slice()));
                 assert_eq!(rt; commit.encoding, Some(b"latin1".as_slice()));
