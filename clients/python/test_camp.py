@@ -167,6 +167,7 @@ class Errors(unittest.TestCase):
         for code, raised in ((1, camp.Closed), (2, camp.OutcomeUnknown), (3, camp.Unexpected), (-1, camp.Unexpected)):
             self.assertRaises(raised, check, code, camp.OutcomeUnknown())
         self.assertIsInstance(camp.errors.error_of(["memory"]), camp.OutOfMemory)
+        self.assertEqual(camp.OutcomeUnknown("out of memory", 7).executed, 7)
         for raised in (camp.OutOfMemory, camp.OutcomeUnknown):
             self.assertTrue(issubclass(raised, camp.Error) and issubclass(raised, MemoryError))
 

@@ -59,9 +59,14 @@ int32_t camp_open(camp *repository);
 /* Asks the commands of a text, which is a conversation of its own: docs/conversation.md has the commands and their answers. The
  * answer is that of each command, one behind another; a refusal or a fault is an answer as any other. A body that is not
  * ended has its fault; lines count from 1 in each text.
- * CAMP_MEMORY: the first commands were answered as far as the answer goes, and one more may have been done. Where you
- * have to know, ask one command at a time, and `history` afterwards. */
+ * CAMP_MEMORY: exactly the commands in the first camp_executed(repository) bytes of the text were executed. Their answers are
+ * there, but that of the last one may be cut off. Ask the bytes behind them again, and no command is done twice. */
 int32_t camp_ask(camp *repository, const uint8_t *text, size_t length);
+
+/* How many bytes of the last text the commands have that were executed: after CAMP_DONE all of them, after CAMP_MEMORY those before
+ * the first command that was not; 0 where the handle is closed, and before the first text. A command that was answered
+ * `memory` is among them, and changed nothing. */
+size_t camp_executed(camp *repository);
 
 /* How many bytes the answer to the last text has; 0 where the handle is closed. */
 size_t camp_answer_length(camp *repository);

@@ -74,11 +74,17 @@ static long accepted(camp *repository) {
     return strncmp(said, "history ", 8) ? -1 : atol(said + 8);
 }
 
-/* Where a call of this text was refused at all, it was done wholly or not at all, and can be asked again. */
-static int asked_again(camp *repository, const char *text, long before) {
-    long after = accepted(repository);
-    if (after < before || after > before + 1) return 1;
-    return ask(repository, text) == CAMP_DONE ? 0 : 2;
+/* A text that would add a call to the history. */
+static bool writes(const char *text) {
+    return !strncmp(text, "record", 6) || !strncmp(text, "branch", 6) || !strncmp(text, "pull", 4) || !strncmp(text, "obliterate", 10);
+}
+
+/* Where memory ran out, exactly the commands in the first bytes of a text were executed; the bytes behind them are asked again. */
+static int asked_again(camp *repository, const char *text, size_t executed, long before) {
+    if (executed > strlen(text)) return 1;
+    if (accepted(repository) != before + (writes(text) && executed > 0)) return 2;
+    if (ask(repository, text + executed) != CAMP_DONE || camp_executed(repository) != strlen(text) - executed) return 4;
+    return accepted(repository) == before + writes(text) ? 0 : 5;
 }
 
 /* One run; the status says what was wrong. */
@@ -96,7 +102,7 @@ static int run(void) {
         long left = until, before = accepted(&repository);
         until = left;
         code = ask(&repository, texts[i]);
-        if (code == CAMP_MEMORY) wrong = asked_again(&repository, texts[i], before);
+        if (code == CAMP_MEMORY) wrong = asked_again(&repository, texts[i], camp_executed(&repository), before);
         else if (code != CAMP_DONE) wrong = 3;
     }
     if ((code = camp_look(&repository, &view)) != CAMP_DONE) {

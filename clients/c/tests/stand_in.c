@@ -14,6 +14,11 @@ int32_t camp_ask(camp *repository, const uint8_t *text, size_t length) {
     return ask(length);
 }
 
+size_t camp_executed(camp *repository) {
+    (void)repository;
+    return 0;
+}
+
 size_t camp_answer_length(camp *repository) {
     (void)repository;
     return 0;

@@ -63,6 +63,7 @@ def _load() -> ctypes.CDLL:
     for name in ("camp_look", "camp_view_again"):
         _declare(library, name, [handle, handle], ctypes.c_int32)
     _declare(library, "camp_open", [handle], ctypes.c_int32)
+    _declare(library, "camp_executed", [handle], ctypes.c_size_t)
     return library
 
 

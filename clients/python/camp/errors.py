@@ -133,7 +133,12 @@ class OutOfMemory(Error, MemoryError):
 
 
 class OutcomeUnknown(Error, MemoryError):
-    """Memory ran out before the answer was whole: the commands were done, or some of them were not. `history` says which."""
+    """Memory ran out before the answer was whole, and something was executed: the commands in the first `executed` bytes of
+    what was asked were, and no other."""
+
+    def __init__(self, message: str = "", executed: int = 0) -> None:
+        super().__init__(message)
+        self.executed = executed
 
 
 class Closed(Error):

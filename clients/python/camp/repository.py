@@ -27,7 +27,6 @@ class Repository(Questions):
     one. A method that writes returns the number of the call among all that were accepted, counted from 1."""
 
     _kind = "camp"
-    _at_memory = OutcomeUnknown
 
     def __init__(self, script: Text = b"") -> None:
         super().__init__()
@@ -37,6 +36,10 @@ class Repository(Questions):
         except BaseException:
             self.close()
             raise
+
+    def _out_of_memory(self, message: str) -> Error:
+        executed = self._call("executed")
+        return OutcomeUnknown(message, executed) if executed else OutOfMemory(message)
 
     def view(self) -> View:
         """A view of the repository as it is now. That takes a count, however large the repository is."""

@@ -8,9 +8,11 @@ use std::fmt;
 pub enum Error {
     /// Memory ran out. Nothing has changed, and the same can be asked again.
     OutOfMemory,
-    /// Memory ran out before the answer was whole: the commands were done, or some of them were not. See
-    /// [`Repository::history`](crate::Repository::history).
-    OutcomeUnknown,
+    /// Memory ran out before the answer was whole, and something was executed.
+    OutcomeUnknown {
+        /// The commands in the first bytes of the text, this many, were executed, and no other.
+        executed: usize,
+    },
     /// The repository refuses the call.
     Refused(Refused),
     /// The text is no command.
@@ -35,7 +37,7 @@ impl fmt::Display for Error {
     fn fmt(&self, f: &mut fmt::Formatter<'_>) -> fmt::Result {
         match self {
             Error::OutOfMemory => f.write_str("out of memory"),
-            Error::OutcomeUnknown => f.write_str("out of memory before the answer was whole"),
+            Error::OutcomeUnknown { .. } => f.write_str("out of memory before the answer was whole"),
             Error::Refused(refused) => write!(f, "refused: {}", refused.refusal),
             Error::Fault(fault) => write!(f, "{fault}"),
             Error::Malformed(malformed) => write!(f, "{malformed}"),

@@ -32,6 +32,7 @@ impl Handle {
 extern "C" {
     fn camp_open(repository: *mut Handle) -> i32;
     fn camp_ask(repository: *mut Handle, text: *const u8, length: usize) -> i32;
+    fn camp_executed(repository: *mut Handle) -> usize;
     fn camp_answer_length(repository: *mut Handle) -> usize;
     fn camp_answer(repository: *mut Handle, buffer: *mut u8, length: usize) -> usize;
     fn camp_close(repository: *mut Handle);
@@ -80,15 +81,25 @@ impl RawRepository {
         Ok(RawRepository(handle))
     }
 
-    // The answer to a text. Where memory runs out some of its commands may have been done.
+    // What is known where memory ran out for the last text: how much of it was executed.
+    fn at_memory(&mut self) -> Error {
+        // SAFETY: `&mut self` makes it the only call.
+        match unsafe { camp_executed(&mut self.0) } {
+            0 => Error::OutOfMemory,
+            executed => Error::OutcomeUnknown { executed },
+        }
+    }
+
+    // The answer to a text.
     pub(crate) fn ask(&mut self, text: &[u8]) -> Result<Vec<u8>, Error> {
         // SAFETY: pointer and length are those of a slice; `&mut self` makes it the only call.
         let code = unsafe { camp_ask(&mut self.0, text.as_ptr(), text.len()) };
-        done(code, Error::OutcomeUnknown)?;
+        let at_memory = self.at_memory();
+        done(code, at_memory.clone())?;
         // SAFETY: `&mut self` makes it the only call.
         let length = unsafe { camp_answer_length(&mut self.0) };
         // SAFETY: pointer and length are those of a slice that is written alone; `&mut self` makes it the only call.
-        copied(length, Error::OutcomeUnknown, |buffer| unsafe {
+        copied(length, at_memory, |buffer| unsafe {
             camp_answer(&mut self.0, buffer.as_mut_ptr(), buffer.len())
         })
     }

@@ -12,7 +12,7 @@ Stand = Option Kept
 
 -- a new repository: no call was accepted, and nothing was asked
 abbrev pub new_repository : Repository
-new_repository = record { history = []; answer = [] }
+new_repository = record { history = []; answer = []; executed = 0 }
 
 -- nothing is done, and the value of the handle is unchanged
 abbrev pub IsRefused : Stand → ℤ → Stand → Type 0
@@ -59,6 +59,11 @@ AsksView old text code now = IsRefused old code now
 abbrev pub answer_of : Stand → List ℕ
 answer_of (Some (Session repository)) = repository.answer
 answer_of other = []
+
+-- the number of bytes of the last text of a repository whose commands were executed
+abbrev pub executed_of : Stand → ℕ
+executed_of (Some (Session repository)) = repository.executed
+executed_of other = 0
 
 -- the answer to the last text of a view
 abbrev pub answer_of_view : Stand → List ℕ

@@ -1,6 +1,6 @@
 //! Repositories: opened, asked and closed.
 ghost use Rattle.std.specs.Prelude.{◌≡◌, ◌++◌, None, Some, length, take, drop, min, IfOk};
-ghost use Rattle.camp_c.specs.Handles.{AsksRepository, OpensRepository, answer_of, new_repository};
+ghost use Rattle.camp_c.specs.Handles.{AsksRepository, OpensRepository, answer_of, executed_of, new_repository};
 ghost use Rattle.camp_c.specs.declared.kept.Kept.TheVariants.{Session as OfSession};
 
 use crate::codes::{CLOSED, DONE, MEMORY};
@@ -36,7 +36,8 @@ fn begin(alloc: Global) -> Result<Box<Kept>, AllocError>
     Ok(Box::new(alloc, Kept::Session(session))?)
 }
 
-/// Executes the commands of a text, which is a conversation of its own.
+/// Executes the commands of a text, which is a conversation of its own. If memory runs out, exactly the
+/// commands in its first bytes were executed, as many as `camp_executed` returns.
 #[unsafe(no_mangle)]
 pub extern "C" fn camp_ask(alloc: Global, handle: &mut Handle, text: &[u8]) -> i32
     ensures { AsksRepository handle.old.keeper.held text.now result handle.new.keeper.held }
@@ -47,6 +48,20 @@ pub extern "C" fn camp_ask(alloc: Global, handle: &mut Handle, text: &[u8]) -> i
     let code = kept.ask(alloc, text);
     handle.put(kept);
     code
+}
+
+/// Returns the number of bytes of the last text whose commands were executed.
+#[unsafe(no_mangle)]
+pub extern "C" fn camp_executed(alloc: Global, handle: &mut Handle) -> usize
+    ensures same { handle.new.keeper.held ≡ handle.old.keeper.held }
+    ensures count { result ≡ executed_of handle.old.keeper.held }
+{
+    let Some(kept) = handle.take(alloc) else {
+        return 0;
+    };
+    let executed = kept.executed();
+    handle.put(kept);
+    executed
 }
 
 /// Returns the number of bytes of the answer to the last text.

@@ -3,11 +3,11 @@ use Rattle.std.proofs.Common.{◌≡◌, ◌⊎◌, inl, inr, ℕ, Bool, true, f
 use Rattle.std.proofs.KnownBytes.{Consumes-nil}
 use Rattle.std.specs.Io.KnownBytes.{Appends, Consumes, IsAtEnd, Keeps, append_known}
 use Rattle.camp_call.specs.declared.calls.Call.{Call}
-use Rattle.camp_kept.specs.Keeping.{Holds, IsStoreOf, calls_in, store_texts}
+use Rattle.camp_kept.specs.Keeping.{AreFirst, Holds, IsStoreOf, calls_in, store_texts}
 use Rattle.camp_kept.specs.declared.kept.Kept.{Kept}
 use Rattle.camp_kept.proofs.Committing.{holds_leave}
 use Rattle.camp_kept_talk.specs.Going.{AllAreKept, Comes, ComesSettled, Goes, IsUnwritten, MayBeKept, Settles, Stays, StopsSo, StopsUnkept, StopsUnwritten, TalksKept, as_told}
-use Rattle.camp_kept_talk.specs.Promises.{Promises}
+use Rattle.camp_kept_talk.specs.Promises.{AreEnough, Promises}
 use Rattle.camp_kept_talk.specs.declared.faults.StoredFault.{StoredFault}
 use Rattle.camp_kept_talk.specs.declared.faults.StoredFault.TheVariants as fault
 use Rattle.camp_kept_talk.proofs.Answering.{IsLast, appends_behind, appends_known, appends_some, calls_front, holds_kept, holds_trans, keeps_behind, last_read, told_more, told_of, told_trans, told_unseen}
@@ -34,22 +34,22 @@ at history lines cause = record { history = history; lines = lines; cause = caus
 reads_none : (b : Option (List ℕ)) → ReadsWithin b b
 reads_none b = record { some = []; reads = Consumes-nil b; is = tt }
 
-module _ {D : Type 0} (seen : D → List ℕ) (may_leave : D → List ℕ → Type 0) (a old now : Option (List ℕ)) (first : Standing) (kept : Kept D) where
+module _ {D : Type 0} (seen : D → List ℕ) (may_leave : D → List ℕ → Type 0) (a old now : Option (List ℕ)) (durable : List Call) (first : Standing) (kept : Kept D) where
   -- at first
-  pub begins : (lines : ℕ) (cause : Account) → Holds seen may_leave (calls_in kept) kept → Goes seen may_leave a a now now [] (at kept.book lines cause) (at kept.book lines cause) kept
-  begins lines cause holds = record {
+  pub begins : (lines : ℕ) (cause : Account) → AreFirst durable kept → Holds seen may_leave durable kept → Goes seen may_leave a a now now [] durable (at kept.book lines cause) (at kept.book lines cause) kept
+  begins lines cause are holds = record {
     middle = at kept.book lines cause;
     left = a;
     told = begins_so a now (at kept.book lines cause);
     behind = begins_so a (Some []) (at kept.book lines cause);
-    calls = calls_in kept;
+    calls = durable;
     holds = holds;
-    since = begins_self (calls_in kept);
-    within = begins_self (calls_in kept);
+    since = record { keeps = begins_self durable; tells = inr refl };
+    within = are;
   }
 
-  module _ (b : Option (List ℕ)) (held : List ℕ) (lines : ℕ) (cause : Account) (goes : Goes seen may_leave a b old now held first (at kept.book lines cause) kept) where
-    pub stays : Stays seen may_leave a b old now held first kept
+  module _ (b : Option (List ℕ)) (held : List ℕ) (lines : ℕ) (cause : Account) (goes : Goes seen may_leave a b old now held durable first (at kept.book lines cause) kept) where
+    pub stays : Stays seen may_leave a b old now held durable first kept
     stays = record {
       middle = goes.middle;
       last = at kept.book lines cause;
@@ -67,7 +67,7 @@ module _ {D : Type 0} (seen : D → List ℕ) (may_leave : D → List ℕ → Ty
 
     -- everything is persisted and written, and the conversation continues
     pub settled : (new : Kept D) (after : Option (List ℕ)) (rest : List ℕ) → AllAreKept seen may_leave kept new → rest ≡ [] → Appends now after held → new.book ≡ kept.book
-        → Goes seen may_leave a b old after rest first (at new.book lines cause) new
+        → Goes seen may_leave a b old after rest durable first (at new.book lines cause) new
     settled new after rest keeps none grows same = record {
       middle = at new.book lines cause;
       left = b;
@@ -76,7 +76,10 @@ module _ {D : Type 0} (seen : D → List ℕ) (may_leave : D → List ℕ → Ty
       behind = subst (λ (l : List ℕ). HoldsSo b b (Some []) (Some l) (at new.book lines cause) (at new.book lines cause)) (sym none) (begins_so b (Some []) (at new.book lines cause));
       calls = calls_in kept;
       holds = keeps goes.calls goes.within goes.holds;
-      since = subst (λ (h : Entries). IsBeginning (calls_of h) (calls_in kept)) (sym same) (begins_self (calls_in kept));
+      since = record {
+        keeps = begins_through goes.since.keeps goes.within;
+        tells = inl (subst (λ (h : Entries). IsBeginning (calls_of h) (calls_in kept)) (sym same) (begins_self (calls_in kept)));
+      };
       within = subst (λ (h : Entries). IsBeginning (calls_in kept) (calls_of h)) (sym same) (begins_self (calls_in kept));
     }
 
@@ -90,7 +93,7 @@ module _ {D : Type 0} (seen : D → List ℕ) (may_leave : D → List ℕ → Ty
 
       -- a command was answered into the buffer
       pub turned : (after : ℕ) (learnt : Account) → Turns b c (Some held) (Some more) (at kept.book lines cause) (Ok true) (at new.book after learnt)
-          → Goes seen may_leave a c old now more first (at new.book after learnt) new
+          → Goes seen may_leave a c old now more durable first (at new.book after learnt) new
       turned after learnt turns = record {
         middle = goes.middle;
         left = goes.left;
@@ -104,7 +107,7 @@ module _ {D : Type 0} (seen : D → List ℕ) (may_leave : D → List ℕ → Ty
 
       -- one was answered, perhaps in part
       one_more : (said : Exchange) (next : Standing) → IsLast (OnSome b (IsAtEnd c)) said.command → Answers (at kept.book lines cause) said.command said.answer next
-          → Consumes b c said.command → AppendsSome (Some held) (Some more) said.answer → next.history ≡ new.book → Stays seen may_leave a c old now more first new
+          → Consumes b c said.command → AppendsSome (Some held) (Some more) said.answer → next.history ≡ new.book → Stays seen may_leave a c old now more durable first new
       one_more said next kind answers reads writes is = record {
         middle = goes.middle;
         last = next;
@@ -121,7 +124,7 @@ module _ {D : Type 0} (seen : D → List ℕ) (may_leave : D → List ℕ → Ty
       }
 
       -- none could be read
-      none_more : ReadsWithin b c → Keeps (Some held) (Some more) → new.book ≡ kept.book → Stays seen may_leave a c old now more first new
+      none_more : ReadsWithin b c → Keeps (Some held) (Some more) → new.book ≡ kept.book → Stays seen may_leave a c old now more durable first new
       none_more reads keeps same = record {
         middle = goes.middle;
         last = at kept.book lines cause;
@@ -137,14 +140,14 @@ module _ {D : Type 0} (seen : D → List ℕ) (may_leave : D → List ℕ → Ty
         is = sym same;
       }
 
-      pub stopped : (after : ℕ) (learnt : Account) (why : TalkFault) → Turns b c (Some held) (Some more) (at kept.book lines cause) (Err why) (at new.book after learnt) → Stays seen may_leave a c old now more first new
+      pub stopped : (after : ℕ) (learnt : Account) (why : TalkFault) → Turns b c (Some held) (Some more) (at kept.book lines cause) (Err why) (at new.book after learnt) → Stays seen may_leave a c old now more durable first new
       stopped after learnt talk.Memory turns = none_more turns.none turns.keeps (ap (λ (s : Standing). s.history) turns.same)
       stopped after learnt (talk.Read error) turns = none_more turns.none turns.keeps (ap (λ (s : Standing). s.history) turns.same)
       stopped after learnt talk.Internal turns = none_more (record { some = turns.none.some; reads = turns.none.reads; is = turns.none.is }) turns.keeps (ap (λ (s : Standing). s.history) turns.same)
       stopped after learnt (talk.Write error) turns =
           one_more turns.said turns.behind (last_read b c turns.whole turns.said.command turns.reads) turns.answers (command_read b c turns.whole turns.said.command turns.reads) turns.writes (sym (ap (λ (s : Standing). s.history) turns.same))
 
-      pub ended : (after : ℕ) (learnt : Account) → Turns b c (Some held) (Some more) (at kept.book lines cause) (Ok false) (at new.book after learnt) → Stays seen may_leave a c old now more first new
+      pub ended : (after : ℕ) (learnt : Account) → Turns b c (Some held) (Some more) (at kept.book lines cause) (Ok false) (at new.book after learnt) → Stays seen may_leave a c old now more durable first new
       ended after learnt turns =
           one_more turns.said (at new.book after learnt) (last_read b c false turns.said.command turns.reads) turns.answers turns.reads.0 (appends_some (Some held) (Some more) turns.said.answer turns.writes) refl
 
@@ -188,7 +191,7 @@ module _ {D : Type 0} (seen : D → List ℕ) (may_leave : D → List ℕ → Ty
         writes = (turns.writes.0, turns.writes.1, turns.writes.2, appends_behind now then held more turns.writes.0 turns.writes.3 grows);
       })
 
-  module _ (come : Option (List ℕ)) (held : List ℕ) (stays : Stays seen may_leave a come old now held first kept) where
+  module _ (come : Option (List ℕ)) (held : List ℕ) (stays : Stays seen may_leave a come old now held durable first kept) where
     within_book : IsBeginning stays.calls (calls_in kept)
     within_book = subst (λ (h : Entries). IsBeginning stays.calls (calls_of h)) stays.is stays.within
 
@@ -199,7 +202,7 @@ module _ {D : Type 0} (seen : D → List ℕ) (may_leave : D → List ℕ → Ty
 
     module _ (new : Kept D) (after : Option (List ℕ)) (same : new.book ≡ kept.book) where
       -- all calls are persisted, and a prefix of the buffered answers is written
-      promised_all : AllAreKept seen may_leave kept new → AppendsSome now after held → Promises seen may_leave a old after first new
+      promised_all : AllAreKept seen may_leave kept new → AppendsSome now after held → Promises seen may_leave a old after durable first new
       promised_all keeps grows =
           let all : Holds seen may_leave (calls_in kept) new = keeps stays.calls within_book stays.holds in
           record {
@@ -209,13 +212,16 @@ module _ {D : Type 0} (seen : D → List ℕ) (may_leave : D → List ℕ → Ty
             crash = λ c left. (
               calls_in kept,
               holds_leave seen may_leave (calls_in kept) new all c left,
-              subst (λ (h : Entries). IsBeginning (calls_of h) (calls_in kept)) (sym stays.is) (begins_self (calls_in kept)),
+              record {
+                keeps = begins_through stays.since.keeps within_book;
+                tells = inl (subst (λ (h : Entries). IsBeginning (calls_of h) (calls_in kept)) (sym stays.is) (begins_self (calls_in kept)));
+              },
               subst (λ (h : Entries). IsBeginning (calls_in kept) (calls_of h)) (sym same) (begins_self (calls_in kept)),
             );
           }
 
       -- it is not known whether they are persisted, and nothing is written
-      promised_some : MayBeKept seen may_leave kept new → Keeps now after → Promises seen may_leave a old after first new
+      promised_some : MayBeKept seen may_leave kept new → Keeps now after → Promises seen may_leave a old after durable first new
       promised_some may keeps = record {
         left = stays.left;
         last = stays.middle;
@@ -223,8 +229,13 @@ module _ {D : Type 0} (seen : D → List ℕ) (may_leave : D → List ℕ → Ty
         crash = λ c left. which c (may stays.calls within_book stays.holds c left);
       }
         where
+          further : IsBeginning (calls_of stays.middle.history) stays.calls ⊎ (stays.middle ≡ first)
+              → IsBeginning (calls_of stays.middle.history) (calls_in kept) ⊎ (stays.middle ≡ first)
+          further (inl told) = inl (begins_through told within_book)
+          further (inr none) = inr none
+
           which : (c : List ℕ) → IsStoreOf stays.calls c ⊎ IsStoreOf (calls_in kept) c
-              → (calls : List Call) × IsStoreOf calls c × IsBeginning (calls_of stays.middle.history) calls × IsBeginning calls (calls_in new)
+              → (calls : List Call) × IsStoreOf calls c × AreEnough durable first stays.middle calls × IsBeginning calls (calls_in new)
           which c (inl some) = (
             stays.calls,
             some,
@@ -234,7 +245,7 @@ module _ {D : Type 0} (seen : D → List ℕ) (may_leave : D → List ℕ → Ty
           which c (inr all) = (
             calls_in kept,
             all,
-            begins_through stays.since within_book,
+            record { keeps = begins_through stays.since.keeps within_book; tells = further stays.since.tells },
             subst (λ (h : Entries). IsBeginning (calls_in kept) (calls_of h)) (sym same) (begins_self (calls_in kept)),
           )
 
@@ -253,7 +264,7 @@ module _ {D : Type 0} (seen : D → List ℕ) (may_leave : D → List ℕ → Ty
       }
 
       -- if the calls can't be persisted
-      unkept : MayBeKept seen may_leave kept new → Keeps now after → StopsUnkept seen may_leave a come old after first new
+      unkept : MayBeKept seen may_leave kept new → Keeps now after → StopsUnkept seen may_leave a come old after durable first new
       unkept may keeps = record {
         middle = stays.middle;
         last = stays.last;
@@ -271,69 +282,69 @@ module _ {D : Type 0} (seen : D → List ℕ) (may_leave : D → List ℕ → Ty
 
       -- if everything is flushed
       pub promised : (done : Unit {0}) (rest : List ℕ) → Settles seen may_leave kept held now (Ok done) new rest after
-          → Promises seen may_leave a old after first new × Holds seen may_leave (calls_in new) new
+          → Promises seen may_leave a old after durable first new × Holds seen may_leave (calls_in new) new
       promised done rest settles = (promised_all settles.0 (appends_some now after held settles.2), holds_all new same settles.0)
 
       -- if flushing fails
       pub stops_so : (why : StoredFault) (rest : List ℕ) → Settles seen may_leave kept held now (Err why) new rest after
-          → StopsSo seen may_leave a come old after first why new
+          → StopsSo seen may_leave a come old after durable first why new
       stops_so (fault.Kept why) rest settles = (promised_some settles.0 settles.1, unkept settles.0 settles.1)
       stops_so (fault.Talk why) rest settles = absurd settles
       stops_so (fault.Frame why) rest settles = absurd settles
       stops_so (fault.Write error) rest settles = (promised_all settles.0 settles.1, unwritten settles.0 settles.1)
 
 -- whatever the result of flushing
-pub settled_first : {D : Type 0} (seen : D → List ℕ) (may_leave : D → List ℕ → Type 0) (a b old now after : Option (List ℕ)) (first : Standing) (kept new : Kept D) (held rest : List ℕ) (lines : ℕ) (cause : Account)
-    (result : Result (Unit {0}) StoredFault) → Goes seen may_leave a b old now held first (at kept.book lines cause) kept → Settles seen may_leave kept held now result new rest after
-    → new.book ≡ kept.book → ComesSettled seen may_leave a b old after rest first (at new.book lines cause) result new
-settled_first seen may_leave a b old now after first kept new held rest lines cause (Ok done) goes settles same =
-    settled seen may_leave a old now first kept b held lines cause goes new after rest settles.0 settles.1 settles.2 same
-settled_first seen may_leave a b old now after first kept new held rest lines cause (Err why) goes settles same =
-    stops_so seen may_leave a old now first kept b held (stays seen may_leave a old now first kept b held lines cause goes) new after same why rest settles
+pub settled_first : {D : Type 0} (seen : D → List ℕ) (may_leave : D → List ℕ → Type 0) (a b old now after : Option (List ℕ)) (durable : List Call) (first : Standing) (kept new : Kept D) (held rest : List ℕ) (lines : ℕ) (cause : Account)
+    (result : Result (Unit {0}) StoredFault) → Goes seen may_leave a b old now held durable first (at kept.book lines cause) kept → Settles seen may_leave kept held now result new rest after
+    → new.book ≡ kept.book → ComesSettled seen may_leave a b old after rest durable first (at new.book lines cause) result new
+settled_first seen may_leave a b old now after durable first kept new held rest lines cause (Ok done) goes settles same =
+    settled seen may_leave a old now durable first kept b held lines cause goes new after rest settles.0 settles.1 settles.2 same
+settled_first seen may_leave a b old now after durable first kept new held rest lines cause (Err why) goes settles same =
+    stops_so seen may_leave a old now durable first kept b held (stays seen may_leave a old now durable first kept b held lines cause goes) new after same why rest settles
 
 -- whatever the result of a step after which everything is flushed
-module _ {D : Type 0} (seen : D → List ℕ) (may_leave : D → List ℕ → Type 0) (a b d old now : Option (List ℕ)) (first : Standing) (kept asked : Kept D) (held more : List ℕ) (lines after : ℕ) (cause learnt : Account)
-    (goes : Goes seen may_leave a b old now held first (at kept.book lines cause) kept) (same_log : asked.log ≡ kept.log) (same_count : asked.count ≡ kept.count)
+module _ {D : Type 0} (seen : D → List ℕ) (may_leave : D → List ℕ → Type 0) (a b d old now : Option (List ℕ)) (durable : List Call) (first : Standing) (kept asked : Kept D) (held more : List ℕ) (lines after : ℕ) (cause learnt : Account)
+    (goes : Goes seen may_leave a b old now held durable first (at kept.book lines cause) kept) (same_log : asked.log ≡ kept.log) (same_count : asked.count ≡ kept.count)
     (new : Kept D) (same : new.book ≡ asked.book) (rest : List ℕ) (then : Option (List ℕ)) where
   module _ (turns : Turns b d (Some held) (Some more) (at kept.book lines cause) (Ok false) (at asked.book after learnt)) where
-    stays_ended : Stays seen may_leave a d old now more first asked
-    stays_ended = ended seen may_leave a old now first kept b held lines cause goes d more asked same_log same_count after learnt turns
+    stays_ended : Stays seen may_leave a d old now more durable first asked
+    stays_ended = ended seen may_leave a old now durable first kept b held lines cause goes d more asked same_log same_count after learnt turns
 
     -- at the end of the input
     pub comes_end : (done : Unit {0}) → Settles seen may_leave asked more now (Ok done) new rest then
-        → Comes seen may_leave a d old then rest first (at new.book after learnt) (Ok false) new
+        → Comes seen may_leave a d old then rest durable first (at new.book after learnt) (Ok false) new
     comes_end done settles =
-        let both = promised seen may_leave a old now first asked d more stays_ended new then same done rest settles in (
+        let both = promised seen may_leave a old now durable first asked d more stays_ended new then same done rest settles in (
           both.0,
           subst (λ (h : Entries). EndsSo a d old then first (Ok false) h) (sym same)
-              (ends_so seen may_leave a old now first kept b held lines cause goes d more asked same_log same_count after learnt then turns settles.2),
+              (ends_so seen may_leave a old now durable first kept b held lines cause goes d more asked same_log same_count after learnt then turns settles.2),
           both.1,
         )
 
-    pub comes_end_unsettled : (why : StoredFault) → Settles seen may_leave asked more now (Err why) new rest then → StopsSo seen may_leave a d old then first why new
-    comes_end_unsettled why settles = stops_so seen may_leave a old now first asked d more stays_ended new then same why rest settles
+    pub comes_end_unsettled : (why : StoredFault) → Settles seen may_leave asked more now (Err why) new rest then → StopsSo seen may_leave a d old then durable first why new
+    comes_end_unsettled why settles = stops_so seen may_leave a old now durable first asked d more stays_ended new then same why rest settles
 
   module _ (wrong : TalkFault) (turns : Turns b d (Some held) (Some more) (at kept.book lines cause) (Err wrong) (at asked.book after learnt)) where
-    stays_stopped : Stays seen may_leave a d old now more first asked
-    stays_stopped = stopped seen may_leave a old now first kept b held lines cause goes d more asked same_log same_count after learnt wrong turns
+    stays_stopped : Stays seen may_leave a d old now more durable first asked
+    stays_stopped = stopped seen may_leave a old now durable first kept b held lines cause goes d more asked same_log same_count after learnt wrong turns
 
     -- at a fault
     pub comes_fault : (told : TalkFault) → told ≡ as_told wrong → (done : Unit {0}) → Settles seen may_leave asked more now (Ok done) new rest then
-        → StopsSo seen may_leave a d old then first (fault.Talk told) new
+        → StopsSo seen may_leave a d old then durable first (fault.Talk told) new
     comes_fault told told_is done settles =
-        let both = promised seen may_leave a old now first asked d more stays_stopped new then same done rest settles in (
+        let both = promised seen may_leave a old now durable first asked d more stays_stopped new then same done rest settles in (
           both.0,
           record {
             why = wrong;
             told_is = told_is;
             ends = subst (λ (h : Entries). EndsSo a d old then first (Err wrong) h) (sym same)
-                (breaks_so seen may_leave a old now first kept b held lines cause goes d more asked same_log same_count after learnt then wrong turns settles.2);
+                (breaks_so seen may_leave a old now durable first kept b held lines cause goes d more asked same_log same_count after learnt then wrong turns settles.2);
           },
           both.1,
         )
 
-    pub comes_unsettled : (why : StoredFault) → Settles seen may_leave asked more now (Err why) new rest then → StopsSo seen may_leave a d old then first why new
-    comes_unsettled why settles = stops_so seen may_leave a old now first asked d more stays_stopped new then same why rest settles
+    pub comes_unsettled : (why : StoredFault) → Settles seen may_leave asked more now (Err why) new rest then → StopsSo seen may_leave a d old then durable first why new
+    comes_unsettled why settles = stops_so seen may_leave a old now durable first asked d more stays_stopped new then same why rest settles
 
 -- the rest of a commit
 pub settles_so : {D : Type 0} (seen : D → List ℕ) (may_leave : D → List ℕ → Type 0) (old new : Kept D) (held now : List ℕ) (before after : Option (List ℕ)) (result : Result (Unit {0}) StoredFault)
@@ -347,8 +358,8 @@ settles_so seen may_leave old new held now before after (Err (fault.Frame why)) 
 settles_so seen may_leave old new held now before after (Err (fault.Write error)) keeps goes = (keeps, goes.1)
 
 -- the fault of a turn is the fault of the conversation
-pub talk_stops : {D : Type 0} (seen : D → List ℕ) (may_leave : D → List ℕ → Type 0) (a d old now : Option (List ℕ)) (first : Standing) (kept : Kept D)
-    (result : Result (Unit {0}) StoredFault) (why : StoredFault) → IsErrAnd result (λ fault. fault ≡ why) → StopsSo seen may_leave a d old now first why kept
-    → TalksKept seen may_leave a d old now first result kept
-talk_stops seen may_leave a d old now first kept (Ok done) why is stops = absurd is
-talk_stops seen may_leave a d old now first kept (Err fault) why is stops = subst (λ (w : StoredFault). StopsSo seen may_leave a d old now first w kept) (sym is) stops
+pub talk_stops : {D : Type 0} (seen : D → List ℕ) (may_leave : D → List ℕ → Type 0) (a d old now : Option (List ℕ)) (durable : List Call) (first : Standing) (kept : Kept D)
+    (result : Result (Unit {0}) StoredFault) (why : StoredFault) → IsErrAnd result (λ fault. fault ≡ why) → StopsSo seen may_leave a d old now durable first why kept
+    → TalksKept seen may_leave a d old now durable first result kept
+talk_stops seen may_leave a d old now durable first kept (Ok done) why is stops = absurd is
+talk_stops seen may_leave a d old now durable first kept (Err fault) why is stops = subst (λ (w : StoredFault). StopsSo seen may_leave a d old now durable first w kept) (sym is) stops

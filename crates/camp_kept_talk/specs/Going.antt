@@ -2,12 +2,14 @@
 use Rattle.std.specs.Prelude.{◌≡◌, ◌⊎◌, ℕ, Bool, true, false, List, [], Option, None, Some, Result, Ok, Err}
 use Rattle.std.specs.Io.KnownBytes.{Appends, Keeps}
 use Rattle.camp_call.specs.declared.calls.Call.{Call}
-use Rattle.camp_kept.specs.Keeping.{AreFirst, Holds, IsStoreOf, calls_in, disk_in}
+use Rattle.camp_kept.specs.Keeping.{AreFirst, Holds, IsStoreOf, calls_in, disk_in, may_commit}
+use Rattle.camp_kept.specs.declared.faults.KeptFault.TheVariants as kept
 use Rattle.camp_kept.specs.declared.kept.Kept.{Kept}
-use Rattle.camp_kept_talk.specs.Promises.{Promises, Told}
+use Rattle.camp_kept_talk.specs.Promises.{AreEnough, Promises, Told}
 use Rattle.camp_kept_talk.specs.declared.faults.StoredFault.{StoredFault}
 use Rattle.camp_kept_talk.specs.declared.faults.StoredFault.TheVariants as fault
 use Rattle.camp_object.specs.Histories.{IsBeginning}
+use Rattle.camp_store.specs.declared.faults.StoreFault.TheVariants as store
 use Rattle.camp_script.specs.Keeping.{calls_of}
 use Rattle.camp_talk.specs.Answers.{Standing}
 use Rattle.camp_talk.specs.Entries.{Entries}
@@ -30,6 +32,20 @@ as_told Memory = Memory
 as_told (Read error) = Read error
 as_told (Write error) = Memory
 as_told Internal = Internal
+
+-- the fault of a store that has stopped: a commit failed at its disk before
+abbrev pub stopped_fault : StoredFault
+stopped_fault = fault.Kept (kept.Store store.Failed)
+
+-- if a commit failed at the disk, the store has stopped
+abbrev pub HasStopped : {D : Type 0} → Kept D → StoredFault → Type 0
+HasStopped now (fault.Kept (kept.Store (store.Disk error))) = may_commit now ≡ false
+HasStopped now other = Unit {0}
+
+-- nothing was written, to a writer or to the disk of a repository
+pub record WritesNothing {D : Type 0} (old new : Kept D) (before after : Option (List ℕ)) : Type 0 where
+  pub same_log : new.log ≡ old.log
+  pub same : after ≡ before
 
 -- what a step writes that can't persist the calls: all answers buffered before it, or nothing
 abbrev pub WritesAllOrNone : List ℕ → Option (List ℕ) → Option (List ℕ) → StoredFault → Type 0
@@ -70,9 +86,9 @@ module _ {D : Type 0} (seen : D → List ℕ) (may_leave : D → List ℕ → Ty
   Settles old held before (Err (fault.Frame why)) new now after = ⊥
   Settles old held before (Err (fault.Write error)) new now after = AllAreKept old new × AppendsSome before after held
 
-  module _ (remaining rest old now : Option (List ℕ)) (held : List ℕ) (first last : Standing) (kept : Kept D) where
-    -- commands were answered up to a place, and all calls that were accepted until then are durable; the answers to
-    -- those after it are buffered
+  module _ (remaining rest old now : Option (List ℕ)) (held : List ℕ) (durable : List Call) (first last : Standing) (kept : Kept D) where
+    -- commands were answered up to a place, and all calls that were accepted until then are durable, with those that
+    -- were before; the answers to those after it are buffered
     pub record Goes : Type 0 where
       pub middle : Standing
       pub left : Option (List ℕ)
@@ -80,12 +96,12 @@ module _ {D : Type 0} (seen : D → List ℕ) (may_leave : D → List ℕ → Ty
       pub behind : HoldsSo left rest (Some []) (Some held) middle last
       pub calls : List Call
       pub holds : Holds seen may_leave calls kept
-      pub since : IsBeginning (calls_of middle.history) calls
+      pub since : AreEnough durable first middle calls
       pub within : IsBeginning calls (calls_of last.history)
 
   -- a step has failed: the answers to the commands after the place are buffered, perhaps in part; and no more was
   -- read after them than a command has
-  pub record Stays (remaining rest old now : Option (List ℕ)) (held : List ℕ) (first : Standing) (kept : Kept D) : Type 0 where
+  pub record Stays (remaining rest old now : Option (List ℕ)) (held : List ℕ) (durable : List Call) (first : Standing) (kept : Kept D) : Type 0 where
     pub middle : Standing
     pub last : Standing
     pub left : Option (List ℕ)
@@ -95,15 +111,15 @@ module _ {D : Type 0} (seen : D → List ℕ) (may_leave : D → List ℕ → Ty
     pub reads : ReadsWithin right rest
     pub calls : List Call
     pub holds : Holds seen may_leave calls kept
-    pub since : IsBeginning (calls_of middle.history) calls
+    pub since : AreEnough durable first middle calls
     pub within : IsBeginning calls (calls_of last.history)
     pub is : last.history ≡ kept.book
 
   -- the calls could not be persisted: commands were answered up to a place, and all of their answers were written;
   -- those after it were answered, and none of their answers was written; no more was read than a further one has. The
   -- accepted calls are those of all these commands. Whatever a crash leaves is a store of some prefix of them, the
-  -- same each time, with all those up to the place; or of all.
-  pub record StopsUnkept (remaining rest old now : Option (List ℕ)) (first : Standing) (kept : Kept D) : Type 0 where
+  -- same each time, with those that were durable before and all up to the place; or of all.
+  pub record StopsUnkept (remaining rest old now : Option (List ℕ)) (durable : List Call) (first : Standing) (kept : Kept D) : Type 0 where
     pub middle : Standing
     pub last : Standing
     pub left : Option (List ℕ)
@@ -113,7 +129,7 @@ module _ {D : Type 0} (seen : D → List ℕ) (may_leave : D → List ℕ → Ty
     pub reads : ReadsWithin right rest
     pub is : last.history ≡ kept.book
     pub calls : List Call
-    pub since : IsBeginning (calls_of middle.history) calls
+    pub since : AreEnough durable first middle calls
     pub within : IsBeginning calls (calls_in kept)
     pub crash : (c : List ℕ) → may_leave (disk_in kept) c → IsStoreOf calls c ⊎ IsStoreOf (calls_in kept) c
 
@@ -130,33 +146,33 @@ module _ {D : Type 0} (seen : D → List ℕ) (may_leave : D → List ℕ → Ty
   -- a conversation has stopped at a fault: the promise holds. Kept: the calls could not be persisted. Write: the
   -- writer failed. Talk: a step had this fault, all accepted calls are durable, and all answers were written before
   -- it.
-  abbrev pub StopsSo : (remaining rest old now : Option (List ℕ)) → Standing → StoredFault → Kept D → Type 0
-  StopsSo remaining rest old now first (fault.Kept why) kept =
-      Promises seen may_leave remaining old now first kept × StopsUnkept remaining rest old now first kept
-  StopsSo remaining rest old now first (fault.Talk why) kept =
-      Promises seen may_leave remaining old now first kept × EndsTold remaining rest old now first why kept.book
+  abbrev pub StopsSo : (remaining rest old now : Option (List ℕ)) → List Call → Standing → StoredFault → Kept D → Type 0
+  StopsSo remaining rest old now durable first (fault.Kept why) kept =
+      Promises seen may_leave remaining old now durable first kept × StopsUnkept remaining rest old now durable first kept
+  StopsSo remaining rest old now durable first (fault.Talk why) kept =
+      Promises seen may_leave remaining old now durable first kept × EndsTold remaining rest old now first why kept.book
       × Holds seen may_leave (calls_in kept) kept
-  StopsSo remaining rest old now first (fault.Frame why) kept = ⊥
-  StopsSo remaining rest old now first (fault.Write error) kept =
-      Promises seen may_leave remaining old now first kept × StopsUnwritten remaining rest old now first kept
+  StopsSo remaining rest old now durable first (fault.Frame why) kept = ⊥
+  StopsSo remaining rest old now durable first (fault.Write error) kept =
+      Promises seen may_leave remaining old now durable first kept × StopsUnwritten remaining rest old now first kept
 
   -- the result of a step
-  abbrev pub Comes : (remaining rest old now : Option (List ℕ)) → List ℕ → Standing → Standing → Result Bool StoredFault → Kept D → Type 0
-  Comes remaining rest old now held first last (Ok true) kept = Goes remaining rest old now held first last kept
-  Comes remaining rest old now held first last (Ok false) kept =
-      Promises seen may_leave remaining old now first kept × EndsSo remaining rest old now first (Ok false) last.history
+  abbrev pub Comes : (remaining rest old now : Option (List ℕ)) → List ℕ → List Call → Standing → Standing → Result Bool StoredFault → Kept D → Type 0
+  Comes remaining rest old now held durable first last (Ok true) kept = Goes remaining rest old now held durable first last kept
+  Comes remaining rest old now held durable first last (Ok false) kept =
+      Promises seen may_leave remaining old now durable first kept × EndsSo remaining rest old now first (Ok false) last.history
       × Holds seen may_leave (calls_in kept) kept
-  Comes remaining rest old now held first last (Err why) kept = StopsSo remaining rest old now first why kept
+  Comes remaining rest old now held durable first last (Err why) kept = StopsSo remaining rest old now durable first why kept
 
   -- the result of flushing
-  abbrev pub ComesSettled : (remaining rest old now : Option (List ℕ)) → List ℕ → Standing → Standing → Result (Unit {0}) StoredFault → Kept D → Type 0
-  ComesSettled remaining rest old now held first last (Ok done) kept = Goes remaining rest old now held first last kept
-  ComesSettled remaining rest old now held first last (Err why) kept = StopsSo remaining rest old now first why kept
+  abbrev pub ComesSettled : (remaining rest old now : Option (List ℕ)) → List ℕ → List Call → Standing → Standing → Result (Unit {0}) StoredFault → Kept D → Type 0
+  ComesSettled remaining rest old now held durable first last (Ok done) kept = Goes remaining rest old now held durable first last kept
+  ComesSettled remaining rest old now held durable first last (Err why) kept = StopsSo remaining rest old now durable first why kept
 
-  -- a conversation over a durable repository, from its start: the promise holds. After Ok it was held to its end, and
-  -- all accepted calls are durable.
-  abbrev pub TalksKept : (remaining rest old now : Option (List ℕ)) → Standing → Result (Unit {0}) StoredFault → Kept D → Type 0
-  TalksKept remaining rest old now first (Ok done) kept =
-      Promises seen may_leave remaining old now first kept × EndsSo remaining rest old now first (Ok false) kept.book
+  -- a conversation over a durable repository, from its start, when some first calls were durable: the promise holds.
+  -- After Ok it was held to its end, and all accepted calls are durable.
+  abbrev pub TalksKept : (remaining rest old now : Option (List ℕ)) → List Call → Standing → Result (Unit {0}) StoredFault → Kept D → Type 0
+  TalksKept remaining rest old now durable first (Ok done) kept =
+      Promises seen may_leave remaining old now durable first kept × EndsSo remaining rest old now first (Ok false) kept.book
       × Holds seen may_leave (calls_in kept) kept
-  TalksKept remaining rest old now first (Err why) kept = StopsSo remaining rest old now first why kept
+  TalksKept remaining rest old now durable first (Err why) kept = StopsSo remaining rest old now durable first why kept

@@ -29,13 +29,19 @@ pub record Told (remaining left old new : Option (List ℕ)) (first last : Stand
   pub reads : Consumes remaining left (flat_map (λ exchange. exchange.command) (said ++ more))
   pub writes : AppendsSome old new (flat_map (λ exchange. exchange.answer) (said ++ more))
 
+-- calls are enough to be durable where the answers were written to the commands from one session state to another:
+-- those that were durable before, and each that was accepted up to there
+pub record AreEnough (durable : List Call) (first last : Standing) (calls : List Call) : Type 0 where
+  pub keeps : IsBeginning durable calls
+  pub tells : IsBeginning (calls_of last.history) calls ⊎ (last ≡ first)
+
 -- two properties of a disk: what a read returns, and what a crash may leave
 module _ {D : Type 0} (seen : D → List ℕ) (may_leave : D → List ℕ → Type 0) where
   -- nothing but answers to commands was written; and whatever a crash leaves is a store of a prefix of the accepted
-  -- calls, which includes all those that were accepted up to the last of these commands
-  pub record Promises (remaining old new : Option (List ℕ)) (first : Standing) (kept : Kept D) : Type 0 where
+  -- calls, which includes those that were durable before, and all that were accepted up to the last of these commands
+  pub record Promises (remaining old new : Option (List ℕ)) (durable : List Call) (first : Standing) (kept : Kept D) : Type 0 where
     pub left : Option (List ℕ)
     pub last : Standing
     pub told : Told remaining left old new first last
     pub crash : (c : List ℕ) → may_leave (disk_in kept) c
-        → (calls : List Call) × IsStoreOf calls c × IsBeginning (calls_of last.history) calls × IsBeginning calls (calls_in kept)
+        → (calls : List Call) × IsStoreOf calls c × AreEnough durable first last calls × IsBeginning calls (calls_in kept)

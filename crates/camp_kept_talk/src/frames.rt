@@ -1,8 +1,9 @@
 //! Requests in frames over a durable repository.
-ghost use Rattle.std.specs.Prelude.{◌≡◌, ◌-◌, ◌^◌, true, IfOk};
-ghost use Rattle.camp_kept.specs.Keeping.{Holds, calls_in, disk_in};
-ghost use Rattle.camp_kept_talk.specs.Serving.{ServesKept, frame_told};
-ghost use Rattle.camp_talk.specs.Talks.{HasRisen};
+ghost use Rattle.std.specs.Prelude.{◌≡◌, ◌-◌, ◌^◌, Err, false, IfErr, List};
+ghost use Rattle.camp_call.specs.declared.calls.Call.{Call};
+ghost use Rattle.camp_kept.specs.Keeping.{AreFirst, Holds, disk_in, may_commit};
+ghost use Rattle.camp_kept_talk.specs.Going.{HasStopped, WritesNothing, stopped_fault};
+ghost use Rattle.camp_kept_talk.specs.Serving.{CountsKept, ServesKept, frame_told};
 
 use crate::StoredFault;
 use crate::settling::settle;
@@ -13,7 +14,8 @@ use std::io::{BufRead, Write};
 
 /// Reads a request in its frame and answers it; persists all accepted calls; and then writes the frame of the
 /// answer. True if there may be more; else the input has ended. `served` counts the requests that were
-/// served.
+/// served. If the store has stopped, as a commit failed at its disk, nothing is written any more: each request
+/// is answered by the fault that says so.
 pub fn serve_kept<D: Disk, R: BufRead, W: Write>(
     alloc: Global,
     kept: &mut Kept<D>,
@@ -21,10 +23,14 @@ pub fn serve_kept<D: Disk, R: BufRead, W: Write>(
     reader: &mut R,
     writer: &mut W,
 ) -> Result<bool, StoredFault>
-    ensures serves { Holds D.Disk.seen D.Disk.may_leave (calls_in kept.old) kept.old
+    ensures serves { (durable : List Call) → AreFirst durable kept.old → Holds D.Disk.seen D.Disk.may_leave durable kept.old
         → ServesKept D.Disk.seen D.Disk.may_leave (R.remaining reader.old) (R.remaining reader.new) (W.contents writer.old) (W.contents writer.new)
-        kept.old result kept.new }
-    ensures counts { IfOk result (λ more. more ≡ true → HasRisen served.old served.new) }
+        durable kept.old result kept.new }
+    ensures counts { CountsKept result served.old served.new }
+    // If a commit fails at the disk, the store has stopped; and one that has stopped writes nothing.
+    ensures stops { IfErr result (HasStopped kept.new) }
+    ensures stopped { may_commit kept.old ≡ false
+        → (result ≡ Err stopped_fault) × WritesNothing kept.old kept.new (W.contents writer.old) (W.contents writer.new) }
     ensures clean { D.Disk.is_clean (disk_in kept.new) ≡ D.Disk.is_clean (disk_in kept.old) }
 {
     let mut frame = Vec::new(alloc);
@@ -33,7 +39,10 @@ pub fn serve_kept<D: Disk, R: BufRead, W: Write>(
             Ok(()) => Ok(true),
             Err(fault) => Err(fault),
         },
-        Ok(false) => Ok(false),
+        Ok(false) => match kept.commit(alloc) {
+            Ok(()) => Ok(false),
+            Err(fault) => Err(StoredFault::Kept(fault)),
+        },
         Err(why) => match kept.commit(alloc) {
             Ok(()) => Err(StoredFault::Frame(without_room(why))),
             Err(fault) => Err(StoredFault::Kept(fault)),
@@ -86,9 +95,10 @@ impl<D: Disk, R: BufRead, W: Write> FramedStore<D, R, W> {
 impl<D: Disk, R: BufRead, W: Write> Dialogue for FramedStore<D, R, W> {
     type Fault = StoredFault;
 
-    ghost comes_to = { λ old result new. Holds D.Disk.seen D.Disk.may_leave (calls_in old.kept) old.kept
+    ghost comes_to = { λ old result new. ((durable : List Call) → AreFirst durable old.kept → Holds D.Disk.seen D.Disk.may_leave durable old.kept
         → ServesKept D.Disk.seen D.Disk.may_leave (R.remaining old.reader) (R.remaining new.reader) (W.contents old.writer) (W.contents new.writer)
-        old.kept result new.kept };
+        durable old.kept result new.kept)
+        × CountsKept result old.served new.served };
 
     ghost left = { λ it. 2 ^ 64 - it.served };
 

@@ -1,8 +1,8 @@
 //! Answers that are buffered until the calls before them are persisted.
-ghost use Rattle.std.specs.Prelude.{◌≡◌, [], MatchResult};
+ghost use Rattle.std.specs.Prelude.{◌≡◌, [], Err, false, IfErr, MatchResult};
 ghost use Rattle.std.specs.Io.KnownBytes.{Appends};
-ghost use Rattle.camp_kept.specs.Keeping.{disk_in};
-ghost use Rattle.camp_kept_talk.specs.Going.{IsUnwritten, Settles};
+ghost use Rattle.camp_kept.specs.Keeping.{disk_in, may_commit};
+ghost use Rattle.camp_kept_talk.specs.Going.{HasStopped, IsUnwritten, Settles, WritesNothing, stopped_fault};
 ghost use Rattle.camp_talk.specs.Talks.{AppendsSome};
 
 use crate::StoredFault;
@@ -22,6 +22,9 @@ pub(crate) fn settle<D: Disk, W: Write>(
 ) -> Result<(), StoredFault>
     ensures settles { Settles D.Disk.seen D.Disk.may_leave kept.old held.old.items (W.contents writer.old) result kept.new held.new.items (W.contents writer.new) }
     ensures book { kept.new.book ≡ kept.old.book }
+    ensures stops { IfErr result (HasStopped kept.new) }
+    ensures stopped { may_commit kept.old ≡ false
+        → (result ≡ Err stopped_fault) × WritesNothing kept.old kept.new (W.contents writer.old) (W.contents writer.new) }
     ensures clean { D.Disk.is_clean (disk_in kept.new) ≡ D.Disk.is_clean (disk_in kept.old) }
 {
     kept.commit(alloc)?;

@@ -1,8 +1,9 @@
 //! Conversations over a durable repository.
-ghost use Rattle.std.specs.Prelude.{◌≡◌, []};
+ghost use Rattle.std.specs.Prelude.{◌≡◌, Err, false, IfErr, List};
 ghost use Rattle.std.specs.Io.Buffered.{reader_remaining};
-ghost use Rattle.camp_kept.specs.Keeping.{Holds, calls_in, disk_in};
-ghost use Rattle.camp_kept_talk.specs.Going.{TalksKept};
+ghost use Rattle.camp_call.specs.declared.calls.Call.{Call};
+ghost use Rattle.camp_kept.specs.Keeping.{AreFirst, Holds, disk_in, may_commit};
+ghost use Rattle.camp_kept_talk.specs.Going.{HasStopped, TalksKept, WritesNothing, stopped_fault};
 ghost use Rattle.camp_talk.specs.Accounts.{no_account};
 
 use crate::StoredFault;
@@ -21,9 +22,13 @@ pub fn talk_kept<D: Disk, R: Read, W: Write>(
     reader: &mut BufReader<R>,
     writer: &mut W,
 ) -> Result<(), StoredFault>
-    ensures promises { Holds D.Disk.seen D.Disk.may_leave (calls_in kept.old) kept.old
+    ensures promises { (durable : List Call) → AreFirst durable kept.old → Holds D.Disk.seen D.Disk.may_leave durable kept.old
         → TalksKept D.Disk.seen D.Disk.may_leave (reader_remaining R.remaining reader.old) (reader_remaining R.remaining reader.new) (W.contents writer.old) (W.contents writer.new)
-        (record { history = kept.old.book; lines = 0; cause = no_account }) result kept.new }
+        durable (record { history = kept.old.book; lines = 0; cause = no_account }) result kept.new }
+    // If a commit fails at the disk, the store has stopped; and one that has stopped writes nothing.
+    ensures stops { IfErr result (HasStopped kept.new) }
+    ensures stopped { may_commit kept.old ≡ false
+        → (result ≡ Err stopped_fault) × WritesNothing kept.old kept.new (W.contents writer.old) (W.contents writer.new) }
     ensures clean { D.Disk.is_clean (disk_in kept.new) ≡ D.Disk.is_clean (disk_in kept.old) }
 {
     let mut held = HeldBack::new(alloc);

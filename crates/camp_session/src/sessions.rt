@@ -3,7 +3,7 @@ ghost use Rattle.std.specs.Prelude.{◌≡◌, [], IfOk};
 ghost use Rattle.camp_session.specs.Sessions.{Asks, Views};
 
 use crate::View;
-use camp_talk::{Book, State, TalkFault, answer_request};
+use camp_talk::{Book, State, TalkFault, execute};
 use std::alloc::{AllocError, Global};
 use std::marker::Model;
 
@@ -12,6 +12,8 @@ use std::marker::Model;
 pub struct Session {
     book: Book<State>,
     answer: Vec<u8>,
+    /// The bytes of the last text whose commands were executed.
+    executed: usize,
 }
 
 impl Model for Session {
@@ -22,27 +24,35 @@ impl Model for Session {
 
     ghost coded = { Prim.hlevel codes };
 
-    ghost view = { λ session. record { history = session.book; answer = session.answer.items } };
+    ghost view = { λ session. record { history = session.book; answer = session.answer.items; executed = session.executed } };
 }
 
 impl Session {
     /// Makes a new repository: one branch `main` without a patch.
     pub fn new(alloc: Global) -> Result<Session, AllocError>
-        ensures new { IfOk result (λ session. session ≡ record { history = []; answer = [] }) }
+        ensures new { IfOk result (λ session. session ≡ record { history = []; answer = []; executed = 0 }) }
     {
         let book = Book::new(alloc)?;
         Ok(Session {
             book,
             answer: Vec::new(alloc),
+            executed: 0,
         })
     }
 
-    /// Executes the commands of a text, which is a conversation of its own.
+    /// Executes the commands of a text, which is a conversation of its own. After a fault exactly the commands
+    /// in its first [`executed`](Session::executed) bytes were executed.
     pub fn ask(&mut self, alloc: Global, text: &[u8]) -> Result<(), TalkFault>
         ensures asks { Asks self.old text.now result self.new }
     {
         self.answer.clear();
-        answer_request(alloc, &mut self.book, text, &mut self.answer)
+        execute(
+            alloc,
+            &mut self.book,
+            text,
+            &mut self.executed,
+            &mut self.answer,
+        )
     }
 
     /// Returns the answer to the last text; at first it is empty.
@@ -50,6 +60,14 @@ impl Session {
         ensures answer { result.now ≡ self.now.answer }
     {
         &self.answer
+    }
+
+    /// Returns the number of bytes of the last text whose commands were executed, at first 0: all of them, or
+    /// after a fault those before the first command that was not.
+    pub fn executed(&self) -> usize
+        ensures executed { result ≡ self.now.executed }
+    {
+        self.executed
     }
 
     /// Makes a view of the repository as it is now, which shares the state: increments one reference count.

@@ -3,8 +3,9 @@ use Rattle.camp_talk.proofs.Words.{◌≡◌, ◌⊎◌, inl, inr, ℕ, Bool, tr
 use Rattle.camp_object.specs.Histories.{IsBeginning}
 use Rattle.camp_object.proofs.Beginnings.{begins_through, begins_self}
 use Rattle.camp_talk.specs.Accounts.{no_account}
-use Rattle.camp_talk.specs.Frames.{Serves}
-use Rattle.camp_talk.specs.Requests.{AnswersRequest, AnswersSome, AsksOneMore}
+use Rattle.camp_talk.specs.Frames.{AnswersNot, Serves, ServesNoFrame}
+use Rattle.camp_talk.specs.Requests.{AnswersRequest, AnswersSome, LosesAnswer}
+use Rattle.camp_talk.specs.declared.faults.TalkFault.{TalkFault}
 use Rattle.camp_talk.specs.declared.faults.TalkFault.TheVariants as talk
 use Rattle.camp_talk.specs.declared.frames.FrameFault.{FrameFault}
 use Rattle.camp_talk.specs.declared.frames.FrameFault.TheVariants as frame
@@ -36,17 +37,22 @@ request_grows before request answer now answers =
     (begins_through (follow_grow (record { history = before; lines = 0; cause = no_account }) answers.said answers.middle answers.follow)
     (answers_grow answers.middle answers.last.command answers.last.answer answers.after answers.answers))
 
-some_grow : (before : Entries) (request answer : List ℕ) (now : Entries) → AnswersSome before request answer now → IsBeginning before now
-some_grow before request answer now some = ends some.leaves
+some_grow : (before : Entries) (request answer : List ℕ) (now : Entries) (executed : ℕ) → AnswersSome before request answer now executed
+    → IsBeginning before now
+some_grow before request answer now executed some = ends some.leaves
   where
     so_far : IsBeginning before some.middle.history
     so_far = follow_grow (record { history = before; lines = 0; cause = no_account }) some.said some.middle some.follow
 
-    ends : ((now ≡ some.middle.history) × (some.front ≡ [])) ⊎ AsksOneMore some.middle some.rest some.front now → IsBeginning before now
+    ends : ((now ≡ some.middle.history) × (some.more ≡ some.rest)) ⊎ LosesAnswer some.middle some.rest some.more now → IsBeginning before now
     ends (inl still) = subst (λ (l : Entries). IsBeginning before l) (sym still.0) so_far
-    ends (inr more) =
-        subst (λ (l : Entries). IsBeginning before l) (sym more.same)
-        (begins_through so_far (answers_grow some.middle more.last.command more.last.answer more.behind more.answers))
+    ends (inr more) = begins_through so_far (tells_grow some.middle (asked_by more.last.command) more.last.answer now more.tells)
+
+unanswered_grow : (a b old new : Option (List ℕ)) (before : Entries) (why : TalkFault) (after : Entries)
+    → ServesNoFrame a b old new before (frame.Talk why) after ⊎ AnswersNot a b old new before after → IsBeginning before after
+unanswered_grow a b old new before why after (inl none) = front_same before after none.same
+unanswered_grow a b old new before why after (inr some) =
+    some_grow before some.service.request some.service.answer after some.executed some.answers
 
 -- or even read
 pub serves_grow : (a b old new : Option (List ℕ)) (before : Entries) (came : Result Bool FrameFault) (after : Entries)
@@ -54,7 +60,6 @@ pub serves_grow : (a b old new : Option (List ℕ)) (before : Entries) (came : R
 serves_grow a b old new before (Ok true) after serves = request_grows before serves.service.request serves.service.answer after serves.answers
 serves_grow a b old new before (Err (frame.Talk (talk.Write error))) after serves =
     request_grows before serves.service.request serves.service.answer after serves.answers
-serves_grow a b old new before (Err (frame.Talk why)) after (inl same) = front_same before after same.1
-serves_grow a b old new before (Err (frame.Talk why)) after (inr some) =
-    some_grow before some.service.request some.service.answer after some.answers
+serves_grow a b old new before (Err (frame.Talk talk.Memory)) after serves = unanswered_grow a b old new before talk.Memory after serves
+serves_grow a b old new before (Err (frame.Talk (talk.Read error))) after serves = unanswered_grow a b old new before (talk.Read error) after serves
 serves_grow a b old new before other after serves = front_same before after serves.same

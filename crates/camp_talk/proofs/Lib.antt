@@ -8,6 +8,7 @@ pub mod Firsts
 pub mod FrameLemmas
 pub mod Growing
 pub mod HelpLemmas
+pub mod LineCounts
 pub mod LineReads
 pub mod Loading
 pub mod LoadingKept

@@ -1,10 +1,10 @@
 -- The answer to a request, from the steps that are taken.
 use Rattle.camp_talk.specs.Accounts.{no_account}
-use Rattle.camp_talk.proofs.Words.{◌≡◌, ◌⊎◌, inl, inr, ℕ, Bool, true, false, List, [], ◌++◌, Some, Err, append-nil, append_assoc, flat_map, refl, sym, ap, ◌∙◌, Breaks, Entries, Exchange, Exchanges, Holds, IsCommand, IsLeft, ReadsCommand, Standing, Stops, Turns}
+use Rattle.camp_talk.proofs.Words.{◌≡◌, ◌⊎◌, ◌+◌, ◌-◌, inl, inr, ℕ, Bool, true, false, List, [], ◌++◌, length, length-append, arith, Some, append-nil, append_assoc, flat_map, refl, sym, ap, ◌∙◌, Entries, Exchange, Exchanges, Holds, IsCommand, IsLeft, ReadsCommand, Standing}
 use Rattle.camp_talk.proofs.Firsts.{command_read}
+use Rattle.camp_talk.specs.Inside.Executing.{StopsAfter, StopsBefore}
 use Rattle.camp_talk.specs.Requests.{AnswersRequest, AnswersSome}
 use Rattle.camp_talk.specs.declared.faults.TalkFault.{TalkFault}
-use Rattle.camp_talk.specs.declared.faults.TalkFault.TheVariants.{Write}
 
 -- a command that was read is whole, or else nothing is left after it
 asked_one : (left rest : List ℕ) (whole : Bool) (command : List ℕ) → ReadsCommand (Some left) (Some rest) whole command
@@ -41,61 +41,53 @@ module _ (history : Entries) (request left rest old held new : List ℕ) (middle
         },
       )
 
-  -- a step failed
-  pub request_ends : (why : TalkFault) → Holds (Some request) (Some left) (Some old) (Some held) first middle
-      → Turns (Some left) (Some rest) (Some held) (Some new) middle (Err why) last
-      → (text : List ℕ) × (new ≡ old ++ text) × AnswersSome history request text last.history
-  request_ends why holds turns = at why turns
-    where
-      answers : List ℕ
-      answers = flat_map (λ (exchange : Exchange). exchange.answer) holds.said
+  long : (holds : Holds (Some request) (Some left) (Some old) (Some held) first middle)
+      → length request ≡ length (flat_map (λ (exchange : Exchange). exchange.command) holds.said) + length left
+  long holds =
+      ap (λ (bytes : List ℕ). length bytes) holds.reads ∙ length-append (flat_map (λ (exchange : Exchange). exchange.command) holds.said) left
 
-      broken : (why : TalkFault) → Breaks (Some left) (Some rest) (Some held) (Some new) middle why last
-          → (text : List ℕ) × (new ≡ old ++ text) × AnswersSome history request text last.history
-      broken why breaks = (
-        answers,
-        breaks.keeps ∙ holds.writes,
+  -- no further command was executed
+  pub request_stops : (why : TalkFault) (executed : ℕ) → executed ≡ length request - length left
+      → Holds (Some request) (Some left) (Some old) (Some held) first middle → StopsBefore (Some left) (Some rest) held new middle why last
+      → (text : List ℕ) × (new ≡ old ++ text) × AnswersSome history request text last.history executed
+  request_stops why executed is holds stops = (
+    flat_map (λ (exchange : Exchange). exchange.answer) holds.said,
+    stops.kept ∙ holds.writes,
+    record {
+      said = holds.said;
+      middle = middle;
+      follow = holds.follow;
+      rest = left;
+      asks = holds.reads;
+      tells = refl;
+      more = left;
+      leaves = inl (stops.same, refl);
+      counts = omega (arith, is, long holds);
+    },
+  )
+
+  -- one was executed, and its answer is not there
+  pub request_loses : (executed : ℕ) → executed ≡ length request - length rest
+      → Holds (Some request) (Some left) (Some old) (Some held) first middle → StopsAfter (Some left) (Some rest) held new middle last
+      → (text : List ℕ) × (new ≡ old ++ text) × AnswersSome history request text last.history executed
+  request_loses executed is holds stops =
+      let asks = command_read (Some left) (Some rest) stops.whole stops.said.command stops.reads in (
+        flat_map (λ (exchange : Exchange). exchange.answer) holds.said,
+        stops.kept ∙ holds.writes,
         record {
           said = holds.said;
           middle = middle;
           follow = holds.follow;
           rest = left;
           asks = holds.reads;
-          front = [];
-          tells = sym (append-nil answers);
-          leaves = inl (ap (λ (standing : Standing). standing.history) breaks.same, refl);
+          tells = refl;
+          more = rest;
+          leaves = inr (record {
+            last = stops.said;
+            is = asked_one left rest stops.whole stops.said.command stops.reads;
+            tells = stops.tells;
+            asks = asks;
+          });
+          counts = omega (arith, is, long holds, ap (λ (bytes : List ℕ). length bytes) asks, length-append stops.said.command rest);
         },
       )
-
-      stopped : Stops (Some left) (Some rest) (Some held) (Some new) middle last
-          → (text : List ℕ) × (new ≡ old ++ text) × AnswersSome history request text last.history
-      stopped stops =
-          let (done, unsaid, is, writes) = stops.writes in (
-            answers ++ done,
-            writes ∙ ap (λ (bytes : List ℕ). bytes ++ done) holds.writes ∙ append_assoc old answers done,
-            record {
-              said = holds.said;
-              middle = middle;
-              follow = holds.follow;
-              rest = left;
-              asks = holds.reads;
-              front = done;
-              tells = refl;
-              leaves = inr (record {
-                last = stops.said;
-                more = rest;
-                is = asked_one left rest stops.whole stops.said.command stops.reads;
-                behind = stops.behind;
-                answers = stops.answers;
-                same = ap (λ (standing : Standing). standing.history) stops.same;
-                asks = command_read (Some left) (Some rest) stops.whole stops.said.command stops.reads;
-                unsaid = unsaid;
-                tells = is;
-              });
-            },
-          )
-
-      at : (why : TalkFault) → Turns (Some left) (Some rest) (Some held) (Some new) middle (Err why) last
-          → (text : List ℕ) × (new ≡ old ++ text) × AnswersSome history request text last.history
-      at (Write error) turns = stopped turns
-      at other turns = broken other turns

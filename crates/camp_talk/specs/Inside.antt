@@ -1,4 +1,5 @@
 -- Definitions that only private functions use.
+pub mod Executing
 pub mod Framing
 pub mod Hearing
 pub mod Parts

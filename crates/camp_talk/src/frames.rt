@@ -1,6 +1,6 @@
 //! Requests in frames: each comes after a line with its number of bytes, and so does its answer.
 ghost use Rattle.std.specs.Prelude.{◌≡◌, ◌-◌, ◌^◌, Some};
-ghost use Rattle.camp_talk.specs.Frames.{Serves, frame_status, frame_words};
+ghost use Rattle.camp_talk.specs.Frames.{CountsServed, Serves, frame_status, frame_words};
 ghost use Rattle.camp_talk.specs.declared.frames.FrameFault.TheVariants as frame;
 
 use crate::TalkFault;
@@ -95,7 +95,7 @@ impl<R: BufRead, W: Write> Dialogue for FramedConversation<R, W> {
     type Fault = FrameFault;
 
     ghost comes_to = { λ old result new. Serves (R.remaining old.reader) (R.remaining new.reader) (W.contents old.writer) (W.contents new.writer)
-        old.book result new.book };
+        old.book result new.book × CountsServed result old.served new.served };
 
     ghost left = { λ it. 2 ^ 64 - it.served };
 

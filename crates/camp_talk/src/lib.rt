@@ -43,10 +43,11 @@ pub use frames::{FrameFault, FramedConversation};
 pub use laws::{
     causes_are_told, counts_are_told, failures_are_told, faults_are_told, kept_is_loaded,
     records_are_awaited, refusals_are_told, requests_are_served_in_turn, shown_bytes_are_printable,
+    unserved_bytes_have_no_frame,
 };
 pub use loads::load;
 pub use questions::{Question, Reason, Topic};
-pub use requests::answer_request;
+pub use requests::{answer_request, execute};
 pub use serving::serve;
 pub use talks::turn;
 pub use tellings::answer_question;
