@@ -21,6 +21,7 @@ pub mod MarkedNames
 pub mod MissingNames
 pub mod OpenPairs
 pub mod PartsArranged
+pub mod PartsOfOne
 pub mod PassedChanges
 pub mod PatchFronts
 pub mod PatchesBack

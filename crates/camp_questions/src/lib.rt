@@ -22,6 +22,7 @@ mod open_conflicts;
 mod passing;
 mod pictures;
 mod places;
+mod related;
 mod showing;
 mod sides;
 mod telling;
