@@ -10,6 +10,8 @@ mod members;
 mod numbers;
 mod readers;
 mod requests;
+#[cfg(test)]
+mod tests;
 mod wanting;
 
 pub use entries::{Entry, MAX_CALLS};
