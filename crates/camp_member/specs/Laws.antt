@@ -56,13 +56,13 @@ module _ {State Call Reply : Type 0} (object : Sequential State Call Reply) wher
       (seat : ℕ) (seen : List (ℕ × Call)) (told : List (AnsweredRequest Call Reply)) (now : List (ℕ × Call))
       → AreAnsweredFrom object AnyReason seat seen told now → own seat now ≡ own seat seen ++ accepted_in object told
 
-  -- a member that goes on twice has gone on, with the answers of both
+  -- two advances of a member are one advance, with the answers of both
   abbrev pub AdvancesOn : Type 0
   AdvancesOn =
       (one two three : Membership State Call Reply)
       → IsLegal object two.reading.history → MemberAdvances object AnyReason one two → MemberAdvances object AnyReason two three → MemberAdvances object AnyReason one three
 
-  -- a member that goes on goes on, for whatever reason there is no reply
+  -- an advance with fewer reasons for no reply is one with any reason
   pub record AdvancesAnyhow : Type 0 where
     pub replies : (old new : Membership State Call Reply) → MemberAdvances object (λ _. ⊥) old new → MemberAdvances object AnyReason old new
     pub stopped : (member old new : Membership State Call Reply) → MemberAdvances object (IsStopped member) old new → MemberAdvances object AnyReason old new

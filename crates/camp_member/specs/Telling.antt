@@ -42,7 +42,7 @@ module _ {State Call Reply : Type 0} (object : Sequential State Call Reply) wher
   accepted_in [] = []
   accepted_in (one ∷ more) = if is_done one.answer then one.request.call ∷ accepted_in more else accepted_in more
 
-  -- a member goes on: it answers the first of its requests in their order, each once
+  -- a member advances: it answers the first of its requests in their order, each once
   pub record MemberAdvances (may : NoReply → Type 0) (old new : Membership State Call Reply) : Type 0 where
     pub told : List (AnsweredRequest Call Reply)
     pub seat : new.seat ≡ old.seat

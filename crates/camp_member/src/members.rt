@@ -8,8 +8,8 @@ use camp_object::Object;
 use std::alloc::{AllocError, Global};
 use std::marker::Model;
 
-/// One of those who share a log. It says what it wants of the log, and is told what came of it. Contracts see
-/// it as `Membership`.
+/// A process that shares a log with others: it requests reads and appends, and is given their outcomes. Contracts
+/// see it as `Membership`.
 #[derive(Drop)]
 pub struct Member<State: Object> {
     pub(crate) seat: u128,
@@ -75,7 +75,7 @@ impl<State: Object> Member<State> {
         self.is_stopped
     }
 
-    /// Asks a request: it waits behind the others for an answer.
+    /// Queues a request after those that wait for an answer.
     pub fn ask(&mut self, request: Request<State::Call>) -> Result<(), AllocError>
         ensures waits { OnOk result (self.new ≡ record self.old { waiting = self.old.waiting ++ request ∷ [] }) }
         ensures stays { OnErr result (self.new ≡ self.old) }
