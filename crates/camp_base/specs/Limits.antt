@@ -1,19 +1,19 @@
 -- Limits that several crates use.
 use Rattle.std.specs.Prelude.{ℕ, ◌^◌}
 
--- changes of the longest patch; the shortest has one
+-- the most changes of a patch; the fewest are one
 abbrev pub most_changes : ℕ
 most_changes = 64
 
--- bytes of the longest name
+-- the most bytes of a name
 abbrev pub longest_name : ℕ
 longest_name = 40
 
--- bytes of the longest path
+-- the most bytes of a path
 abbrev pub longest_path : ℕ
 longest_path = 200
 
--- bytes of the longest line
+-- the most bytes of a line
 abbrev pub longest_line : ℕ
 longest_line = 4_096
 

@@ -14,11 +14,11 @@ pub use names::Name;
 pub use paths::Path;
 pub use trees::Tree;
 
-/// Bytes of the longest name.
+/// The most bytes of a name.
 pub const MAX_NAME_LENGTH: usize = 40;
 
-/// Bytes of the longest path.
+/// The most bytes of a path.
 pub const MAX_PATH_LENGTH: usize = 200;
 
-/// Bytes of the longest line.
+/// The most bytes of a line.
 pub const MAX_LINE_LENGTH: usize = 4_096;

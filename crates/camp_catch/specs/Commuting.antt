@@ -1,6 +1,6 @@
--- When two catches, one after the other, commute, and to which two. The letters of the cases: j is [a] or (r,
--- X, i), k is [b] or (s, Y, l); the sets X, Y, Z are conflicts, i and l identities. Each list that a case
--- makes is in normal order; an inverse s^ is taken as it is. A catch is in a set if its absolute label is.
+-- When two catches, one after the other, commute, and to which two. In the cases j is [a] or (r, X, i), and k is [b] or
+-- (s, Y, l): r and s are effects, X, Y and Z sets of conflicts, i and l identities. Each list that a case makes is put
+-- in normal order, except an inverse s^. A catch is in a set if the set has its absolute label.
 use Rattle.std.specs.Prelude.{◌≡◌, ◌≢◌, ◌⊎◌, ◌≤◌, ◌&&◌, List, [], ◌∷◌, ◌++◌, map, filter, Some, None}
 use Rattle.std.specs.List.{All}
 use Rattle.std.specs.FinMap.{get, contains_key, remove, len}

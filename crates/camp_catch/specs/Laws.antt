@@ -57,7 +57,7 @@ KeysPart names (key ∷ keys) first rest =
     (Contains names key.name × ((t : List Key) × KeysPart names keys t rest × (first ≡ key ∷ t)))
     ⊎ ((¬ (Contains names key.name)) × ((t : List Key) × KeysPart names keys first t × (rest ≡ key ∷ t)))
 
--- the keys of the order first, each taken out of the others, which keep their order
+-- the keys in the given order, and then the others in their own order
 abbrev pub KeysAlign : List Key → List Key → List Key → Type 0
 KeysAlign [] keys aligned = aligned ≡ keys
 KeysAlign (key ∷ order) keys aligned =

@@ -85,8 +85,8 @@ pub record ArrangeByMembers : Type 0 where
       (names others : List (List ℕ)) → ((name : List ℕ) → Contains names name ↔ Contains others name) →
       (list : List Catch) (patch on : Key) → ArrangeSticks names list patch on → ArrangeSticks others list patch on
 
--- of plain catches with headroom: if a patch blocks the patches of some names on their way to the front, it is among
--- every list that has these names and whose patches can all be moved to the front
+-- of plain catches with headroom: a patch that blocks the patches of some names on their way to the front is in every
+-- set of patches that has these names and can be moved to the front
 abbrev pub WhatStopsComesAlong : Type 0
 WhatStopsComesAlong =
     (patches : List Named) (names others : List (List ℕ)) → HasRoom patches →
@@ -94,8 +94,8 @@ WhatStopsComesAlong =
     ArrangeSticks names (map Plain patches) patch on → HasPair (Arrange others (map Plain patches)) →
     Contains others on.name
 
--- of plain catches with headroom: if two groups of patches can be moved to the front, each for itself, then the
--- second can be moved there first, and the rest of the first directly after it
+-- of plain catches with headroom: if each of two sets of patches can be moved to the front, then after the second was
+-- moved there, the rest of the first can be moved to the front of what follows
 abbrev pub FrontsComeBehindFronts : Type 0
 FrontsComeBehindFronts =
     (patches : List Named) (names others wanted : List (List ℕ)) → HasRoom patches →

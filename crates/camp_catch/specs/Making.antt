@@ -3,7 +3,7 @@ use Rattle.std.specs.Prelude.{Result, Ok, Err}
 use Rattle.camp_catch.specs.declared.faults.Unmade.{Unmade}
 use Rattle.camp_catch.specs.declared.faults.Unmade.TheVariants.{Blocked, Memory}
 
--- if it is blocked, it is blocked by this; out of memory says nothing
+-- a result that is blocked is blocked as `By` says; nothing is said of out of memory
 abbrev pub IfBlocked : {W : Type 0} → (W → Type 0) → Unmade W → Type 0
 IfBlocked By (Blocked why) = By why
 IfBlocked By Memory = Unit {0}

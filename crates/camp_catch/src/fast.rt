@@ -1,4 +1,4 @@
-//! Faster ways to the results of the definitions. Each says when it applies; there its result is the defined one.
+//! Faster ways to the results of the definitions. Each applies in some cases, where its result is the defined one.
 //!
 //! - Two plain catches that keep their lines commute unchanged, and by the square law also merge unchanged. No catch
 //! is made then: both are kept.
@@ -10,8 +10,8 @@
 //! set of the second, it leaves that set, and the second joins the set of the first, whatever joined it before.
 //! - A plain catch and a conflictor of the same state merge unchanged if the inverse of the plain one passes the
 //! conflictor unchanged, and the two do not conflict.
-//! - The last catch of a pull is merged to one result alone, what it becomes after the branch: what the branch would
-//! become after it is read by nobody. If the one exists, so does the other, since adding always has a result.
+//! - The last catch of a pull is merged to one of the two results: what it becomes after the branch. The other, what the
+//! branch becomes after it, is not needed; it exists if the first does, since adding always has a result.
 //! - The conflicts that a catch gains while it moves through a list join its set at the end. If two conflictors have no
 //! effect, merging changes nothing but their sets: if they conflict, the identity of each joins the set of the other,
 //! whatever joined it before. So merging, arranging and aligning lists keep beside each catch the conflicts that it

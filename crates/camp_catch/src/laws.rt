@@ -86,8 +86,8 @@ pub fn what_stops_comes_along()
     ensures law { WhatStopsComesAlong }
 {}
 
-/// Of plain catches with headroom: if two groups of patches can be moved to the front, each for itself, then
-/// the second can be moved there first, and the rest of the first directly after it.
+/// Of plain catches with headroom: if each of two sets of patches can be moved to the front, then after the
+/// second was moved there, the rest of the first can be moved to the front of what follows.
 pub fn fronts_come_behind_fronts()
     ensures law { FrontsComeBehindFronts }
 {}

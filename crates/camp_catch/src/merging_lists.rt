@@ -22,8 +22,8 @@ pub struct NoMerge {
     pub right: Key,
 }
 
-/// Merges `p` with the `q` of the same state to what it is after `q`. Blocked by the first pair that does not
-/// merge: the left one from `q` and the right one from `p`.
+/// Merges `p` and `q`, lists of catches that begin in the same state, and returns what `p` becomes after `q`. Blocked by
+/// the first two catches that do not merge: `left` is of `q`, `right` of `p`.
 pub fn merge_lists(
     alloc: Global,
     p: &[Shared<Catch>],

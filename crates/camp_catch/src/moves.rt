@@ -46,7 +46,7 @@ pub(crate) fn commute_in_place(
     Ok(true)
 }
 
-/// Writes the two results of commuting or merging to `k` and `j`.
+/// Writes the two results of commuting or merging: the first to `k`, the second to `j`.
 pub(crate) fn put_both(
     alloc: Global,
     pair: (Catch, Catch),

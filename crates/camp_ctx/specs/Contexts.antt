@@ -44,7 +44,7 @@ AreKeyed xs = (key : Key) (x : ContextedPatch) → get xs key ≡ Some x → key
 abbrev pub only : ContextedPatch → ContextedPatches
 only x = insert empty (context_key x) x
 
--- X and l: the set with l too; a member with the label of l stays instead
+-- X and l: the set with l too, or the set itself if it has a member with the label of l
 abbrev pub with_member : ContextedPatches → ContextedPatch → ContextedPatches
 with_member xs l = if contains_key xs (context_key l) then xs else insert xs (context_key l) l
 

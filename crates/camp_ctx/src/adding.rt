@@ -32,8 +32,7 @@ impl Contexted {
         Ok(all)
     }
 
-    /// The same, and consumes the list. A list that is linked as it stands to an empty context becomes the
-    /// context without a copy.
+    /// Adds a list and consumes it. A chain that is linked to an empty context becomes the context without a copy.
     pub fn add_given(r: Seq, x: &Contexted) -> Result<Contexted, AllocError>
         ensures exact { IfOk result (λ y. AddsAll r x.now y) }
     {
@@ -86,7 +85,8 @@ impl Contexted {
     }
 }
 
-/// The same once the primitive has passed the context, as `moved`; `None` if it cannot pass the patch.
+/// Completes passing by: the primitive `a` has passed the context, and is `moved` after it; `None` if it cannot pass the
+/// patch too.
 fn past_patch(
     a: &Named,
     mut context: Seq,
@@ -158,10 +158,11 @@ fn add_to(a: &Named, context: &mut Seq, patch: &mut Named, told: bool) -> Result
     Ok(told)
 }
 
-/// Puts a context that `a` has passed in normal order; `patch` is the patch as `a` has passed it. If the
-/// context was its own normal order before, it still is if `a^`, the context and the patch have headroom;
-/// they do if `a` and these have headroom to merge, since `a^` reaches as far as `a`. True if the context is
-/// known to be its own normal order.
+/// Puts a context that `a` has passed in normal order; `patch` is the patch that `a` has passed too. True if the context
+/// is then known to be its own normal order.
+///
+/// A context that was its own normal order before (`told`) is not ordered again if `a` and the rest have headroom to
+/// merge: then `a^`, the context and the patch have headroom, since `a^` reaches as far as `a`.
 fn order_passed(a: &Named, context: &mut Seq, patch: &Named, told: bool) -> bool
     requires { IsTrue told → KeepsOrder a.now context.old patch.now }
     ensures order { Norm context.old context.new }
@@ -195,8 +196,7 @@ fn behind_inverse(a: &Named, s: &Seq) -> Result<Option<Seq>, AllocError>
     Ok(Some(rest))
 }
 
-/// Makes a contexted patch. Its context is its own normal order if `told` says so or the quick check finds
-/// it.
+/// Makes a contexted patch. Its context counts as its own normal order if `told` is true or the quick check is.
 fn made(alloc: Global, context: Seq, patch: Named, told: bool) -> Result<Contexted, AllocError>
     requires { IsTrue told → Norm context context }
     ensures { IfOk result (λ y. y ≡ behind context patch) }

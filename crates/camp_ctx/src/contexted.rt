@@ -22,7 +22,7 @@ pub struct Contexted {
 struct Parts {
     context: Seq,
     patch: Named,
-    // The results of the quick checks: the context is its own normal order, and so is the whole.
+    // Results of quick checks: true only if the context, or the context followed by the patch, is its own normal order.
     context_is_ordered: bool,
     whole_is_ordered: bool,
 }
@@ -123,15 +123,15 @@ impl Contexted {
         self.context().is_same(other.context()) && self.patch().is_same(other.patch())
     }
 
-    /// True only if the context is its own normal order. False decides nothing. Checked once, when the
-    /// contexted patch is made.
+    /// Returns the result of a quick check that was made with the contexted patch: true only if the context is its own
+    /// normal order, which it may be also if this is false.
     pub(crate) fn context_is_ordered(&self) -> bool
         ensures { IsTrue result → Norm self.now.context self.now.context }
     {
         self.parts.context_is_ordered
     }
 
-    /// The same of the context followed by the patch.
+    /// Returns the result of the same check for the context followed by the patch.
     pub(crate) fn whole_is_ordered(&self) -> bool
         ensures { IsTrue result → Norm (whole self.now) (whole self.now) }
     {

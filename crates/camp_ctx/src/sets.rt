@@ -62,7 +62,7 @@ impl CtxSet {
         self.members.get(&MemberKey::new(*key))
     }
 
-    /// Returns the set with one more member. A member with the same label stays instead.
+    /// Returns the set with one more member, or the same set if it has a member with that label.
     pub fn insert(&self, member: &Contexted) -> Result<CtxSet, AllocError>
         ensures exact { IfOk result (λ set. set ≡ with_member self.now member.now) }
     {

@@ -27,8 +27,8 @@ pub record CommutesOnTwoPaths (p q q' p' : Primitive) : Type 0 where
   pub second : q' ≡ q
   pub first : p' ≡ p
 
--- h k <-> k' h, where k is the lower hunk: k is `gap` lines below what h leaves, and k' is `gap` lines below
--- what h takes away
+-- h k <-> k' h, where k is the lower hunk: k is `gap` lines below the new lines of h, and k' is `gap` lines below the old
+-- lines of h
 pub record CommutesBelow (p q q' p' : Primitive) : Type 0 where
   pub h : Edit
   pub k : Edit
@@ -41,8 +41,8 @@ pub record CommutesBelow (p q q' p' : Primitive) : Type 0 where
   pub second : q' ≡ Hunk (at_line (h.line + length h.old + gap) k)
   pub first : p' ≡ p
 
--- h k <-> k h', where h is the lower hunk: h is `gap` lines below what k takes away, and h' is `gap` lines
--- below what k leaves
+-- h k <-> k h', where h is the lower hunk: h is `gap` lines below the old lines of k, and h' is `gap` lines below the new
+-- lines of k
 pub record CommutesAbove (p q q' p' : Primitive) : Type 0 where
   pub h : Edit
   pub k : Edit

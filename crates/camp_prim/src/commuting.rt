@@ -93,8 +93,9 @@ fn hunk_targets(h: &Hunk, k: &Hunk) -> Option<Targets>
     None
 }
 
-/// Computes the line to which the lower hunk moves past one at line `upper`: from `gap` lines below what that
-/// one leaves to `gap` lines below what it takes away. `None` if it cannot pass or would leave its range.
+/// Computes the line to which the lower hunk moves past one at line `upper` with `takes` old and `leaves` new lines: from
+/// `gap` lines below the new lines to `gap` lines below the old ones. `None` if the two do not commute, or the line would
+/// be out of range.
 fn line_below(upper: u32, takes: usize, leaves: usize, lower: &Hunk) -> Option<u32>
     requires { upper + takes + leaves ≤ greatest_reach }
     ensures { Finds (ComesTo upper takes leaves lower.now) result }

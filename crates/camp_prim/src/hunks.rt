@@ -85,7 +85,7 @@ impl Hunk {
         self.line
     }
 
-    /// Returns the lines that the hunk takes away.
+    /// Returns the lines that the hunk replaces.
     pub fn old(&self) -> &[Line]
         ensures exact { result.now ≡ self.now.old }
     {
@@ -105,7 +105,7 @@ impl Hunk {
         self.body.new_lines()
     }
 
-    /// Returns the number of lines that the hunk takes away.
+    /// Returns the number of old lines.
     pub(crate) fn old_len(&self) -> usize
         ensures { result ≡ length self.now.old }
     {

@@ -45,8 +45,8 @@ pub fn put_in_order(s: &mut Seq) -> bool
     order(&mut s.items)
 }
 
-/// Inserts a primitive before a list and puts the list in normal order, in place. `ordered` says that the
-/// list is known to be its own normal order before; the result says whether it is known to be so after.
+/// Inserts a primitive before a list and puts the list in normal order, in place. `ordered` says whether the list is
+/// known to be its own normal order; the result says the same of the new list.
 pub fn put_first(a: Named, s: &mut Seq, ordered: bool) -> Result<bool, AllocError>
     requires { IsTrue ordered → Norm s.old s.old }
     ensures order { IfOk result (λ told. Norm (a ∷ s.old) s.new) }
@@ -59,8 +59,8 @@ pub fn put_first(a: Named, s: &mut Seq, ordered: bool) -> Result<bool, AllocErro
     Ok(order(&mut s.items))
 }
 
-/// `put_first` for a list that is in normal order: moves the primitive to its position, and orders what comes
-/// after it only if some of that may be moved in front of it.
+/// Does the same for a list that is in normal order: moves the primitive to its position, and orders the elements after
+/// it only if one of them may be moved in front of it.
 fn put_before(mut a: Named, s: &mut Seq) -> Result<bool, AllocError>
     requires { Norm s.old s.old }
     ensures order { IfOk result (λ told. Norm (a ∷ s.old) s.new) }
@@ -72,8 +72,8 @@ fn put_before(mut a: Named, s: &mut Seq) -> Result<bool, AllocError>
     Ok(surely_has_room(&s.items))
 }
 
-/// Commutes `a`, which is before `s`, to its position. Returns the index of its position, and whether `a` is
-/// known to stay before the elements after it.
+/// Commutes `a`, which is before `s`, to its position in normal order. Returns the index of that position, and whether
+/// `a` is known to stay in front of the elements after it.
 fn find_first_place(a: &mut Named, s: &mut [Named]) -> (usize, bool)
     requires { Norm s.old s.old }
     ensures place { GoesIn s.old a.old result.0 s.new a.new }
@@ -125,10 +125,10 @@ fn order_anew(items: &mut [Named])
 }
 
 /// Selects, for each index, the least label that can be moved to the front of the rest, trying the labels in
-/// ascending order. If the first one succeeds each time, n elements take at most n * (n - 1) / 2 commuting
-/// steps. A label that is blocked costs at most twice the steps up to where it is blocked; at worst nearly
-/// all are blocked late at each index, n^3 / 3 steps. A blocked label has to be tried again at each index:
-/// near the limit of a hunk's line it may no longer be blocked there, or another may be.
+/// ascending order. If the first label is never blocked, n elements take at most n * (n - 1) / 2 commuting
+/// steps. A blocked label is commuted up to the element that blocks it, and back; if at each index nearly all labels
+/// are blocked by a late element, it takes n^3 / 3 steps. A blocked label is tried again at each index, since near the
+/// limit of a hunk's line other labels may be blocked there.
 fn order_by_selection(items: &mut [Named])
     ensures { Norm items.old items.new }
 {

@@ -281,8 +281,8 @@ pub(crate) fn spliced_in_part<T: Share + Drop>(
     Ok(Some(changed))
 }
 
-// True if a chunk has `gone` elements at `place` and can take `new` ones instead. More than fit in one
-// chunk are taken only in the middle of it, where it is halved; at either end the chunk stays whole.
+// True if a chunk has `gone` elements at `place` and can take `new` ones instead: it stays short enough, or it can be
+// halved, which is done only if `place` is neither its start nor its end.
 fn is_within<T>(part: &[T], place: usize, gone: usize, new: usize) -> bool
     requires { place ≤ length part.now }
     ensures within { IsTrue result → place + gone ≤ length part.now }

@@ -51,7 +51,7 @@ impl<T> Entries<T> {
 }
 
 impl<T: Share + Drop> Entries<T> {
-    // Makes the entries of one chunk, which becomes a chunk tree if it is longer than 24.
+    // Makes the entries of a map from those in `part`: one chunk, or a chunk tree if they are more than 24.
     pub(crate) fn of_part(alloc: Global, part: OnePart<T>) -> Result<Entries<T>, AllocError>
         ensures items { IfOk result (λ entries. entries_of entries ≡ part) }
         ensures form { IfOk result IsForm }

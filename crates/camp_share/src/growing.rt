@@ -12,7 +12,7 @@ use std::mem;
 
 pub(crate) type Part<T> = Shared<Vec<T>>;
 
-/// Elements of the longest chunk.
+/// The most elements of a chunk.
 pub(crate) const MAX_PART_LENGTH: usize = 24;
 
 // A list that grows at its end: sealed chunks of 1 to 24 elements, which are reference counted, and an
@@ -99,8 +99,8 @@ impl<T> Growing<T> {
 }
 
 impl<T: Share + Drop> Growing<T> {
-    // Copies the first `count` elements; shares whole chunks. The tail has capacity for the rest of the chunk
-    // that was cut and one more.
+    // Copies the first `count` elements; shares whole chunks. If a chunk is cut, the tail gets capacity for all of its
+    // elements and one more.
     pub(crate) fn front(&self, count: usize) -> Result<Growing<T>, AllocError>
         requires { count ≤ length self.now }
         ensures { IfOk result (λ front. front ≡ take count self.now) }

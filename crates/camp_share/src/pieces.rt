@@ -270,8 +270,8 @@ fn both<A: Drop, B: Drop>(
     Ok((first, second))
 }
 
-// True if the last chunk can take `new` elements for `gone` of its own: up to 24 in all if nothing is before
-// it, else up to 12.
+// True if the last chunk can replace `gone` elements by `new` ones: it may then have up to 24 elements if it is the only
+// chunk, else up to 12.
 pub(crate) fn has_room<T>(border: usize, last: &OnePart<T>, gone: usize, new: usize) -> bool {
     let most = if border == 0 { MAX_PART_LENGTH } else { FEW };
     let kept = last.items().len().saturating_sub(gone);

@@ -1,4 +1,4 @@
--- Definitions for private functions: the last step of a change, and lines that match at a line.
+-- Definitions for private functions: the last step of a change, and whether lines occur at a line number of a file.
 use Rattle.std.specs.Prelude.{◌≡◌, ℕ, ◌-◌, ◌<◌, ◌≤◌, length, take, drop, Result, Ok, Err}
 use Rattle.camp_base.specs.Trees.{Lines}
 use Rattle.camp_base.specs.declared.faults.Apply.{Apply}

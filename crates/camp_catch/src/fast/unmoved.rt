@@ -16,7 +16,7 @@ use camp_prim::{Named, stay};
 use camp_seq::{is_own_order, stays_past};
 use std::alloc::{AllocError, Global};
 
-/// True only if two catches, one after the other, commute unchanged. False decides nothing.
+/// A quick check: true only if two catches, one after the other, commute unchanged, which they may also if it is false.
 pub(crate) fn commute_as_they_are(j: &Catch, k: &Catch) -> Result<bool, AllocError>
     ensures { IfOk result (λ yes. IsTrue yes → CommuteCatch j.now k.now k.now j.now) }
 {

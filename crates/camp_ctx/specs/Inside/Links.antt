@@ -6,13 +6,13 @@ use Rattle.camp_prim.specs.declared.named.Named.{Named}
 use Rattle.camp_seq.specs.Chains.{CanCommute, Chain}
 use Rattle.camp_ctx.specs.Adding.{AddsAll}
 
--- a neither commutes with nor cancels the first element after it
+-- a neither commutes with nor cancels the element after it: the first of the list, or the patch after an empty list
 abbrev pub Links : Named → List Named → Named → Type 0
 Links a [] patch = ¬ (CanCommute a patch)
 Links a (q ∷ s) patch = ¬ (CanCommute a q) × (label_of q ≢ label_of (inverse_of a))
 
--- from the index `at` on, the elements are inserted before the context as they stand; if there are any, no
--- two neighbours commute after that
+-- adding the elements from the index `at` on inserts them unchanged before the context; if there are any, no two
+-- neighbours of the new context commute
 abbrev pub LinksFrom : List Named → List Named → Named → ℕ → Type 0
 LinksFrom r s patch at =
     (at ≤ length r)

@@ -17,8 +17,8 @@ use camp_seq::{Seq, are_own_orders_of_chain, stays_past};
 use std::alloc::AllocError;
 use std::slice;
 
-/// True if a patch without a context conflicts with `x`, which is seen after the list `r`, as it is seen
-/// before it. `None` if the quick check does not decide.
+/// A quick check of whether the patch `a`, without a context, conflicts with the result of adding the list `r` to `x`.
+/// `None` if that is not known without adding.
 pub fn conflict_behind(a: &Named, r: &Seq, x: &Contexted) -> Result<Option<bool>, AllocError>
     ensures sound { IfOk result (λ told. IfSome told (λ found.
         (seen : ContextedPatch) × AddsAll r.now x.now seen × (IsTrue found ↔ Conflict (bare a.now) seen))) }

@@ -29,8 +29,8 @@ pub(crate) fn clash(x: &Contexted, y: &Contexted) -> Result<bool, AllocError>
     Ok(merge_as_they_stand(x, y))
 }
 
-/// True if two contexted patches conflict; `first` and `second` are their lists. `None` if they have a common
-/// label, or if their orders may matter.
+/// True if two contexted patches conflict; `first` and `second` are their contexts followed by their patches. `None` if
+/// they have a common label, or may have to be put in normal order first.
 pub(crate) fn conflict_in_any_order(
     x: &Contexted,
     y: &Contexted,
@@ -50,8 +50,8 @@ pub(crate) fn conflict_in_any_order(
     }
 }
 
-/// True only if two contexted patches conflict exactly if they do not merge in their order: they have no
-/// common label, and each is its own normal order or they have headroom. False decides nothing.
+/// A quick check: true only if two contexted patches conflict exactly if they do not merge as they are, without
+/// ordering: they have no common label, and each is its own normal order or they have headroom.
 fn merge_as_they_stand(x: &Contexted, y: &Contexted) -> bool
     ensures labels { IsTrue result → LacksLabels (whole x.now) (whole y.now) }
     ensures orders { IsTrue result → MergesAsOrdered (whole x.now) (whole y.now) }

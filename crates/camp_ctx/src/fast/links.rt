@@ -11,8 +11,8 @@ use camp_prim::Named;
 use camp_seq::{Seq, are_own_orders_of_chain, can_commute, is_chain};
 use std::alloc::AllocError;
 
-/// Links the end of a list to a context as it stands: returns the index from which the elements are linked,
-/// and the sum with them. The elements before that index are still to be added.
+/// Adds the end of a list to a contexted patch by inserting it before the context: as many elements as form a chain with
+/// it. Returns the index of the first of them, and the sum. The elements before that index are still to be added.
 pub(crate) fn linked(r: &[Named], x: &Contexted) -> Result<(usize, Contexted), AllocError>
     ensures within { IfOk result (λ found. found.0 ≤ length r.now) }
     ensures added { IfOk result (λ found. AddsAll (drop found.0 r.now) x.now found.1) }
@@ -28,7 +28,8 @@ pub(crate) fn linked(r: &[Named], x: &Contexted) -> Result<(usize, Contexted), A
     Ok((start, sum))
 }
 
-/// True if a list is not empty and all of it is linked as it stands to a contexted patch without a context.
+/// True if adding a list makes it the context, unchanged: the patch has no context, and the list, which is not empty,
+/// forms a chain with the patch.
 pub(crate) fn becomes_context(r: &Seq, x: &Contexted) -> bool
     ensures some { IsTrue result → 0 < length r.now }
     ensures chain { IsTrue result → Chain r.now }
@@ -45,8 +46,8 @@ pub(crate) fn becomes_context(r: &Seq, x: &Contexted) -> bool
     links_from(items, context, x.patch()) == 0
 }
 
-/// Returns the index from which the elements of a list are linked to a context as they stand: no two
-/// neighbours commute or cancel.
+/// Returns the index from which the elements of a list form a chain with a context and its patch: no two neighbours
+/// commute or cancel.
 fn links_from(r: &[Named], s: &[Named], patch: &Named) -> usize
     ensures { LinksFrom r.now s.now patch.now result }
 {

@@ -11,8 +11,8 @@ use camp_prim::{Named, stay};
 use camp_seq::{Seq, stays_past};
 
 impl Contexted {
-    /// True only if adding `a` leaves the contexted patch unchanged, and `a` passes it. False decides
-    /// nothing. Does not allocate.
+    /// A quick check: true only if `a` passes the contexted patch, and adding `a` leaves it unchanged, which may be so
+    /// also if this is false. Does not allocate.
     pub fn stays_behind(&self, a: &Named) -> bool
         ensures sound { IsTrue result → Adds a.now self.now self.now }
         ensures passes { IsTrue result → PassesBy a.now self.now self.now }
@@ -21,7 +21,7 @@ impl Contexted {
     }
 }
 
-/// The same of a context and the patch after it; `told` says that the context is known to be its own normal
+/// The same check for a context and the patch after it; `told` says whether the context is known to be its own normal
 /// order.
 pub(crate) fn stays(a: &Named, context: &Seq, patch: &Named, told: bool) -> bool
     requires { IsTrue told → Norm context.now context.now }
@@ -37,8 +37,8 @@ pub(crate) fn stays(a: &Named, context: &Seq, patch: &Named, told: bool) -> bool
     stay(a, patch)
 }
 
-/// Returns the number of elements of a list that still have to be added, if those after them leave a
-/// contexted patch unchanged.
+/// Returns the number of first elements of a list that have to be added: the elements after them leave the contexted
+/// patch unchanged.
 pub(crate) fn changing(r: &[Named], x: &Contexted) -> usize
     ensures within { result ≤ length r.now }
     ensures added { AddsAll (drop result r.now) x.now x.now }

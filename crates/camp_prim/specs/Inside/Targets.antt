@@ -17,8 +17,8 @@ moved (Some line) (Hunk hunk) = Hunk (at_line line hunk)
 abbrev pub turned : Primitive → Primitive → Targets → Primitive × Primitive
 turned p q targets = (moved targets.second q, moved targets.first p)
 
--- the line of a hunk below another as the two commute: from `gap` lines below what the upper one leaves to
--- `gap` lines below what it takes away, and in range there
+-- the line of a hunk that commutes with one above it: it is `gap` lines below the new lines of the upper hunk before, and
+-- `gap` lines below the old lines of the upper hunk after, and in range there
 pub record ComesTo (upper takes leaves : ℕ) (lower : Edit) (line : ℕ) : Type 0 where
   pub gap : ℕ
   pub stands : lower.line ≡ upper + leaves + gap

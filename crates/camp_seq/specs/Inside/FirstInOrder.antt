@@ -8,9 +8,9 @@ use Rattle.camp_seq.specs.Chains.{CanCommute}
 use Rattle.camp_seq.specs.NormalOrder.{Norm}
 use Rattle.camp_seq.specs.Passing.{Fronts, Passes}
 
--- x0, which stood before s0, was commuted to the right in place, up to the index `at`, and is now x. The elements
--- from there on are unchanged. Once x and these are in normal order, the whole list is. If x0 commutes past all of
--- s0, x commutes past these.
+-- x0, the element before s0, was commuted to the right in place, past the first `at` elements of s0; it is now x, and
+-- the list is now s. The elements from `at` on are unchanged. If x followed by them is put in normal order, the whole
+-- list is in normal order. If x0 commutes past all of s0, x commutes past these elements.
 pub record GoesIn (s0 : List Named) (x0 : Named) (at : ℕ) (s : List Named) (x : Named) : Type 0 where
   pub bound : at ≤ length s0
   pub long : length s ≡ length s0
@@ -19,8 +19,8 @@ pub record GoesIn (s0 : List Named) (x0 : Named) (at : ℕ) (s : List Named) (x 
   pub passing : (t : List Named) (p : Named) → Passes x0 s0 t p
       → (u : List Named) × (q : Named) × Passes x (drop at s0) u q
 
--- x0, which stood after s0, was commuted to the left in place, up to the index `at`, and is now x; the whole list is
--- in normal order
+-- x0, the element after s0, was commuted to the left in place, up to the index `at`, and is now x; the whole list is in
+-- normal order
 pub record ComesIn (s0 : List Named) (x0 : Named) (at : ℕ) (s : List Named) (x : Named) : Type 0 where
   pub bound : at ≤ length s0
   pub ordered : Norm (s0 ++ x0 ∷ []) (take at s ++ x ∷ drop at s)
@@ -30,8 +30,9 @@ abbrev pub OrderedFrom : List Named → ℕ → Bool → List Named → Type 0
 OrderedFrom s at true t = t ≡ s
 OrderedFrom s at false t = (rest : List Named) × Norm (drop at s) rest × (t ≡ take at s ++ rest)
 
--- one step of a quick check: p stays after the elements before it, of which `last` is the last and `greatest` the
--- greatest label. Either p has a lesser label, or it does not commute with `last` and its label is the greatest now.
+-- one step of a quick check of normal order: p, the next element, can't be moved in front of one with a greater label.
+-- `last` is the element before it, `greatest` the greatest label up to there, and `more` with p. Either p has a label
+-- below `greatest`, or it does not commute with `last` and its own label is the greatest now.
 abbrev pub StaysBehind : Label → Named → Named → Label → Type 0
 StaysBehind greatest last p more =
     ((label_cmp (label_of p) greatest ≡ Less) × (more ≡ greatest))

@@ -16,7 +16,7 @@ Precedes (q ∷ s) p p' s' =
 abbrev pub PrecedesInPlace : List Named × Named → List Named × Named → Type 0
 PrecedesInPlace old new = Precedes old.0 old.1 new.1 new.0
 
--- p, which stands after a and then s, is blocked on its way to the left before it has passed any element of a
+-- p, the element after a and then s, cannot be commuted to the left past any element of a
 abbrev pub IsHeld : List Named → List Named → Named → Type 0
 IsHeld [] s p = Unit {0}
 IsHeld (y ∷ a) s p = ((p' : Named) (t : List Named) → ¬ (Precedes (y ∷ (a ++ s)) p p' t)) × IsHeld a s p

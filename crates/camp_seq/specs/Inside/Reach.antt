@@ -6,8 +6,8 @@ use Rattle.camp_prim.specs.Effect.{InRange}
 use Rattle.camp_prim.specs.declared.named.Named.{Named}
 use Rattle.camp_seq.specs.Shapes.{all_sides, greatest_line}
 
--- all primitives of the list are in range; `greatest` is the greater of `line` and their greatest line; `sides` is
--- `more` plus all their old and new lines; and neither is above 2^30
+-- all primitives of the list are in range; `greatest` is the greatest of `line` and their lines; `sides` is `more` plus
+-- the number of all their old and new lines; neither is above 2^30
 pub record GoesOnTo (s : List Named) (line more greatest sides : ℕ) : Type 0 where
   pub ranges : All (λ p. InRange p.prim) s
   pub top : greatest ≡ max line (greatest_line s)

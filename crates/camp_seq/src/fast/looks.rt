@@ -11,9 +11,9 @@ ghost use Rattle.camp_seq.specs.Passing.{Passes};
 use crate::chains::can_commute;
 use camp_prim::{Named, has_less_label, stay};
 
-/// True only if the list is in normal order: the label of each element is not less than any before it, or the
-/// element does not commute with the one before it. False decides nothing. Visits each element once; does not
-/// allocate.
+/// A quick check of normal order: true only if the label of each element is not less than any before it, or the
+/// element does not commute with the one before it. The list may be in normal order also if the check is false. Visits
+/// each element once; does not allocate.
 pub fn is_own_order(items: &[Named]) -> bool
     ensures sound { IsTrue result → Norm items.now items.now }
 {

@@ -3,7 +3,7 @@ use Rattle.std.specs.Prelude.{ℕ, ◌+◌, ◌<◌, ◌≤◌, List, [], Option
 use Rattle.std.specs.List.{flat_map}
 use Rattle.std.specs.declared.vec.Vec.{Vec}
 
--- elements of the longest chunk
+-- the most elements of a chunk
 abbrev pub longest_part : ℕ
 longest_part = 24
 

@@ -12,7 +12,8 @@ IsAt [] key place = ⊥
 IsAt (entry ∷ rest) key zero = entry.0 ≡ key
 IsAt (entry ∷ rest) key (suc place) = IsAt rest key place
 
--- a key would be inserted at an index: it is above all keys before it and below the key there
+-- a key that is not in the list would be inserted at an index: it is above all keys before that index and below the key
+-- at it
 abbrev pub WouldBeAt : {K X : Type 0} → (K → K → Ordering) → List (K × X) → K → ℕ → Type 0
 WouldBeAt order [] key zero = Unit {0}
 WouldBeAt order [] key (suc place) = ⊥
