@@ -14,8 +14,8 @@ use Rattle.camp_branch.specs.declared.faults.Blocked.TheVariants.{Depends, Diver
 abbrev pub Outcome : Type 0
 Outcome = Result (List Catch) Blocked
 
--- a step that gives two lists, from which the next step starts, or is blocked at two labels, which say why
--- the whole is blocked
+-- one step of a pull: it gives two lists, with which the next step continues, or is blocked at two labels, which make
+-- the reason why the pull is blocked
 abbrev pub StepThen :
     (List Catch → List Catch → Type 0) → (Key → Key → Type 0) → (Key → Key → Blocked)
     → (List Catch → List Catch → Outcome → Type 0) → Outcome → Type 0

@@ -178,7 +178,7 @@ impl Branch {
         self.pulled_behind(from, wanted, known)
     }
 
-    /// The same, for branches whose prefixes of length `known` agree. Reads only what comes after them.
+    /// Computes the same for branches whose prefixes of length `known` agree. Reads only the catches after these prefixes.
     pub fn pulled_behind(
         &self,
         from: &Branch,

@@ -1,10 +1,11 @@
 //! A pull starts after the prefixes of the two branches that agree.
 //!
 //! The first n catches of two branches agree if those of one, put in the order of those of the other, are the same.
-//! All their patches are common. So nothing has to pass them on its way to the front, and they are reordered among
-//! themselves: arranging, aligning and comparing leave them unchanged, and continue after them. Catches that are the
-//! same in both are skipped. Sums over the labels estimate how many more catches have the same labels. If that is not
-//! zero, aligning these finds out whether they agree; if they do not, the plain pull finds out why.
+//! All their patches are common, so arranging, aligning and comparing leave them where they are and begin after them.
+//!
+//! Such a prefix is found in two steps. Catches that are the same in both branches are counted. After them, equal sums
+//! over the labels suggest how many more catches have the same labels; aligning those decides whether they agree. If
+//! they do not, the plain pull finds out why.
 ghost use Rattle.std.specs.Prelude.{◌+◌, ◌≤◌, drop, length, IfOk};
 ghost use Rattle.camp_branch.specs.Agreeing.{Agree, ReachesAll};
 ghost use Rattle.camp_branch.specs.Inside.Alike.{DifferBehind};
@@ -14,9 +15,8 @@ use camp_catch::{Catch, Unmade};
 use camp_share::{Shared, SharedList};
 use std::alloc::{AllocError, Global};
 
-/// Computes a length for which the prefixes of two lists agree. `known` is such a length. The result is
-/// longer by the catches after it that are the same in both, and by further ones that have the same labels
-/// and agree.
+/// Computes a length for which the prefixes of two lists agree, given such a length, `known`. Adds to it the next
+/// catches that are the same in both lists, and after these the ones that have the same labels and agree.
 pub(crate) fn agreed(
     alloc: Global,
     from: &SharedList<Shared<Catch>>,
@@ -71,8 +71,8 @@ fn same_behind(
     same
 }
 
-/// Estimates how many catches after the first `known` have the same labels in both lists: sums over the
-/// labels are equal. The labels may still differ.
+/// Estimates how many catches after the first `known` have the same labels in both lists, by sums over the labels: if
+/// the sums are equal, the labels may still differ.
 fn alike_in_labels(
     from: &SharedList<Shared<Catch>>,
     to: &SharedList<Shared<Catch>>,

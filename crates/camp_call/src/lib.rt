@@ -13,5 +13,5 @@ pub use conflicts::Conflicts;
 pub use names::Names;
 pub use replies::{Refusal, Reply};
 
-/// Changes of the longest patch.
+/// The most changes of a patch.
 pub const MAX_CHANGES: usize = 64;

@@ -39,8 +39,7 @@ pub record IsDone {Call : Type 0} (seat : ℕ) (before : List (ℕ × Call)) (ca
   pub ends : stood ++ (seat, call) ∷ [] ≡ beginning
   pub position : at ≡ length beginning
 
--- busy: since the prefix before, at least as many calls as the seat tries were accepted first, and all were others'
--- calls
+-- busy: after the prefix before, at least `tries` calls of other seats were accepted, and none of this seat
 pub record IsOvertaken {Call : Type 0} (seat tries : ℕ) (before : List (ℕ × Call)) (lost : ℕ)
     (beginning : List (ℕ × Call)) : Type 0 where
   pub others : List (ℕ × Call)

@@ -24,7 +24,7 @@ module _ {State Call Reply : Type 0} (object : Sequential State Call Reply) (hea
     pub section : Section (Asks object (caller_at head before)) (history_of before)
         (section_of sections (number_of before)) answers (history_of after)
 
-  -- all clients did: their seats, and their answers behind those of the opening
+  -- all clients asked their sections: their seats, and their answers after those of the opening
   pub record AllRan {Z : Type 0} (opening : Vec (Result Reply Fault) Z) (before after : List (Seated State Call))
       (answers : List (Vec (Result Reply Fault) Z)) : Type 0 where
     pub brought : List (Seated State Call × Vec (Result Reply Fault) Z)

@@ -9,14 +9,14 @@ abbrev pub left_from : {Call Answer : Type 0} → (Answer → Option ℕ) → Li
 left_from told sections answers seat from =
     done_at told (drop from (section_of sections seat)) (drop from (section_of answers seat))
 
--- the done calls of each section are those in a prefix of the history, followed by those that are left
+-- the done calls of each section are those found in a prefix of the history, followed by those not found yet
 abbrev pub IsFound : {Call Answer : Type 0} → (Answer → Option ℕ) → List (List Call) → List (List Answer)
     → List (ℕ × Call) → List ℕ → Type 0
 IsFound told sections answers beginning places = (seat : ℕ) → seat < length sections →
     done_at told (section_of sections seat) (section_of answers seat)
     ≡ own_at seat 0 beginning ++ left_from told sections answers seat (slice_index_or places seat 0)
 
--- the entry at a position is the next one left of its section; the section then continues after it
+-- the entry at a position is the first done call of its section that is not found yet; `after` has the index after it
 pub record Matches {Call Answer : Type 0} (told : Answer → Option ℕ) (sections : List (List Call))
     (answers : List (List Answer)) (at : ℕ) (entry : ℕ × Call) (places after : List ℕ) : Type 0 where
   pub is_section : entry.0 < length sections
@@ -25,7 +25,7 @@ pub record Matches {Call Answer : Type 0} (told : Answer → Option ℕ) (sectio
       ≡ (at, entry.1) ∷ left_from told sections answers entry.0 place
   pub goes_on : after ≡ slice_set places entry.0 place
 
--- the entry at a position is not the next one left of its section
+-- the entry at a position is not the first done call of its section that is not found yet
 abbrev pub Differs : {Call Answer : Type 0} → (Answer → Option ℕ) → List (List Call) → List (List Answer)
     → (at : ℕ) → ℕ × Call → List ℕ → Type 0
 Differs {Call} told sections answers at entry places = entry.0 < length sections → (rest : List (ℕ × Call)) →

@@ -1,14 +1,14 @@
 -- Calls with their positions: those of one seat in a history, and those that the answers of a section report as done.
 use Rattle.std.specs.Prelude.{ℕ, ◌+◌, ◌==◌, if◌then◌else◌, List, [], ◌∷◌, Option, None, Some}
 
--- the calls of a seat in part of a history, each with its position: the first entry of all has position 1, and
--- `before` entries come before this part
+-- the calls of a seat in a part of a history, each with its position in the whole history, counted from 1; `before`
+-- entries come before the part
 abbrev pub own_at : {Call : Type 0} → ℕ → ℕ → List (ℕ × Call) → List (ℕ × Call)
 own_at seat before [] = []
 own_at seat before (entry ∷ rest) =
     if entry.0 == seat then (before + 1, entry.1) ∷ own_at seat (before + 1) rest else own_at seat (before + 1) rest
 
--- a list, with a call prepended if it was done, with its position
+-- prepends a call and its position to a list, if the call was done
 abbrev pub where_done : {Call : Type 0} → Option ℕ → Call → List (ℕ × Call) → List (ℕ × Call)
 where_done None call rest = rest
 where_done (Some at) call rest = (at, call) ∷ rest

@@ -23,13 +23,14 @@ abbrev pub OwnDone : {Call Answer : Type 0} → (Answer → Option ℕ) → List
 OwnDone told sections answers history = (seat : ℕ) → seat < length sections →
     own_at seat 0 history ≡ done_at told (section_of sections seat) (section_of answers seat)
 
--- and the history has no other calls
+-- the same, and the history has no other calls
 pub record IsExactly {Call Answer : Type 0} (told : Answer → Option ℕ) (sections : List (List Call))
     (answers : List (List Answer)) (history : List (ℕ × Call)) : Type 0 where
   pub own_done : OwnDone told sections answers history
   pub no_other : All (λ entry. entry.0 < length sections) history
 
--- serial sections, from the section of a seat on: what each answer says, by its seat
+-- sections run one after the other, the first of them at seat `seat`, the next at `seat + 1`, and so on: each answer is
+-- as the relation says of an answer at that seat
 abbrev pub InTurn : {Beginning Call Answer : Type 0} → (ℕ → Beginning → Call → Answer → Beginning → Type 0) → (seat : ℕ) → Beginning
     → List (List Call) → List (List Answer) → Beginning → Type 0
 InTurn SaysAmongThreads seat first [] [] last = first ≡ last
@@ -68,7 +69,8 @@ pub record IsLocked {State Call Reply : Type 0} (object : Sequential State Call 
   pub clients : (seat : ℕ) → 0 < seat → seat < length sections →
       AllZip (SaysSomewhere object) (section_of sections seat) (section_of answers seat)
 
--- the answers of a section have prefixes of the history, the first as given, each the start of the next
+-- the answers of a section were given at prefixes of the history, each of which begins with the one before; the first
+-- begins with `first`
 pub record HasBeginnings {State Call Reply : Type 0} (object : Sequential State Call Reply) (seat tries : ℕ)
     (first : List (ℕ × Call)) (calls : List Call) (answers : List (Result Reply Fault)) (history : List (ℕ × Call))
     : Type 0 where

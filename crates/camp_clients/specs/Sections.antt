@@ -10,7 +10,8 @@ most_sections = 64
 abbrev pub most_tries : ℕ
 most_tries = opening.most_tries
 
--- from prefix to prefix: each answer has a prefix of the history, and says what happened since the prefix before it
+-- a section: each answer was given at a prefix of the history, and `Says` relates it to that prefix and to the prefix of
+-- the answer before it; `first` is the prefix at the start, `last` the one at the end
 abbrev pub Section : {Beginning Call Answer : Type 0} → (Beginning → Call → Answer → Beginning → Type 0)
     → Beginning → List Call → List Answer → Beginning → Type 0
 Section Says first [] [] last = first ≡ last

@@ -9,7 +9,7 @@ ghost use Rattle.camp_clients.specs.Sections.{most_sections};
 
 use camp_object::{Fault, Object};
 
-/// Sections of the longest run.
+/// The most sections of a run.
 pub const MAX_SECTIONS: usize = 64;
 
 /// True if a history has exactly the calls that the replies report as done, under the numbers of their

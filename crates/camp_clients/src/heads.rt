@@ -141,7 +141,7 @@ struct Run<'a, R, State: Object, G, S> {
 }
 
 impl<'a, R: Wait, State: Object, G: Gate, S: SectionGate> Run<'a, R, State, G, S> {
-    /// Runs the section of a seat that has no calls yet.
+    /// Runs the section of a seat that was asked no call before.
     fn at_seat(&self, seat: &mut Seat<State>) -> Result<Answers<State>, AllocError>
         requires ready { IsReady self.now.head.now (length self.now.sections.now) seat.old }
         ensures seat { IsSeatOf self.now.head.now seat.new }
@@ -231,9 +231,9 @@ where
     }
 }
 
-/// Allocates bytes that a client holds and never writes to: one more step for each of eight seats. Threads
-/// allocate from heaps that begin at multiples of 64 megabytes; without the shift, what clients allocate in
-/// the same order would map to the same sets of the processor's caches.
+/// Allocates bytes that a client keeps and never uses, so that its later allocations are shifted; of eight seats each
+/// has another size. Threads allocate from heaps that begin at multiples of 64 megabytes; without the shift, what
+/// clients allocate in the same order would map to the same sets of the processor's caches.
 fn shift(alloc: Global, seat: u32) -> Option<Vec<u8>> {
     Vec::with_capacity(alloc, (seat % 8 * 4_160) as usize).ok()
 }

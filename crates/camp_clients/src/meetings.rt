@@ -36,8 +36,8 @@ pub(crate) fn each_meets<State: Object>(
     Ok((all, known))
 }
 
-/// Synchronises a seat with each of the others. Also returns the number of calls that it had seen after the
-/// first of them; 0 if there are no others.
+/// Synchronises a seat with each of the others, one after the other. Also returns how many calls it had seen when it was
+/// synchronised with the first of them; 0 if there are no others.
 fn meets_each<State: Object>(
     alloc: Global,
     head: &Head<State>,

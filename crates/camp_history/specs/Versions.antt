@@ -53,7 +53,7 @@ pub record Share {Call : Type 0} (seat version : List (Mark Call)) (count : ℕ)
   pub in_seat : count ≤ length seat
   pub in_version : count ≤ length version
 
--- the marks of a snapshot without as many at its start as a seat has seen
+-- the marks of a snapshot after the first ones, as many as a seat has
 abbrev pub news : {State Call : Type 0} → Seated State Call → List (Mark Call) → List (Mark Call)
 news seat version = drop (length seat.marks) version
 
@@ -71,6 +71,6 @@ pub record Adopts {State Call : Type 0} (old : Seated State Call) (version : Lis
   pub bases : new.bases ≡ old.bases
   pub known : new.known ≡ record old.known { seen = old.known.seen ++ map entry_of (news old version) }
 
--- the marks of all that a seat has seen, and of a call of its own
+-- the marks of all that a seat has seen, followed by that of a call of its own
 abbrev pub made_of : {State Call : Type 0} → Seated State Call → Where Call → List (Mark Call)
 made_of seat call = seat.marks ++ record { seat = seat.known.number; call = call } ∷ []

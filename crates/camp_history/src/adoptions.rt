@@ -1,4 +1,4 @@
-//! Installing a snapshot at a seat that is behind.
+//! Installing a snapshot at a seat that has seen less.
 ghost use Rattle.std.specs.Prelude.{◌≡◌, ℕ, ◌<◌, ◌≤◌, ◌+◌, length, drop, slice_get, slice_index_or, All, Some, IfSome, IsTrue, MatchBool};
 ghost use Rattle.boxcar.specs.Table.{Shows};
 ghost use Rattle.camp_history.specs.Versions.{ids, Adopts, Begins, GoesOn, Share};
@@ -65,8 +65,8 @@ impl<State: Object> Seat<State> {
         row.entry_at(&mut self.pass, trail, index)
     }
 
-    /// Installs a snapshot; false if its history began with another state than the seat's, which no snapshot of the
-    /// seat's head does.
+    /// Installs a snapshot; false if its history began with another state than the seat's, which does not occur with
+    /// snapshots of the seat's head.
     fn adopt(&mut self, row: &Row, trail: &mut Trail, version: Version<State>) -> bool
         requires row { self.old.known.row ≡ row.now }
         requires leads { Leads self.old.known self.old.known.seen trail.old }
@@ -194,8 +194,8 @@ impl<State: Object> Head<State> {
         Some(before)
     }
 
-    /// Returns the number of calls that a seat and a snapshot have in common without comparing calls: follows
-    /// the parents of the snapshot up to one that the seat noted.
+    /// Returns a number of first calls that a seat and a snapshot have in common, without comparing calls: the length of
+    /// the nearest parent of the snapshot that the seat noted.
     fn common(&self, seat: &Seat<State>, origin: &Origin<State>) -> usize
         requires seat { IsSeatOf self.now seat.now }
         requires origin { IsMadeFrom self.now.slots origin.now }

@@ -10,7 +10,7 @@ pub enum Place<Call> {
     Stored(Pushed<Call>),
 }
 
-/// A copy of a call that is to be asked, in the head's store if the call writes.
+/// A copy of a call that will be executed; in the head's store if the call writes.
 #[derive(Drop)]
 pub struct Kept<State: Object> {
     pub(crate) place: Place<State::Call>,

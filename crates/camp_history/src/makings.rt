@@ -15,12 +15,12 @@ use camp_object::{Fault, Object};
 use camp_share::{Share, Shared, SharedList};
 use std::alloc::AllocError;
 
-/// A seat with this many marks outside its reference counted list moves them there before a call at whose
-/// position it makes a snapshot, which copies those that are left outside.
+/// The number of marks outside its reference counted list at which a seat moves them into the list before a call
+/// at whose position it makes a snapshot: a snapshot copies the marks outside the list.
 const FEW: usize = 40;
-/// A seat with this many marks outside its reference counted list moves them there before any other call. A
-/// snapshot and 64 calls after it have no more. Moving marks takes longer the more calls there are, so a seat
-/// that installs a snapshot for each 64 calls moves none.
+/// The number of marks outside its reference counted list at which a seat moves them into the list before any other
+/// call. It is the most that a snapshot and 64 calls after it have, so a seat that installs a snapshot every 64 calls
+/// moves none: moving takes longer the more calls there are.
 const MANY: usize = 104;
 
 impl<State: Object> Version<State> {
@@ -101,7 +101,7 @@ impl<State: Object> Head<State> {
     ghost use Rattle.camp_history.specs.Seats.{IsBaseAt, IsSeatOf, history_of};
     ghost use Rattle.camp_history.specs.Versions.{based};
 
-    /// Returns the number of slots of positions. The slots of seats come after these.
+    /// Returns the number of slots for snapshots at positions. The slots in which seats publish come after these.
     pub(crate) fn kept_count(&self) -> usize
         ensures { result ≤ 4194304 }
     {
@@ -154,9 +154,9 @@ impl<State: Object> Head<State> {
         }
     }
 
-    /// Publishes a snapshot of what a seat has seen and decided, so that seats that are behind need not
-    /// decide it again. Does so once; does nothing if no snapshots are kept. The only fault is out of memory:
-    /// then nothing is published, and all else is unchanged.
+    /// Publishes a snapshot of what a seat has seen and decided, so that seats that have seen less need not
+    /// decide it again. Publishes at most once for each seat, and not if no snapshots are kept. The only fault is out of
+    /// memory; then nothing changes.
     pub fn hand_on(&self, seat: &Seat<State>) -> Result<(), Fault>
         requires { IsSeatOf self.now seat.now }
         ensures only_memory { IfErr result (λ fault. fault ≡ Memory) }
@@ -170,7 +170,7 @@ impl<State: Object> Head<State> {
         Ok(())
     }
 
-    /// Returns the number of marks outside its reference counted list at which a seat moves them there before
+    /// Returns the number of marks outside its reference counted list at which a seat moves them into the list before
     /// its next call.
     pub(crate) fn most_own(&self, seat: &Seat<State>) -> usize {
         if slot_of(seat.position().saturating_add(1), self.every).is_none() {

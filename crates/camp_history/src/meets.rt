@@ -61,7 +61,7 @@ impl<State: Object> Head<State> {
 
     /// States that two seats that found the same chain have the same calls, as far as both have seen it. Only
     /// for the prover, and without effect at run time: it calls `agrees`, whose clause says that two marks of
-    /// the same place are of the same call.
+    /// the same index of the store are of the same call.
     fn compare(&self, a: &Seat<State>, b: &Seat<State>)
         requires seats { IsSeatOf self.now a.now × IsSeatOf self.now b.now }
         requires chain { a.now.known.ahead ≡ b.now.known.ahead }

@@ -17,7 +17,7 @@ use std::alloc::AllocError;
 /// The most calls of a head's history: 64 seats with 65,536 each.
 const MOST_LISTED: usize = 4_194_304;
 
-/// Drafts the next cell with the place of a call, and publishes it by a compare-exchange.
+/// Drafts the next cell with the index of a call in the store, and publishes it by a compare-exchange.
 fn exchange_cell<G: Gate>(row: &Row, pass: &mut Pass, place: usize, gate: &G, lost: u32) -> bool
     requires row { pass.old.row ≡ row.now }
     requires room { turns pass.old.number pass.old.seen < row.now.per_seat }

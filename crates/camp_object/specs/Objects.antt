@@ -9,7 +9,7 @@ pub record Sequential (State Call Reply : Type 0) : Type 1 where
   pub after : State → Call → Option State
   -- the replies to a call that is not accepted
   pub answers : State → Call → Reply → Type 0
-  -- the state that a history which leads to a state began with
+  -- the first state of the history that led to a state
   pub first : State → State
   -- how many calls were accepted up to a state
   pub count : State → ℕ
@@ -35,7 +35,7 @@ pub record IsLawfulObject {State Call Reply : Type 0} (object : Sequential State
   pub starts : object.count object.initial ≡ 0
   pub counts : (state : State) (call : Call) (next : State)
       → object.after state call ≡ Some next → object.count next ≡ object.count state + 1
-  -- a history can begin with the first state, and no accepted call changes what it began with
+  -- a history can begin with the initial state, and no accepted call changes the first state of its history
   pub begins : object.first object.initial ≡ object.initial
   pub stays : (state : State) (call : Call) (next : State)
       → object.after state call ≡ Some next → object.first next ≡ object.first state

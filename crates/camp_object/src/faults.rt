@@ -13,7 +13,7 @@ pub enum Fault {
     /// Other calls were accepted before this one as often as the caller tries.
     #[error("busy after {lost} lost exchanges")]
     Busy { lost: u32 },
-    /// The call would be accepted, but its seat has its most accepted calls.
+    /// The call would be accepted, but its seat has as many accepted calls as it may have.
     #[error("the seat is full")]
     Full,
 }

@@ -32,7 +32,7 @@ pub record ChangesOne (branch : List ℕ) (old new : Contents) : Type 0 where
   pub names : names_of_branches new.branches ≡ names_of_branches old.branches
   pub others : (other : List ℕ) → other ≢ branch → catches_of new.branches other ≡ catches_of old.branches other
 
--- a new branch comes last, with the catches of another; one more call is counted, and the limits stay
+-- a new branch is added at the end, with the catches of another; one more call is counted, and the limits stay
 pub record Copies (new_branch from : List ℕ) (old new : Contents) : Type 0 where
   pub counted : new.count ≡ old.count + 1
   pub limits : new.limits ≡ old.limits

@@ -33,7 +33,7 @@ pub record MayWantRecord (state : Contents) (branch name : List ℕ) (too_large 
   pub fits : HasBranch state branch (λ catches. too_large catches ≡ false)
   pub is_free : stands state.branches name ≡ false
 
--- a pull, if the two branches exist, the one has all that is listed, and something is listed
+-- a pull, if the two branches exist and differ, `from` has all listed patches, and some are listed
 pub record MayWantPull (state : Contents) (from to : List ℕ) (names : Option (List (List ℕ))) : Type 0 where
   pub from_has : HasBranch state from (λ theirs. HasAll (listed theirs names) theirs)
   pub to_stands : HasBranch state to (λ ours. Unit {0})

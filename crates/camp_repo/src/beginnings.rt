@@ -27,8 +27,8 @@ impl Share for KnownBeginning {
     }
 }
 
-/// Pairs of branches with the length of their prefixes that are known to agree. Beyond the limit the oldest
-/// pair is dropped. A pair of which more is learned keeps its position.
+/// For pairs of branches, a length for which their prefixes are known to agree. At most `MAX_PAIRS` pairs: one more
+/// drops the oldest. A pair whose length is updated keeps its age.
 #[derive(Drop)]
 pub(crate) struct KnownBeginnings {
     beginnings: SharedList<KnownBeginning>,
@@ -81,8 +81,8 @@ impl KnownBeginnings {
         Ok(KnownBeginnings { beginnings })
     }
 
-    /// Returns the pairs without the oldest beyond the limit, and with those of a new branch that is a copy
-    /// of another: the copy agrees with that one for this length, and with others as far as that one does.
+    /// Returns the pairs together with those of a new branch, a copy of branch `of`: the copy agrees with `of` for the
+    /// length `long`, and with any other branch as far as `of` does. Drops the oldest pairs beyond the limit.
     pub(crate) fn copied(
         &self,
         of: usize,
@@ -158,7 +158,7 @@ fn with_pairs_of_copy(
     Ok(all)
 }
 
-/// Returns a pair with a branch in it as it holds of the branch's copy.
+/// Returns the pair with branch `of` replaced by its copy, or `None` if `of` is not in the pair.
 fn of_copy(beginning: &KnownBeginning, of: usize, copy: usize) -> Option<KnownBeginning>
     ensures { IfSome result (λ other. (branches : List (List Catch)) → AgreesIn branches beginning.now
         → slice_get branches copy ≡ slice_get branches of → AgreesIn branches other) }

@@ -80,8 +80,8 @@ fn wanted_of(branch: &Branch, names: &[Name]) -> Result<NameSet, AllocError>
     Ok(set_of(alloc, &lacked)?)
 }
 
-/// True if a branch would be too long with the catches that another one has of these names. The branch lacks
-/// the names, and the prefixes of the two of this length agree, so only the catches after them are counted.
+/// True if `ours` would be too long with the catches of these names that `theirs` has. `ours` has none of the names,
+/// and the prefixes of length `long` of the two agree, so only the catches after them are counted.
 pub(crate) fn is_full_with(
     limits: Limits,
     ours: &Branch,

@@ -22,14 +22,14 @@ impl Play<(), Knowledge> for Look {
     ghost then = { λ step old found new. (new.1 ≡ old.1) × Looked found old.0.parts new.0.parts };
 }
 
-/// A load of a parent or place word that shows no further entry.
+/// A load of a parent word or an index word after which no more entries are seen.
 pub struct Walk;
 
 impl Play<(), Knowledge> for Walk {
     ghost then = { λ step old found new. (new.1 ≡ old.1) × Walked step.word found old.0.parts new.0.parts };
 }
 
-/// A load of a place word that shows one more entry.
+/// A load of an index word after which one more entry is seen.
 pub struct Advance;
 
 impl Play<(), Knowledge> for Advance {
@@ -43,7 +43,7 @@ impl Play<(), Knowledge> for DraftParent {
     ghost then = { λ step old stored new. (new.1 ≡ old.1) × StoredParent stored old.0.parts new.0.parts };
 }
 
-/// A store to the place word of the seat's next cell.
+/// A store to the index word of the seat's next cell.
 pub struct DraftPlace;
 
 impl Play<(), Knowledge> for DraftPlace {

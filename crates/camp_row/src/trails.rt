@@ -4,8 +4,7 @@ ghost use Rattle.std.specs.Prelude.{◌≡◌, length};
 use crate::entries::Entry;
 use std::marker::Model;
 
-/// The cells between what a pass has seen and the chain that it last found. Contracts see it as their
-/// numbers, the oldest last.
+/// The cells of the chain that a pass last found and has not seen. Contracts see it as their numbers, the oldest last.
 #[derive(Drop)]
 pub struct Trail {
     pub(crate) cells: Vec<usize>,

@@ -14,14 +14,13 @@ abbrev pub LockedSectionIsSerial : Type 0
 LockedSectionIsSerial = (limits : Bounds) (calls : List Call) (answers : List (List (Result Reply Fault))) (history : List (ℕ × Call))
     → IsLocked (repository_within limits) (calls ∷ []) answers history → IsSerial limits (calls ∷ []) answers history
 
--- and over a head, however often its calls try
+-- a script of one section has the same result over a head, with any number of tries, as in one thread
 abbrev pub SharedSectionIsSerial : Type 0
 SharedSectionIsSerial = (limits : Bounds) (tries : ℕ) (calls : List Call) (answers : List (List (Result Reply Fault)))
     (history : List (ℕ × Call)) → 0 < tries → IsShared (repository_within limits) tries (calls ∷ []) answers history
     → IsSerial limits (calls ∷ []) answers history
 
--- sections that were asked one after the other, with a legal history, have the result that the definitions of a
--- serial run say
+-- if sections were asked one after the other and the history is legal, answers and history are those of a serial run
 abbrev pub OneByOneIsSerial : Type 0
 OneByOneIsSerial = (limits : Bounds) (sections : List (List Call)) (answers : List (List (Result Reply Fault)))
     (history : List (ℕ × Call)) → IsLegal (repository_within limits) history → OneByOne (repository_within limits) 0 [] sections answers history

@@ -38,7 +38,7 @@ HasNoOutput remaining rest Memory = Unit {0}
 HasNoOutput remaining rest Read = Unit {0}
 HasNoOutput remaining rest Write = ⊥
 
--- and no call is foreign, if nobody else can have asked one
+-- the fault is not `Foreign`, as in runs in which nobody else can have asked a call
 abbrev pub IsNotForeign : RunFault → Type 0
 IsNotForeign (Script fault) = Unit {0}
 IsNotForeign Foreign = ⊥

@@ -14,18 +14,19 @@ abbrev pub replies_from : Contents → List (List Call) → List (List Reply)
 replies_from state [] = []
 replies_from state (calls ∷ sections) = replies_to state calls ∷ replies_from (state_after state calls) sections
 
--- a call before those that are accepted after it, if it is accepted itself
+-- prepends a call to the calls that are accepted after it, if it is accepted itself
 abbrev pub booked : Decision → ℕ × Call → List (ℕ × Call) → List (ℕ × Call)
 booked (Next state) entry rest = entry ∷ rest
 booked (Answer answer) entry rest = rest
 
--- those calls of a section that are accepted, from a state on, under the section's number
+-- the accepted calls of a section that runs from a state on, each with the section's seat
 abbrev pub accepted_from : ℕ → Contents → List Call → List (ℕ × Call)
 accepted_from seat state [] = []
 accepted_from seat state (call ∷ calls) =
     booked (step state call) (seat, call) (accepted_from seat (state_behind state (step state call)) calls)
 
--- those calls of sections that are accepted, from a state on, given the number of the first section
+-- the accepted calls of sections that run one after the other from a state on, each with its seat; the first section is
+-- at seat `seat`
 abbrev pub history_from : ℕ → Contents → List (List Call) → List (ℕ × Call)
 history_from seat state [] = []
 history_from seat state (calls ∷ sections) =

@@ -1,3 +1,4 @@
+//! Laws of runs: what a script's answers and history have in common over a book, a lock and a head, and what its text gives back.
 ghost use Rattle.camp_run.specs.Keeping.{KeptLeadsBack, SeatZeroStays};
 ghost use Rattle.camp_run.specs.Laws.{LockedSectionIsSerial, OneByOneIsSerial, SharedSectionIsSerial};
 
@@ -13,8 +14,8 @@ pub fn shared_section_is_serial()
     ensures law { SharedSectionIsSerial }
 {}
 
-/// Sections that `camp_clients::serial` runs have the answers and the history that the definitions of a
-/// serial run say, which are functions of the sections alone.
+/// `camp_clients::serial` gives the answers and the history of a serial run as `specs/Serial` defines them: functions of
+/// the sections alone.
 pub fn one_by_one_is_serial()
     ensures law { OneByOneIsSerial }
 {}
@@ -26,8 +27,8 @@ pub fn kept_text_leads_back()
     ensures law { KeptLeadsBack }
 {}
 
-/// If the calls of such a history are all at seat 0, as those of a book at one seat, its text is read as
-/// these calls, each is accepted, and they lead to the history itself.
+/// If all calls of such a history are at seat 0, its text is read as these calls, each is accepted, and they lead to the
+/// history itself.
 pub fn seat_zero_stays()
     ensures law { SeatZeroStays }
 {}

@@ -8,13 +8,12 @@ use std::sync::Wait;
 use std::sync::atomic::{AtomicU64, Ordering};
 use std::time::Duration;
 
-/// Microseconds that the client that comes next sleeps between two polls, unless it is woken. The second in
-/// the queue sleeps four times as long, the third nine times, and so on.
+/// Microseconds that the first client of the queue sleeps between two polls, unless it is woken. The second
+/// sleeps four times as long, the third nine times, and so on.
 const PAUSE: u64 = 100;
-/// From this position of the queue on, all clients sleep equally long.
+/// The position of the queue from which on all clients sleep equally long.
 const MOST_TIMES: u64 = 8;
-/// Polls that find the turn with the same client after which a client sleeps four times as long, until
-/// another has it.
+/// Polls that find the same owner of the turn after which a client sleeps four times as long, until the owner changes.
 const FEW_LOOKS: u32 = 4;
 /// Polls after which a client stops waiting.
 const MOST_LOOKS: u32 = 1_000;
@@ -23,7 +22,7 @@ const MOST_UNCHANGED: u32 = 8;
 /// Polls without progress between two calls after which the owner counts as gone.
 const UNCHANGED_BETWEEN: u32 = 2;
 
-/// Seats of the largest head.
+/// The most seats of a head.
 const SEATS: u64 = 64;
 /// The owner is in a query, or has executed all of its calls.
 const RESTS: u64 = 0;
@@ -36,7 +35,7 @@ const HAS_EXCHANGED: u64 = 3;
 /// The number of phases.
 const KINDS: u64 = 4;
 
-/// Computes the next step after another: a count, then a phase, then the number of a seat.
+/// Encodes the step that follows `step`, as one number: the count of steps, the phase `kind`, and the seat.
 fn step_behind(step: u64, kind: u64, seat: u32) -> u64 {
     let count = (step / (KINDS * SEATS)).wrapping_add(1);
     let what = count.wrapping_mul(KINDS).wrapping_add(kind);
@@ -58,7 +57,7 @@ fn between(step: u64, seat: u32) -> u64
     (seat as u64 % SEATS + 2 * SEATS - 1 - step % SEATS) % SEATS
 }
 
-/// Counts those of these seats that have their bits set.
+/// Counts the seats between that of a step and another one whose bits are set.
 fn set_between(bits: u64, step: u64, seat: u32) -> u64 {
     let first = (step % SEATS) as u32 + 1;
     let nearer = 1u64.rotate_left(between(step, seat) as u32).wrapping_sub(1);
@@ -74,7 +73,7 @@ fn looks_before_taking(step: u64) -> u32 {
     }
 }
 
-/// What a waiting client has polled.
+/// What a waiting client found at its polls.
 #[derive(Drop)]
 struct Watch {
     /// The last step, and a bit for each seat that waited.
@@ -111,7 +110,7 @@ impl Watch {
         self.found = (step, waiting);
     }
 
-    /// True if the turn is over, as far as a client can see that has `before` clients before it in the queue.
+    /// True if a client with `before` clients before it in the queue may take the turn, since the owner made no progress.
     fn is_over(&self, before: u64) -> bool {
         let step = self.found.0;
         before == 0 && self.unchanged >= looks_before_taking(step)
@@ -170,10 +169,10 @@ impl Bells {
     }
 }
 
-/// A gate at which clients take turns: one executes its calls, and those that want to publish meanwhile wait
-/// for a while, in the order of their seats. If all published at once, one would win, and the others would
-/// have to decide their calls again. Changes no answer. A waiting client has published nothing, so nobody
-/// waits for it; an owner that does nothing loses the turn.
+/// A gate at which clients take turns: one executes its calls, and the others that want to publish wait, for a limited
+/// time, in the order of their seats. If all published at once, one would succeed, and the others would have to decide
+/// their calls again. No answer depends on it. A waiting client has published nothing, so nobody waits for it; an owner
+/// that makes no progress loses the turn.
 #[derive(Drop)]
 pub struct Turns<'a, R: Wait> {
     rt: &'a R,
@@ -216,7 +215,7 @@ impl<'a, R: Wait> Turns<'a, R> {
         self.waiting.load(Ordering::SeqCst)
     }
 
-    /// Makes the next step after one, if that is still the last one.
+    /// Replaces the last step by the next one, unless the last step is no longer `step`; true if it did.
     fn go(&self, step: u64, kind: u64, seat: u32) -> bool {
         let next = step_behind(step, kind, seat);
         self.step
@@ -279,7 +278,8 @@ impl<'a, R: Wait> Gate for Turns<'a, R> {
         }
     }
 
-    /// After a wait the exchange is usually lost, and so shows the newest call; the next one follows at once.
+    /// Waits for the turn, unless the seat has it. After a wait the compare-exchange usually fails, which shows the seat
+    /// the newest call; then it tries again at once.
     fn exchange(&self, seat: u32, lost: u32) {
         let step = self.last_step();
         if is_of(step, seat) && self.go(step, EXCHANGES, seat) {
@@ -303,9 +303,8 @@ impl<'a, R: Wait> Gate for Turns<'a, R> {
 }
 
 impl<'a, R: Wait> SectionGate for Turns<'a, R> {
-    /// A client without the turn waits before a section that begins with a call that writes. While another
-    /// one owns the turn it would usually decide that call in vain, and slow the owner down while threads are
-    /// still being started.
+    /// Waits for the turn before a section that begins with a call that writes, unless the seat has the turn. Without
+    /// the turn the call would usually be decided in vain, and slow the owner down while threads are still being started.
     fn begin(&self, seat: u32, writes: bool) {
         if writes && !is_of(self.last_step(), seat) {
             self.stand_in_line(seat, 0);

@@ -8,7 +8,8 @@ abbrev pub head_id : {State Call Reply : Type 0} → Inside State Call Reply →
 head_id head =
     record { row = head.row; store = head.calls; slots = ids_of head.versions.items; tries = head.tries; first = head.first }
 
--- the number of slots for positions: one for each up to the last that is a multiple of `every`, and none for 0
+-- the number of slots for snapshots at positions: one for each multiple of `every` up to the most accepted calls, and
+-- none if `every` is 0
 abbrev pub slots_kept : (seats per_seat every : ℕ) → ℕ
 slots_kept seats per_seat every = if every == 0 then 0 else (seats * per_seat) / every
 

@@ -11,7 +11,7 @@ use Rattle.camp_history.specs.declared.seats.Seat.TheInside.{Inside}
 abbrev pub marks_in : {State Call Reply : Type 0} → Inside State Call Reply → List (Mark Call)
 marks_in seat = seat.earlier ++ seat.tail.items
 
--- a seat as contracts see it; its state says with which state its history began
+-- a seat as contracts see it; the first state of its history is read from its current state
 abbrev pub seated : {State Call Reply : Type 0} → Sequential State Call Reply → Inside State Call Reply → Seated State Call
 seated object seat = record {
   first = object.first seat.state;

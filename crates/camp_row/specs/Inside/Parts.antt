@@ -1,4 +1,4 @@
--- What one seat knows, as the invariant of the table sees it: a view is a list of such parts.
+-- What one seat knows of the row, for the invariant of the table: a `Part`. A view of the table is a list of them.
 use Rattle.std.specs.Prelude.{◌≡◌, ℕ, List, [], slice_index_or, map, count_by, ◌==◌}
 use Rattle.std.specs.List.{range_with_len}
 use Rattle.atomic_table.specs.Seated.{TableId}
@@ -6,8 +6,8 @@ use Rattle.camp_row.specs.declared.entries.Entry.{Entry}
 use Rattle.camp_row.specs.Chains.{IsBeginning, own, Fits}
 use Rattle.camp_row.specs.Known.{Known}
 
--- the sizes of the row, the seat's number, what it has seen, the chain that it last found, and the two words of its
--- next cell
+-- what one seat knows: the sizes of the row, its number, the entries that it has seen, the chain that it last found, and
+-- the two words of its next cell
 pub record Part : Type 0 where
   pub seats : ℕ
   pub per_seat : ℕ
@@ -26,15 +26,15 @@ fresh seats per_seat number =
 abbrev pub all_fresh : ℕ → ℕ → List Part
 all_fresh seats per_seat = map (fresh seats per_seat) (range_with_len 0 seats)
 
--- the part of a view that has only one
+-- what the seat knows in a view of one seat
 abbrev pub part_of : List Part → Part
 part_of parts = slice_index_or parts 0 (fresh 0 0 0)
 
--- how many parts of a list belong to the seat of a number
+-- how many elements of a view are of the seat with this number
 abbrev pub parts_of : ℕ → List Part → ℕ
 parts_of number parts = count_by (λ (part : Part). part.number == number) parts
 
--- what a pass with this part knows of the row in this table
+-- what the pass of this seat knows of the row in this table
 abbrev pub known_of : TableId → Part → Known
 known_of table part = record {
   row = record { table = table; seats = part.seats; per_seat = part.per_seat };
@@ -45,12 +45,12 @@ known_of table part = record {
   place = part.place;
 }
 
--- the part after it found this chain
+-- what the seat knows after it found this chain
 abbrev pub finds : List Entry → Part → Part
 finds chain part = record part { ahead = chain }
 
--- what was seen is a prefix of the chain that was found, in which this seat has no other entry; and the chain fits
--- the row
+-- the seat has seen a prefix of the chain that it found, with all its own entries in the chain; and the chain fits the
+-- row
 pub record IsSoundPart (part : Part) : Type 0 where
   pub front : IsBeginning part.seen part.ahead
   pub own_seen : own part.number part.ahead ≡ own part.number part.seen

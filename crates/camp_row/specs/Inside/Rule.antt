@@ -7,7 +7,7 @@ use Rattle.camp_row.specs.declared.knowledge.Knowledge.{Knowledge}
 use Rattle.camp_row.specs.Chains.{IsBeginning, own, turns, cell_of, head_word, Fits}
 use Rattle.camp_row.specs.Inside.Parts.{Part, parts_of}
 
--- word 0 is the head; of each cell the first word names the parent, and the second is the place
+-- word 0 is the head; the first word of each cell names its parent, the second is the index of its entry
 abbrev pub parent_word : ℕ → ℕ
 parent_word cell = 1 + 2 * cell
 
@@ -19,7 +19,7 @@ pub record Holds (words : List ℕ) (cell parent place : ℕ) : Type 0 where
   pub names : slice_index words (parent_word cell) ≡ parent
   pub places : slice_index words (place_word cell) ≡ place
 
--- each cell of the chain names the one before it, and has the place of its entry
+-- each cell of the chain names the one before it, and has the index of its entry
 abbrev pub IsLinked : ℕ → List ℕ → List Entry → Type 0
 IsLinked seats words chain =
     (before : List Entry) (entry : Entry) (after : List Entry) → before ++ entry ∷ after ≡ chain
@@ -38,7 +38,7 @@ pub record Knows (seats per_seat : ℕ) (words : List ℕ) (chain : List Entry) 
       (turn : ℕ) → turns part.number part.seen < turn → turn < per_seat
       → Holds words (turn * seats + part.number) 0 0
 
--- the head and the cells' words name a chain, and the only part of each seat knows a prefix of it
+-- the words of the head and the cells name a chain; each seat is in the views at most once, and knows a prefix of it
 pub record IsRuled (seats per_seat : ℕ) (words : List ℕ) (views : List Knowledge) : Type 0 where
   pub chain : List Entry
   pub sized : length words ≡ 1 + 2 * (per_seat * seats)

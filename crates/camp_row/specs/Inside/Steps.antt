@@ -6,31 +6,31 @@ use Rattle.camp_row.specs.Chains.{IsBeginning, IsShorter, cell_of, head_word}
 use Rattle.camp_row.specs.Inside.Parts.{Part, part_of, parts_of, finds, IsSoundPart}
 use Rattle.camp_row.specs.Inside.Rule.{parent_word, place_word}
 
--- the part finds the chain: the head names its last cell, it has only grown, and the part stays sound
+-- the seat finds the chain: the head names its last cell, the chain has only grown, and what the seat knows stays sound
 pub record Sees (found : ℕ) (chain : List Entry) (part : Part) : Type 0 where
   pub named : found ≡ head_word part.seats chain
   pub grows : IsBeginning part.ahead chain
   pub sound : IsSoundPart (finds chain part)
 
--- a load of the head: each part finds the chain. No two parts are of one seat
+-- a load of the head: each seat of the view finds the chain. No seat is in the view twice
 pub record Looked (found : ℕ) (old new : List Part) : Type 0 where
   pub chain : List Entry
   pub one_each : (number : ℕ) → parts_of number old ≤ 1
   pub each : All (Sees found chain) old
   pub is : new ≡ map (finds chain) old
 
--- a word of a cell that is ahead was loaded: it is the one that the chain gives
+-- a word of a cell that was found and not seen was loaded: it is the word that the chain says
 abbrev pub Reads : ℕ → ℕ → Part → Type 0
 Reads word found part =
     (before : List Entry) (entry : Entry) (after : List Entry) → before ++ entry ∷ after ≡ part.ahead
     → (word ≡ parent_word (cell_of part.seats before entry) → found ≡ head_word part.seats before)
     × (word ≡ place_word (cell_of part.seats before entry) → found ≡ entry.place)
 
--- a load of a parent or place word that changes nothing
+-- a load of a parent word or an index word that changes nothing
 abbrev pub Walked : ℕ → ℕ → List Part → List Part → Type 0
 Walked word found old new = (new ≡ old) × Reads word found (part_of old)
 
--- a load of the place word of the cell after the last that was seen: one more entry is seen
+-- a load of the index word of the cell after the last that was seen: one more entry is seen
 pub record Advanced (found : ℕ) (old new : List Part) : Type 0 where
   pub next : IsShorter (part_of old).seen (part_of old).ahead
   pub place : found ≡ next.next.place
@@ -40,7 +40,7 @@ pub record Advanced (found : ℕ) (old new : List Part) : Type 0 where
 abbrev pub StoredParent : ℕ → List Part → List Part → Type 0
 StoredParent stored old new = new ≡ (record (part_of old) { parent = stored }) ∷ []
 
--- a store to the place word of the seat's next cell
+-- a store to the index word of the seat's next cell
 abbrev pub StoredPlace : ℕ → List Part → List Part → Type 0
 StoredPlace stored old new = new ≡ (record (part_of old) { place = stored }) ∷ []
 
@@ -48,18 +48,18 @@ StoredPlace stored old new = new ≡ (record (part_of old) { place = stored }) �
 abbrev pub drafted_part : Part → Entry
 drafted_part part = record { seat = part.number; place = part.place }
 
--- the part after the drafted cell became the last of the chain
+-- what the seat knows after its drafted cell became the last of the chain
 abbrev pub won_part : Part → Part
 won_part part =
     let entries = part.seen ++ drafted_part part ∷ [] in
     record part { seen = entries; ahead = entries; parent = 0; place = 0 }
 
--- a compare-exchange succeeded: the chain was exactly what the part had seen
+-- a compare-exchange succeeded: the chain was exactly what the seat had seen
 pub record WonPart (part : Part) (new : List Part) : Type 0 where
   pub whole : part.ahead ≡ part.seen
   pub is : new ≡ won_part part ∷ []
 
--- a compare-exchange failed: the chain was longer than what the part had seen, and the part finds it
+-- a compare-exchange failed: the chain was longer than what the seat had seen, and the seat finds it
 pub record LostPart (found : ℕ) (part : Part) (new : List Part) : Type 0 where
   pub chain : List Entry
   pub longer : IsShorter part.seen chain
@@ -71,14 +71,14 @@ abbrev pub Tried : ℕ → ℕ → List Part → List Part → Type 0
 Tried expected found old new =
     MatchBool (found == expected) (WonPart (part_of old) new) (LostPart found (part_of old) new)
 
--- a split: the first part goes to a new seat, the others stay
+-- a split: the first seat of the view gets a view of its own, the others stay
 abbrev pub first_apart : Knowledge → Knowledge
 first_apart view = record { parts = take 1 view.parts }
 
 abbrev pub without_first : Knowledge → Knowledge
 without_first view = record { parts = drop 1 view.parts }
 
--- a join: the parts of both, those of the joined seat first; the joined seat is used up
+-- a join of two views: the seats of `other`, then those of `view`; `other` is consumed
 abbrev pub joined : Knowledge → Knowledge → Knowledge
 joined view other = record { parts = other.parts ++ view.parts }
 
