@@ -9,12 +9,12 @@ use Rattle.camp_script.proofs.Agreement.{reads_as_defined}
 use Rattle.camp_script.proofs.CanonicalNumbers.{decimal_is_word, decimal_is_line_number, value_of-decimal}
 
 -- from some bytes to the rest of them the reader goes from one progress to another
-record Reads (n : ℕ) (p : Progress) (bytes : List ℕ) (q : Progress) (rest : List ℕ) : Type 0 where
+pub record Reads (n : ℕ) (p : Progress) (bytes : List ℕ) (q : Progress) (rest : List ℕ) : Type 0 where
   pub line : ℕ
   pub is : read_from n p (lines_of bytes) ≡ read_from line q (lines_of rest)
 
 -- the calls that are read, and no record open
-abbrev after : List (List Call) → List Call → Progress
+abbrev pub after : List (List Call) → List Call → Progress
 after closed done = record { closed = closed; calls = done; open_record = None }
 
 -- the calls that are read, and an open record
@@ -27,11 +27,11 @@ group branch name opened changes =
     record { branch = branch; name = name; opened = opened; grouped = true; changes = changes; open_edit = None }
 
 -- one way, and then another
-then : {n : ℕ} {p q r : Progress} {bytes rest last : List ℕ} → Reads n p bytes q rest → ((m : ℕ) → Reads m q rest r last) → Reads n p bytes r last
+pub then : {n : ℕ} {p q r : Progress} {bytes rest last : List ℕ} → Reads n p bytes q rest → ((m : ℕ) → Reads m q rest r last) → Reads n p bytes r last
 then first next = record { line = (next first.line).line; is = first.is ∙ (next first.line).is }
 
 -- the same bytes, written in another way
-same_bytes : {n : ℕ} {p q : Progress} {rest : List ℕ} (bytes written : List ℕ) → bytes ≡ written → Reads n p written q rest → Reads n p bytes q rest
+pub same_bytes : {n : ℕ} {p q : Progress} {rest : List ℕ} (bytes written : List ℕ) → bytes ≡ written → Reads n p written q rest → Reads n p bytes q rest
 same_bytes {n} {p} {q} {rest} bytes written is reads = subst (λ t. Reads n p t q rest) (sym is) reads
 
 passes : {A B E : Type 0} (r : Result A E) (x : A) (next : A → Result B E) → r ≡ Ok x → (r >>= next) ≡ next x
@@ -276,7 +276,7 @@ record_read n closed done branch name (change ∷ []) rest b m some few h room =
     same_bytes _ _ (append_assoc (line_text (codes "record" ∷ branch ∷ name ∷ change_head change)) (change_body change) rest) (alone_read n closed done branch name change rest b m h.0 room)
 record_read n closed done branch name (change ∷ next ∷ changes) rest b m some few h room = group_read n closed done branch name (change ∷ next ∷ changes) rest b m some few h room
 
-call_read : (n : ℕ) (closed : List (List Call)) (done : List Call) (new : Call) (rest : List ℕ) → IsScriptCall new → (is_writing new ≡ true → is_full done ≡ false) → Reads n (after closed done) (call_text new ++ rest) (after closed (done ++ new ∷ [])) rest
+pub call_read : (n : ℕ) (closed : List (List Call)) (done : List Call) (new : Call) (rest : List ℕ) → IsScriptCall new → (is_writing new ≡ true → is_full done ≡ false) → Reads n (after closed done) (call_text new ++ rest) (after closed (done ++ new ∷ [])) rest
 call_read n closed done (call.Branch new from) rest h room = call_line_read n closed done (call.Branch new from) rest h (two_named n new from _ h.0 h.1) room
 call_read n closed done (call.Record branch name changes) rest h room = record_read n closed done branch name changes rest h.0 h.1 h.2.0 h.2.1 h.3 (room refl)
 call_read n closed done (call.Pull from to names) rest h room = call_line_read n closed done (call.Pull from to names) rest h (pull_asks n from to names h.0 h.1 h.2) room
@@ -286,7 +286,7 @@ call_read n closed done (call.Conflicts branch) rest h room = call_line_read n c
 call_read n closed done (call.Names branch) rest h room = call_line_read n closed done (call.Names branch) rest h (passes (name_at n branch) branch _ (named n branch h)) room
 
 -- if more calls follow that write, and all are within the limit, one more call is
-room_for : (done : List Call) (new : Call) (calls : List Call) → count_by is_writing (done ++ new ∷ calls) ≤ 65_536 → is_writing new ≡ true → is_full done ≡ false
+pub room_for : (done : List Call) (new : Call) (calls : List Call) → count_by is_writing (done ++ new ∷ calls) ≤ 65_536 → is_writing new ≡ true → is_full done ≡ false
 room_for done new calls few writes =
     let split = sum_by-append (λ c. cond {A = ℕ} (is_writing c) 1 0) done (new ∷ calls) in
     let first = sum_by-cons (λ c. cond {A = ℕ} (is_writing c) 1 0) new calls in

@@ -12,6 +12,7 @@ pub mod HistoryLemmas
 pub mod Holding
 pub mod LineLemmas
 pub mod NameLemmas
+pub mod SingleCalls
 pub mod TextLemmas
 pub mod Wanting
 pub mod WordLemmas

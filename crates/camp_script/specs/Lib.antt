@@ -14,6 +14,7 @@ pub mod Pieces
 pub mod Reading
 pub mod Sections
 pub mod Signs
+pub mod SingleCalls
 pub mod Texts
 pub mod Wanting
 pub mod Words

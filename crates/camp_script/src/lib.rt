@@ -13,6 +13,7 @@ mod outputs;
 mod readings;
 mod records;
 mod scripts;
+mod single_calls;
 mod spaces;
 mod texts;
 mod words;
@@ -26,7 +27,10 @@ pub use histories::{history_text, write_history};
 pub use lines::{FirstWords, Words, behind_word, first_words, without_end};
 pub use outputs::output_text;
 pub use scripts::{Script, read_script};
-pub use texts::{answer_text, append_lines, append_names, append_pairs, write_reply, write_text};
+pub use single_calls::parse_call;
+pub use texts::{
+    answer_text, append_lines, append_names, append_pairs, reply_text, write_reply, write_text,
+};
 pub use words::{count_of, name_at, names_at, no_words, one_word, path_at, two_words};
 pub use writing::{accepted_text, call_text, changes_text, kept_text, section_text};
 

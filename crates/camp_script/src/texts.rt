@@ -96,6 +96,15 @@ pub(crate) fn append_answer(
     }
 }
 
+/// Renders the reply to a call.
+pub fn reply_text(alloc: Global, reply: &Reply) -> Result<Vec<u8>, AllocError>
+    ensures text { IfOk result (λ text. text.items ≡ reply_text reply.now) }
+{
+    let mut text = Vec::new(alloc);
+    append_reply(&mut text, reply)?;
+    Ok(text)
+}
+
 fn append_reply(text: &mut Vec<u8>, reply: &Reply) -> Result<(), AllocError>
     ensures { OnOk result (text.new.items ≡ text.old.items ++ reply_text reply.now) }
 {
