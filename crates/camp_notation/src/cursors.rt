@@ -32,7 +32,7 @@ impl<'a> Cursor<'a> {
         }
     }
 
-    /// Returns the number of bytes left; a row has at most that many further items.
+    /// Returns the number of bytes left, which bounds how many more items can follow.
     pub(crate) fn len(&self) -> usize {
         self.rest.len()
     }

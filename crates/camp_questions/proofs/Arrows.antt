@@ -56,7 +56,7 @@ module _ (branch : List Catch) where
         let parts = and_parts (needs_other patch one.0.name) (needs_other one.0 other) one.2 in
         absurd (direct.none_between one.0.name (known_needs patch these one.0.name parts.0) (known_needs one.0 one.1 other parts.1))
 
-    need_is_arrow : NeedsDirectly branch patch.name other → needs_directly all patch other ≡ true
+    pub need_is_arrow : NeedsDirectly branch patch.name other → needs_directly all patch other ≡ true
     need_is_arrow direct =
         and_from (needs_other patch other) (not (list_any (goes_between patch other) all)) (needs_known patch these other direct.needs) (none_goes_between (list_any (goes_between patch other) all) refl direct)
 

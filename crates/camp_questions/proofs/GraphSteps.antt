@@ -35,10 +35,10 @@ grown_needs branch names name set grown marks own alike grows are =
     (marked names marks, grown_in_order (map name_of branch) (ComeToFront branch) (StickOn branch) (to_front branch) branch (name ∷ []) set grown (marked names marks) alike grows told, λ n. refl)
 
 -- the dependencies of a patch in a branch
-abbrev needing_in : List Catch → List ℕ → Needing
+abbrev pub needing_in : List Catch → List ℕ → Needing
 needing_in branch name = record { name = name; needs = (needs_are_determined branch (name ∷ [])).0 }
 
-each_needs : (branch : List Catch) (names : List (List ℕ)) → AllByRecursion (NeedsThese branch) (map (needing_in branch) names)
+pub each_needs : (branch : List Catch) (names : List (List ℕ)) → AllByRecursion (NeedsThese branch) (map (needing_in branch) names)
 each_needs branch [] = tt
 each_needs branch (n ∷ names) =
     let one = needs_are_determined branch (n ∷ []) in ((one.0, one.1, λ name. refl), each_needs branch names)

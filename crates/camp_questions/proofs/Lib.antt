@@ -19,8 +19,10 @@ pub mod LineNames
 pub mod MarkSteps
 pub mod MarkedNames
 pub mod MissingNames
+pub mod OpenChanges
 pub mod OpenPairs
 pub mod PartsArranged
+pub mod PartsOfOne
 pub mod PassedChanges
 pub mod PatchFronts
 pub mod PatchesBack

@@ -1,12 +1,14 @@
 -- The result that a call would have, without executing it.
-use Rattle.std.specs.Prelude.{◌≡◌, ◌⊎◌, ℕ, List, Option, None, Some}
+use Rattle.std.specs.Prelude.{◌≡◌, ◌⊎◌, ◌&&◌, ℕ, Bool, not, List, [], filter, Option, None, Some, MatchOption, bytes_eq}
+use Rattle.std.specs.List.{list_any}
 use Rattle.camp_call.specs.declared.calls.Call.{Call}
 use Rattle.camp_call.specs.declared.calls.Call.TheVariants as call
 use Rattle.camp_call.specs.declared.replies.Reply.TheVariants as reply
 use Rattle.camp_object.specs.declared.objects.Decided.TheVariants.{Next, Answer}
-use Rattle.camp_repo.specs.States.{Contents}
+use Rattle.camp_repo.specs.States.{Contents, catches_of}
 use Rattle.camp_repo.specs.Steps.{Decision, step}
 use Rattle.camp_repo.specs.Wanting.{MayWant}
+use Rattle.camp_questions.specs.OpenConflicts.{AreOpenIn}
 use Rattle.camp_questions.specs.declared.foresight.Foreseen.{Foreseen}
 use Rattle.camp_questions.specs.declared.foresight.Standing.{Standing}
 
@@ -23,23 +25,47 @@ pub record StandsIn (state : Contents) (standing : Standing) : Type 0 where
   pub tree : step state (call.Tree standing.branch) ≡ Answer (reply.Tree standing.tree)
   pub conflicts : step state (call.Conflicts standing.branch) ≡ Answer (reply.Conflicts standing.conflicts)
 
--- a call would be accepted: its reply has this number, and the branch that it writes to has this state then
-pub record IsAcceptedSo (call : Call) (next : Contents) (seen : Foreseen) : Type 0 where
+-- the unresolved conflicts of a branch; none if there is no branch of the name
+abbrev pub AreOpenThere : Contents → List ℕ → List (List ℕ × List ℕ) → Type 0
+AreOpenThere state branch pairs =
+    MatchOption (catches_of state.branches branch) (pairs ≡ []) (λ catches. AreOpenIn catches pairs)
+
+-- one of some pairs has the same two names
+abbrev pub is_pair_among : List (List ℕ × List ℕ) → List ℕ × List ℕ → Bool
+is_pair_among pairs pair = list_any (λ other. bytes_eq pair.0 other.0 && bytes_eq pair.1 other.1) pairs
+
+-- the pairs that are not among others, in their order
+abbrev pub pairs_without : List (List ℕ × List ℕ) → List (List ℕ × List ℕ) → List (List ℕ × List ℕ)
+pairs_without others pairs = filter (λ pair. not (is_pair_among others pair)) pairs
+
+-- from one state to the next, these conflicts of a branch become unresolved, and these are resolved
+pub record OpensAndResolves (state next : Contents) (branch : List ℕ) (opened resolved : List (List ℕ × List ℕ)) : Type 0 where
+  pub before : List (List ℕ × List ℕ)
+  pub after : List (List ℕ × List ℕ)
+  pub were : AreOpenThere state branch before
+  pub are : AreOpenThere next branch after
+  pub opens : opened ≡ pairs_without before after
+  pub resolves : resolved ≡ pairs_without after before
+
+-- a call would be accepted: its reply has the number of the next state. The branch that it writes to has this state
+-- then, and these of its conflicts are unresolved then and not now, or now and not then.
+pub record IsAcceptedSo (call : Call) (state next : Contents) (seen : Foreseen) : Type 0 where
   pub told : seen.reply ≡ reply.Done next.count
   pub standing : Standing
   pub changed : seen.changed ≡ Some standing
   pub written : branch_written call ≡ Some standing.branch
   pub stands : StandsIn next standing
+  pub changes : OpensAndResolves state next standing.branch standing.opened standing.resolved
 
--- the foreseen result of a call, given its decision: if it is accepted, its reply and the branch that it writes to;
--- else the reply alone
-abbrev pub ForeseesOf : Call → Decision → Foreseen → Type 0
-ForeseesOf call (Next next) seen = IsAcceptedSo call next seen
-ForeseesOf call (Answer answer) seen = (seen.reply ≡ answer) × (seen.changed ≡ None)
+-- the foreseen result of a call at a state, given its decision: if it is accepted, its reply and the branch that it
+-- writes to; else the reply alone
+abbrev pub ForeseesOf : Contents → Call → Decision → Foreseen → Type 0
+ForeseesOf state call (Next next) seen = IsAcceptedSo call state next seen
+ForeseesOf state call (Answer answer) seen = (seen.reply ≡ answer) × (seen.changed ≡ None)
 
 -- the foreseen result of a call at a state
 abbrev pub Foresees : Contents → Call → Foreseen → Type 0
-Foresees state call seen = ForeseesOf call (step state call) seen
+Foresees state call seen = ForeseesOf state call (step state call) seen
 
 -- foreseeing a call may run out of memory if the call may, or if it is accepted
 abbrev pub MayWantForesight : Contents → Call → Type 0

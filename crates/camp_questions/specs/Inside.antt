@@ -9,6 +9,7 @@ pub mod Graphing
 pub mod Growing
 pub mod Moving
 pub mod OpenPairs
+pub mod PartsOfOne
 pub mod Seeing
 pub mod StandingAside
 pub mod TakingBack

@@ -37,8 +37,9 @@ use Rattle.camp_questions.specs.Annotations.{Annotates, Known, behind_hunk, name
 use Rattle.camp_questions.specs.CommonLines.{brought_by}
 use Rattle.camp_questions.specs.Dependencies.{AreHeldIn, CanGo, ComeToFront, HeldBy, Needs, StickOn}
 use Rattle.camp_questions.specs.Differences.{missing_in}
-use Rattle.camp_questions.specs.Foresight.{Foresees}
+use Rattle.camp_questions.specs.Foresight.{AreOpenThere, Foresees, pairs_without}
 use Rattle.camp_questions.specs.Graphs.{Drawn, IsGraph}
+use Rattle.camp_questions.specs.OpenConflicts.{AreOpen}
 use Rattle.camp_questions.specs.Pictures.{hangs_on}
 use Rattle.camp_questions.specs.Showing.{changes_in, patch_in}
 use Rattle.camp_questions.specs.Sides.{IsSideIn}
@@ -297,7 +298,8 @@ AlongIsEnough =
     × ((patch on : List ℕ) → ¬ (step state (call.Pull from to (Some told)) ≡ refused (Depends patch on)))
 
 -- a call does what was foreseen: it gets the foreseen reply. If no branch was foreseen, nothing changes. If one was,
--- the questions for its tree and its conflicts, asked directly after the call, have the foreseen answers.
+-- the questions for its tree and its conflicts, asked directly after the call, have the foreseen answers, and the
+-- unresolved conflicts that the branch has after it and not before, and before it and not after, are the foreseen ones.
 pub record ComesAsForeseen (state : Contents) (asked : Call) (seen : Foreseen) : Type 0 where
   pub replied : reply_of (step state asked) ≡ seen.reply
   pub stays : seen.changed ≡ None → state_behind state (step state asked) ≡ state
@@ -305,6 +307,10 @@ pub record ComesAsForeseen (state : Contents) (asked : Call) (seen : Foreseen) :
       (standing : Standing) → seen.changed ≡ Some standing →
       replies_to state (asked ∷ call.Tree standing.branch ∷ call.Conflicts standing.branch ∷ [])
       ≡ seen.reply ∷ reply.Tree standing.tree ∷ reply.Conflicts standing.conflicts ∷ []
+  pub unresolved :
+      (standing : Standing) → seen.changed ≡ Some standing → (before after : List (List ℕ × List ℕ)) →
+      AreOpenThere state standing.branch before → AreOpen (state_behind state (step state asked)) standing.branch (Ok after) →
+      (standing.opened ≡ pairs_without before after) × (standing.resolved ≡ pairs_without after before)
 
 -- every call at every state does what was foreseen
 abbrev pub ForeseenComes : Type 0

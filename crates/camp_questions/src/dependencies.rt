@@ -28,7 +28,7 @@ pub fn needs(state: &State, branch: &Name, names: &[Name]) -> Result<Names, Unan
 }
 
 /// Returns the dependencies of names of a branch.
-fn needed_in(branch: &Branch, names: &[Name]) -> Result<Names, AllocError>
+pub(crate) fn needed_in(branch: &Branch, names: &[Name]) -> Result<Names, AllocError>
     ensures { IfOk result (Needs branch.now names.now) }
 {
     let named = set_of(branch.catches().allocator(), names)?;
@@ -46,7 +46,7 @@ pub fn held_by(state: &State, branch: &Name, names: &[Name]) -> Result<Names, Un
 }
 
 /// Returns the dependents of names of a branch.
-fn held_there(branch: &Branch, names: &[Name]) -> Result<Names, AllocError>
+pub(crate) fn held_there(branch: &Branch, names: &[Name]) -> Result<Names, AllocError>
     ensures { IfOk result (HeldBy branch.now names.now) }
 {
     let alloc = branch.catches().allocator();

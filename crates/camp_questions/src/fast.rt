@@ -13,7 +13,7 @@ mod reaching;
 mod standing_aside;
 mod taking_back;
 
-pub(crate) use patch_catches::by_patch;
+pub(crate) use patch_catches::{PatchCatches, by_patch};
 pub(crate) use reaching::all_reached;
 pub(crate) use standing_aside::held_in;
 pub(crate) use taking_back::taken_back;

@@ -3,6 +3,7 @@ ghost use Rattle.std.specs.Prelude.{◌≡◌, ◌-◌, ◌^◌, ◌<◌, IfErr,
 ghost use Rattle.camp_questions.specs.Foresight.{Foresees, IsAcceptedSo, MayWantForesight, branch_written};
 ghost use Rattle.camp_questions.specs.Inside.Foresight.{LedTo};
 
+use crate::open_changes::opened_and_resolved;
 use camp_base::{Name, Tree};
 use camp_repo::{Call, Conflicts, Decided, Reply, State};
 use std::alloc::AllocError;
@@ -16,12 +17,16 @@ pub struct Foreseen {
     pub changed: Option<Standing>,
 }
 
-/// The state of a branch.
+/// The state of a branch after a call, and what the call would change about its unresolved conflicts.
 #[derive(Drop)]
 pub struct Standing {
     pub branch: Name,
     pub tree: Tree,
     pub conflicts: Conflicts,
+    /// Those that are unresolved after the call, and were not before it.
+    pub opened: Conflicts,
+    /// Those that were unresolved before the call, and are not after it.
+    pub resolved: Conflicts,
 }
 
 /// Returns the reply that a call would get, and the branch that it would write to, in its state after the
@@ -38,15 +43,15 @@ pub fn what_if(state: &State, call: &Call) -> Result<Foreseen, AllocError>
             reply,
             changed: None,
         }),
-        Decided::Next(next) => written(&next, call),
+        Decided::Next(next) => written(state, &next, call),
     }
 }
 
 /// Returns the number of an accepted call, and the branch that it wrote to, as it is in the state after the
 /// call.
-fn written(next: &State, call: &Call) -> Result<Foreseen, AllocError>
-    requires { LedTo call.now next.now }
-    ensures { IfOk result (IsAcceptedSo call.now next.now) }
+fn written(state: &State, next: &State, call: &Call) -> Result<Foreseen, AllocError>
+    requires { LedTo call.now state.now next.now }
+    ensures { IfOk result (IsAcceptedSo call.now state.now next.now) }
 {
     let Some(name) = branch_written(call) else {
         unreachable!();
@@ -54,12 +59,16 @@ fn written(next: &State, call: &Call) -> Result<Foreseen, AllocError>
     let Some(branch) = next.branch(&name) else {
         unreachable!();
     };
+    let alloc = branch.catches().allocator();
     let tree = branch.tree().try_clone()?;
     let pairs = branch.conflicts()?;
+    let (opened, resolved) = opened_and_resolved(alloc, state, next, &name)?;
     let standing = Standing {
         branch: name,
         tree,
         conflicts: Conflicts::new(pairs),
+        opened,
+        resolved,
     };
     Ok(Foreseen {
         reply: Reply::Done(next.count()),

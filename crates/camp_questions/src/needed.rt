@@ -55,7 +55,11 @@ fn all_stuck(
 }
 
 /// Returns for each name whether it is in a set.
-fn marks_of(alloc: Global, names: &[Name], set: &NameSet) -> Result<Vec<bool>, AllocError>
+pub(crate) fn marks_of(
+    alloc: Global,
+    names: &[Name],
+    set: &NameSet,
+) -> Result<Vec<bool>, AllocError>
     ensures { IfOk result (λ marks. marks.items ≡ map (is_among (names_in set.now)) names.now) }
 {
     let mut marks = Vec::with_capacity(alloc, names.len())?;

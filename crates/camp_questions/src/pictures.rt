@@ -12,6 +12,7 @@ use crate::finding::branch_with;
 use crate::graphs::graph_of;
 use crate::keeping::keep_named;
 use crate::open_conflicts::open_in;
+use crate::related::part_of_one;
 use crate::telling::told;
 use crate::{Node, PatchGraph, Unanswered};
 use camp_base::Name;
@@ -77,7 +78,7 @@ fn picture_in(branch: &Branch, names: &[Name]) -> Result<Picture, AllocError>
     ensures { IfOk result (λ picture. (graph : Drawn) × (pairs : List (List ℕ × List ℕ))
         × (picture ≡ drawn_about names.now (whole_picture graph pairs)) × IsGraph branch.now graph × AreOpenIn branch.now pairs) }
 {
-    let part = drawn_about(branch.catches().allocator(), names, graph_of(branch)?)?;
+    let part = part_in(branch, names)?;
     let unsettled = open_in(branch)?;
     let (patches, conflicts) = part.into_parts();
     Ok(Picture {
@@ -85,6 +86,20 @@ fn picture_in(branch: &Branch, names: &[Name]) -> Result<Picture, AllocError>
         conflicts,
         unsettled,
     })
+}
+
+/// Returns the graph of a branch, or the part of it that belongs to patches. The part of one patch is found
+/// without the rest of the graph, unless it is large.
+fn part_in(branch: &Branch, names: &[Name]) -> Result<PatchGraph, AllocError>
+    ensures { IfOk result (λ part. (graph : Drawn) × IsGraph branch.now graph
+        × ((pairs : List (List ℕ × List ℕ)) → whole_picture part pairs ≡ drawn_about names.now (whole_picture graph pairs))) }
+{
+    if names.len() == 1 {
+        if let Some(part) = part_of_one(branch, &names[0])? {
+            return Ok(part);
+        }
+    }
+    drawn_about(branch.catches().allocator(), names, graph_of(branch)?)
 }
 
 /// Returns the whole graph, or the part of it with patches, their dependencies and their dependents.
@@ -202,7 +217,7 @@ fn push_kept(left: &mut Vec<Node>, kept: &NameSet, node: &Node) -> Result<(), Al
 }
 
 /// Returns the pairs of which both names are kept.
-fn kept_pairs(kept: &NameSet, conflicts: &Conflicts) -> Result<Conflicts, AllocError>
+pub(crate) fn kept_pairs(kept: &NameSet, conflicts: &Conflicts) -> Result<Conflicts, AllocError>
     ensures { IfOk result (λ left. left ≡ filter (λ pair. has_name kept.now pair.0 && has_name kept.now pair.1) conflicts.now) }
 {
     let mut pairs = Vec::from_slice(kept.allocator(), conflicts.pairs())?;

@@ -1,3 +1,4 @@
+//! Laws of explanations: what they say is true.
 ghost use Rattle.camp_why.specs.Grounds.{RefusalsHaveGrounds};
 ghost use Rattle.camp_why.specs.Hints.{HintsAreSeen};
 ghost use Rattle.camp_why.specs.Laws.{MisfitsAreReasons, RefusalsAreExplained};

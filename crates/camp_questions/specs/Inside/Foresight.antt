@@ -1,4 +1,4 @@
--- The state after a call.
+-- A call and the state after it.
 use Rattle.std.specs.Prelude.{◌≡◌}
 use Rattle.camp_call.specs.declared.calls.Call.{Call}
 use Rattle.camp_object.specs.declared.objects.Decided.TheVariants.{Next}
@@ -6,8 +6,7 @@ use Rattle.camp_repo.specs.Lawful.{IsLawfulState}
 use Rattle.camp_repo.specs.States.{Contents}
 use Rattle.camp_repo.specs.Steps.{step}
 
--- a call led to this state, from a lawful one
-pub record LedTo (call : Call) (next : Contents) : Type 0 where
-  pub state : Contents
+-- a call led from a lawful state to the next one
+pub record LedTo (call : Call) (state next : Contents) : Type 0 where
   pub lawful : IsLawfulState state
   pub leads : step state call ≡ Next next
