@@ -1,5 +1,5 @@
 -- Frames of requests and of answers, piece by piece.
-use Rattle.camp_talk.proofs.Words.{◌==◌, ◌≡◌, ◌≢◌, ◌<◌, ◌≤◌, inl, inr, ℕ, Bool, true, false, cond, List, [], ◌∷◌, ◌++◌, length, take, drop, Option, None, Some, Err, refl, sym, ap, subst, ◌∙◌, append_assoc, arith, true≢false, take_all, length-append, length-take, All, All-cons, All-drop, All-head, All-nil, list_all, drop-append_seam, and_parts, Appends, Appends-trans, Consumes, Consumes-trans, append-nil, ◌-◌, lines_of, first_of, AppendsSome, Entries, IsLine, IsNotWriting, IsWriting, Takes}
+use Rattle.camp_talk.proofs.Words.{◌==◌, ◌≡◌, ◌≢◌, ◌<◌, ◌≤◌, inl, inr, ℕ, Bool, true, false, cond, List, [], ◌∷◌, ◌++◌, length, take, drop, Option, None, Some, Err, refl, sym, ap, subst, ◌∙◌, append_assoc, arith, true≢false, take_all, length-append, length-take, All, All-cons, All-drop, All-head, All-nil, list_all, drop-append_seam, and_parts, Appends, Appends-trans, Consumes, Consumes-trans, append-nil, ◌-◌, lines_of, first_of, AppendsSome, Entries, IsLine, IsNotWriting, IsReading, IsWriting, StopsInLine, Takes}
 use Rattle.std.proofs.Common.{unwrap_or, ◌&&◌}
 use Rattle.std.proofs.lemmas.Bool.{eqb-false}
 use Rattle.std.proofs.lemmas.Bool.Decides.{nat_tests}
@@ -11,8 +11,13 @@ use Rattle.camp_base.specs.Signs.{is_between, is_digit}
 use Rattle.camp_script.specs.Words.{count_of, value_of}
 use Rattle.camp_talk.proofs.Cuts.{lines-line}
 use Rattle.camp_talk.proofs.Parts.{ends_behind}
-use Rattle.camp_talk.specs.Frames.{AnswersNot, BeginsNoFrame, IsFrame, Serves, WritesNot}
-use Rattle.camp_talk.specs.Inside.Framing.{IsCounted, IsNotCounted, ReadsBytes, ReadsFrame, ReadsMore, ReadsNothing, ReadsPartly, StopsReading}
+use Rattle.camp_talk.specs.Engine.Framings.{BeginsWithFrame}
+use Rattle.std.proofs.Common.{◌+◌, length-drop, length-take-le, take-append-drop}
+use Rattle.std.specs.List.{position_or_len}
+use Rattle.camp_talk.proofs.LineReads.{line_fed}
+use Rattle.camp_talk.specs.Frames.{AnswersNot, BeginsNoFrame, EndsWithin, HasNoFrame, IsFrame, ReadsCut, ReadsNoFrame, ReadsPart, Serves, WritesNot}
+use Rattle.camp_talk.specs.Inside.Framing.{IsCounted, IsNotCounted, ReadsBytes, ReadsFewer, ReadsFrame, ReadsMore, ReadsNothing}
+use Rattle.camp_talk.specs.Laws.{UnservedBytesHaveNoFrame}
 use Rattle.camp_talk.specs.declared.faults.TalkFault.{TalkFault}
 use Rattle.camp_talk.specs.declared.faults.TalkFault.TheVariants.{Internal, Memory, Read, Write}
 use Rattle.camp_talk.specs.declared.frames.FrameFault.{FrameFault}
@@ -64,6 +69,14 @@ module _ (line : List ℕ) (n : ℕ) where
   line_counted is =
       ap count_of (take_all 1_048_577 line (omega (arith, counted_short line n is))) ∙ is
 
+-- a line whose stored part has no number has none
+line_none : (line : List ℕ) → count_of (held line) ≡ None → count_of line ≡ None
+line_none line none = at (count_of line) refl
+  where
+    at : (found : Option ℕ) → count_of line ≡ found → found ≡ None
+    at None is = refl
+    at (Some n) is = absurd (none-some n (sym none ∙ line_counted line n is))
+
 same_count : (some n m : ℕ) (found : Option ℕ) → found ≡ Some n → found ≡ Some m → n ≡ m
 same_count some n m found one two = ap (λ (o : Option ℕ). unwrap_or o some) (sym one ∙ two)
 
@@ -81,28 +94,31 @@ module _ (line : List ℕ) (is : IsLine line) where
       let one = same_line digits request more (counted_line digits (length request) framed.counts) joined in
       none (length request) (ap count_of (sym one) ∙ framed.counts) framed.few
 
-  pub no_number : count_of (held line) ≡ None → BeginsNoFrame (line ++ 10 ∷ [])
-  no_number none = begins_none (λ n counts few. none-some n (sym none ∙ line_counted line n counts))
+  pub no_number : count_of line ≡ None → BeginsNoFrame (line ++ 10 ∷ [])
+  no_number none = begins_none (λ n counts few. none-some n (sym none ∙ counts))
 
-  pub too_large : (count : ℕ) → count_of (held line) ≡ Some count → 268_435_456 < count → BeginsNoFrame (line ++ 10 ∷ [])
+  pub too_large : (count : ℕ) → count_of line ≡ Some count → 268_435_456 < count → BeginsNoFrame (line ++ 10 ∷ [])
   too_large count counts large = begins_none (λ n so few.
-      let same : count ≡ n = same_count 0 count n (count_of line) (held_counted line count counts) so in omega (arith, same, few, large))
+      let same : count ≡ n = same_count 0 count n (count_of line) counts so in omega (arith, same, few, large))
 
-  -- the input ends in it
-  pub cut_line : (request : List ℕ) → IsFrame request line → ⊥
-  cut_line request framed =
+  -- bytes end in it
+  pub cut_line : (request frame more : List ℕ) → IsFrame request frame → line ≡ frame ++ more → ⊥
+  cut_line request frame more framed same =
       let digits = framed.digits in
-      let behind = subst (All (λ byte. byte ≢ 10)) (ap (drop (length digits)) framed.is ∙ drop-append_seam digits (10 ∷ request))
+      let joined : line ≡ digits ++ 10 ∷ (request ++ more) =
+      same ∙ ap (λ bytes. bytes ++ more) framed.is ∙ append_assoc digits (10 ∷ request) more in
+      let behind = subst (All (λ byte. byte ≢ 10)) (ap (drop (length digits)) joined ∙ drop-append_seam digits (10 ∷ (request ++ more)))
       (All-drop (λ byte. byte ≢ 10) (length digits) line is) in
-      All-head (λ byte. byte ≢ 10) 10 request behind refl
+      All-head (λ byte. byte ≢ 10) 10 (request ++ more) behind refl
 
-  -- the input ends after it, with fewer bytes than it says
-  pub cut_request : (count : ℕ) (more : List ℕ) → count_of line ≡ Some count → length more < count → (request : List ℕ)
-      → IsFrame request ((line ++ 10 ∷ []) ++ more) → ⊥
-  cut_request count more counts few request framed =
+  -- bytes end after it, with fewer than it says
+  pub cut_request : (count : ℕ) (some : List ℕ) → count_of line ≡ Some count → length some < count → (request frame more : List ℕ)
+      → IsFrame request frame → line ++ 10 ∷ some ≡ frame ++ more → ⊥
+  cut_request count some counts few request frame more framed so =
       let digits = framed.digits in
-      let joined : digits ++ 10 ∷ request ≡ line ++ 10 ∷ more = sym framed.is ∙ append_assoc line (10 ∷ []) more in
-      let one = same_line digits request more (counted_line digits (length request) framed.counts) joined in
+      let joined : digits ++ 10 ∷ (request ++ more) ≡ line ++ 10 ∷ some =
+      sym (so ∙ ap (λ bytes. bytes ++ more) framed.is ∙ append_assoc digits (10 ∷ request) more) in
+      let one = same_line digits (request ++ more) some (counted_line digits (length request) framed.counts) joined in
       let same : count ≡ length request = same_count 0 count (length request) (count_of line) counts (ap count_of (sym one) ∙ framed.counts) in
       omega (
         arith,
@@ -110,8 +126,9 @@ module _ (line : List ℕ) (is : IsLine line) where
         few,
         ap (λ (bytes : List ℕ). length bytes) joined,
         ap (λ (bytes : List ℕ). length bytes) one,
-        length-append digits (10 ∷ request),
-        length-append line (10 ∷ more),
+        length-append digits (10 ∷ (request ++ more)),
+        length-append request more,
+        length-append line (10 ∷ some),
       )
 
   -- as many bytes as it says
@@ -126,11 +143,25 @@ module _ (line : List ℕ) (is : IsLine line) where
 
   -- it does not give a number of bytes
   pub other_read : (a b : Option (List ℕ)) (why : FrameFault) → IsNotCounted (held line) why → Consumes a b (line ++ 10 ∷ [])
-      → StopsReading a b why
-  other_read a b NoNumber none reads = record { some = line ++ 10 ∷ []; reads = reads; none = no_number none }
+      → ReadsNoFrame a b why
+  other_read a b NoNumber none reads = record { line = line; is_line = is; none = line_none line none; reads = reads }
   other_read a b TooLarge (count, counts, large) reads =
-      record { some = line ++ 10 ∷ []; reads = reads; none = too_large count counts large }
+      record { line = line; count = count; counts = held_counted line count counts; large = large; reads = reads }
   other_read a b other none reads = absurd none
+
+-- no whole frame stands at the front of a part of one
+pub part_has_no_frame : (bytes : List ℕ) → EndsWithin bytes → HasNoFrame bytes
+part_has_no_frame bytes (inl line) request frame more framed same = cut_line bytes line request frame more framed same
+part_has_no_frame bytes (inr short) request frame more framed same =
+    cut_request short.line (counted_line short.line short.count short.counts) short.count short.some short.counts short.short request frame more framed
+    (sym short.is ∙ same)
+
+pub unserved_bytes_have_no_frame : UnservedBytesHaveNoFrame
+unserved_bytes_have_no_frame = record {
+  no_number = λ line is none. no_number line is none;
+  too_large = λ line count counts large. too_large line (counted_line line count counts) count counts large;
+  part = part_has_no_frame;
+}
 
 -- ---- the line before a request, as it was read
 
@@ -155,9 +186,9 @@ module _ (a b : Option (List ℕ)) (old new : List ℕ) where
       }
 
   -- the input has ended in it
-  pub reads_cut_line : Takes a b 1_048_577 seen.End old new → length old ≡ 0 → 0 < length new → ReadsPartly a b
+  pub reads_cut_line : Takes a b 1_048_577 seen.End old new → length old ≡ 0 → 0 < length new → ReadsCut a b
   reads_cut_line takes first some = record {
-    some = takes.line;
+    part = record { some = takes.line; reads = subst (Consumes a b) (append-nil takes.line) takes.consumes; within = inl takes.is_line };
     some_are = λ (none : takes.line ≡ []). omega (
       arith,
       first,
@@ -167,10 +198,14 @@ module _ (a b : Option (List ℕ)) (old new : List ℕ) where
       length-append old (held takes.line),
       length-take 1_048_577 takes.line,
     );
-    reads = subst (Consumes a b) (append-nil takes.line) takes.consumes;
-    none = cut_line takes.line takes.is_line;
     ends = takes.ends;
   }
+
+-- reading stops within it
+pub stops_in_front : (a b : Option (List ℕ)) (why : TalkFault) → IsReading why → StopsInLine a b → ReadsNoFrame a b (Talk why)
+stops_in_front a b Memory is stops = record { some = stops.some; reads = stops.reads; within = inl stops.is_line }
+stops_in_front a b (Read error) is stops = record { some = stops.some; reads = stops.reads; within = inl stops.is_line }
+stops_in_front a b other is stops = absurd is
 
 module _ (a b : Option (List ℕ)) (old new : List ℕ) (takes : Takes a b 1_048_577 seen.Line old new) (first : old ≡ []) where
   -- the part of it that is stored
@@ -178,7 +213,7 @@ module _ (a b : Option (List ℕ)) (old new : List ℕ) (takes : Takes a b 1_048
   new_is = takes.grows ∙ ap (λ (bytes : List ℕ). bytes ++ held takes.line) first
 
   -- it is not a number of bytes
-  pub reads_other : (why : FrameFault) → IsNotCounted new why → StopsReading a b why
+  pub reads_other : (why : FrameFault) → IsNotCounted new why → ReadsNoFrame a b why
   reads_other why none =
       other_read takes.line takes.is_line a b why (subst (λ (bytes : List ℕ). IsNotCounted bytes why) new_is none) takes.consumes
 
@@ -189,18 +224,31 @@ module _ (a b : Option (List ℕ)) (old new : List ℕ) (takes : Takes a b 1_048
     abbrev bytes : List ℕ
     bytes = (takes.line ++ 10 ∷ []) ++ request
 
-    -- fewer bytes than it says
-    pub reads_cut_request : ReadsBytes b c count false request → ReadsPartly a c
-    reads_cut_request (reads, few, ends) = record {
+    abbrev short_part : Consumes b c request → length request < count → ReadsPart a c
+    short_part reads few = record {
       some = bytes;
+      reads = Consumes-trans a b c (takes.line ++ 10 ∷ []) request takes.consumes reads;
+      within = inr (record {
+        line = takes.line;
+        some = request;
+        count = count;
+        counts = counts;
+        few = counted.1;
+        short = few;
+        is = append_assoc takes.line (10 ∷ []) request;
+      });
+    }
+
+    -- fewer bytes than it says
+    pub reads_cut_request : ReadsBytes b c count false request → ReadsCut a c
+    reads_cut_request (reads, few, ends) = record {
+      part = short_part reads few;
       some_are = λ (none : bytes ≡ []). omega (
         arith,
         ap (λ (bytes : List ℕ). length bytes) none,
         length-append (takes.line ++ 10 ∷ []) request,
         length-append takes.line (10 ∷ []),
       );
-      reads = Consumes-trans a b c (takes.line ++ 10 ∷ []) request takes.consumes reads;
-      none = cut_request takes.line takes.is_line count request counts few;
       ends = ends_behind a b c (takes.line ++ 10 ∷ []) takes.consumes ends;
     }
 
@@ -212,23 +260,74 @@ module _ (a b : Option (List ℕ)) (old new : List ℕ) (takes : Takes a b 1_048
       reads = Consumes-trans a b c (takes.line ++ 10 ∷ []) request takes.consumes reads;
     }
 
+-- reading stops within a request
+pub stops_in_request : (a b c : Option (List ℕ)) (old new : List ℕ) → Takes a b 1_048_577 seen.Line old new → old ≡ [] → (count : ℕ)
+    → IsCounted new count → ReadsFewer b c count → (why : TalkFault) → IsReading why → ReadsNoFrame a c (Talk why)
+stops_in_request a b c old new takes first count counted fewer why is = at why is
+  where
+    part : ReadsPart a c
+    part = short_part a b old new takes first c count fewer.some counted fewer.reads fewer.fewer
+
+    at : (why : TalkFault) → IsReading why → ReadsNoFrame a c (Talk why)
+    at Memory is = part
+    at (Read error) is = part
+    at other is = absurd is
+
 -- ---- reading a number of bytes
 
 module _ (a b c : Option (List ℕ)) (count : ℕ) (old new : List ℕ) where
-  pub more_read : (read : ℕ) → read ≡ length old → Consumes a b old × (length old ≤ count) → ReadsMore b c (count - read) true old new
+  -- some more were read
+  pub more_read : (read : ℕ) → read ≡ length old → Consumes a b old → length old < count → ReadsMore b c (count - read) true old new
       → Consumes a c new × (length new ≤ count)
-  more_read read is (first, fits) (more, reads, grows, few) = (
+  more_read read is first fits (more, reads, grows, few) = (
     subst (Consumes a c) (sym grows) (Consumes-trans a b c old more first reads),
     omega (arith, is, fits, few, ap (λ (bytes : List ℕ). length bytes) grows, length-append old more),
   )
 
-  pub none_more : (room : ℕ) → Consumes a b old × (length old ≤ count) → length old < count → ReadsMore b c room false old new
+  -- no more can be read
+  pub fewer_read : Consumes a b old → length old < count → Consumes b c [] → ReadsFewer a c count
+  fewer_read first few none = record {
+    some = old;
+    reads = subst (Consumes a c) (append-nil old) (Consumes-trans a b c old [] first none);
+    fewer = few;
+  }
+
+  -- there are no more
+  pub none_more : (room : ℕ) → Consumes a b old → length old < count → ReadsMore b c room false old new
       → ReadsBytes a c count false new
-  none_more room (first, fits) few (reads, same, ends) = (
+  none_more room first few (reads, same, ends) = (
     subst (Consumes a c) (append-nil old ∙ sym same) (Consumes-trans a b c old [] first reads),
     omega (arith, few, ap (λ (bytes : List ℕ). length bytes) same),
     ends_behind a b c old first ends,
   )
+
+-- ---- what stands in a buffer
+
+-- a line with a number of bytes, and as many after it
+pub begins_frame : (bytes : List ℕ) (feed count : ℕ) → feed ≡ position_or_len (λ byte. byte == 10) bytes → feed < length bytes
+    → IsCounted (take feed bytes) count → count ≤ length bytes - feed - 1 → BeginsWithFrame bytes
+begins_frame bytes feed count at within counted fits = record {
+  request = request;
+  frame = take feed bytes ++ 10 ∷ request;
+  more = drop count rest;
+  is = record { digits = take feed bytes; counts = counted.0 ∙ ap Some (sym long); few = omega (arith, long, counted.1); is = refl };
+  begins = sym (take-append-drop (feed + 1) bytes) ∙ ap (λ (l : List ℕ). l ++ rest) fed
+      ∙ append_assoc (take feed bytes) (10 ∷ []) rest
+      ∙ ap (λ (l : List ℕ). take feed bytes ++ 10 ∷ l) (sym (take-append-drop count rest))
+      ∙ sym (append_assoc (take feed bytes) (10 ∷ request) (drop count rest));
+}
+  where
+    rest : List ℕ
+    rest = drop (feed + 1) bytes
+
+    request : List ℕ
+    request = take count rest
+
+    long : length request ≡ count
+    long = length-take-le count rest (omega (arith, fits, within, length-drop (feed + 1) bytes))
+
+    fed : take (feed + 1) bytes ≡ take feed bytes ++ 10 ∷ []
+    fed = subst (λ (n : ℕ). take (n + 1) bytes ≡ take n bytes ++ 10 ∷ []) (sym at) (line_fed bytes (subst (λ (n : ℕ). n < length bytes) at within))
 
 -- ---- writing
 
@@ -275,27 +374,21 @@ flush_fails digits answer text is a b c d e first second third keeps = (
 -- ---- the result of serving
 
 module _ (a b old new : Option (List ℕ)) (before after : Entries) where
-  pub reading_stops : (why : FrameFault) → StopsReading a b why → Keeps old new → after ≡ before → Serves a b old new before (Err why) after
-  reading_stops NoNumber stops keeps same = record { some = stops.some; reads = stops.reads; none = stops.none; keeps = keeps; same = same }
-  reading_stops TooLarge stops keeps same = record { some = stops.some; reads = stops.reads; none = stops.none; keeps = keeps; same = same }
-  reading_stops Cut stops keeps same = record {
-    some = stops.some;
-    some_are = stops.some_are;
-    reads = stops.reads;
-    none = stops.none;
-    ends = stops.ends;
-    keeps = keeps;
-    same = same;
-  }
-  reading_stops (Talk Memory) stops keeps same = inl (keeps, same)
-  reading_stops (Talk (Read error)) stops keeps same = inl (keeps, same)
-  reading_stops (Talk (Write error)) stops keeps same = absurd stops
-  reading_stops (Talk Internal) stops keeps same = absurd stops
+  pub reading_stops : (why : FrameFault) → ReadsNoFrame a b why → Keeps old new → after ≡ before → Serves a b old new before (Err why) after
+  reading_stops NoNumber reads keeps same = record { reads = reads; keeps = keeps; same = same }
+  reading_stops TooLarge reads keeps same = record { reads = reads; keeps = keeps; same = same }
+  reading_stops Cut reads keeps same = record { reads = reads; keeps = keeps; same = same }
+  reading_stops (Talk Memory) reads keeps same = inl (record { reads = reads; keeps = keeps; same = same })
+  reading_stops (Talk (Read error)) reads keeps same = inl (record { reads = reads; keeps = keeps; same = same })
+  reading_stops (Talk (Write error)) reads keeps same = absurd reads
+  reading_stops (Talk Internal) reads keeps same = absurd reads
 
   pub answering_stops : (why : TalkFault) → IsNotWriting why → AnswersNot a b old new before after
       → Serves a b old new before (Err (Talk why)) after
+  answering_stops Memory is stops = inr stops
+  answering_stops (Read error) is stops = inr stops
   answering_stops (Write error) is stops = absurd is
-  answering_stops other is stops = inr stops
+  answering_stops Internal is stops = inr stops
 
   pub writing_stops : (why : TalkFault) → IsWriting why → WritesNot a b old new before after
       → Serves a b old new before (Err (Talk why)) after

@@ -51,7 +51,13 @@ pub serves_grow : (a b old new : Option (List ℕ)) (before : Entries) (came : R
 serves_grow a b old new before (Ok true) after serves = request_grows before serves.service.request serves.service.answer after serves.answers
 serves_grow a b old new before (Err (frame.Talk (talk.Write error))) after serves =
     request_grows before serves.service.request serves.service.answer after serves.answers
-serves_grow a b old new before (Err (frame.Talk why)) after (inl same) = earlier_same before after same.1
-serves_grow a b old new before (Err (frame.Talk why)) after (inr some) =
+serves_grow a b old new before (Err (frame.Talk talk.Memory)) after (inl none) = earlier_same before after none.same
+serves_grow a b old new before (Err (frame.Talk talk.Memory)) after (inr some) =
+    some_grow before some.service.request some.service.answer after some.answers
+serves_grow a b old new before (Err (frame.Talk (talk.Read error))) after (inl none) = earlier_same before after none.same
+serves_grow a b old new before (Err (frame.Talk (talk.Read error))) after (inr some) =
+    some_grow before some.service.request some.service.answer after some.answers
+serves_grow a b old new before (Err (frame.Talk talk.Internal)) after (inl none) = earlier_same before after none.same
+serves_grow a b old new before (Err (frame.Talk talk.Internal)) after (inr some) =
     some_grow before some.service.request some.service.answer after some.answers
 serves_grow a b old new before other after serves = earlier_same before after serves.same

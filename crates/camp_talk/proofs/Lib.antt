@@ -6,6 +6,7 @@ pub mod Cuts
 pub mod Failing
 pub mod Firsts
 pub mod FrameLemmas
+pub mod GroupLemmas
 pub mod Growing
 pub mod HelpLemmas
 pub mod LineReads
@@ -17,6 +18,7 @@ pub mod PairLemmas
 pub mod Parts
 pub mod QuestionWords
 pub mod RequestLemmas
+pub mod RunLemmas
 pub mod Served
 pub mod Skipped
 pub mod ToldLemmas

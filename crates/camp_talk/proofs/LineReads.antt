@@ -1,5 +1,5 @@
 -- Reads a line piece by piece, and stores as much of it as fits.
-use Rattle.camp_talk.proofs.Words.{◌≡◌, ◌≢◌, ℕ, zero, suc, ◌+◌, ◌-◌, ◌<◌, ◌≤◌, min, Bool, true, false, cond, ◌==◌, nat_lt, List, [], ◌∷◌, ◌++◌, length, take, drop, position_or_len, Consumes, Consumes-trans, drop-append_seam, take-append_seam, All-append, All-cons, All-nil, as_read, Seen, Option, refl, sym, ap, subst, ◌∙◌, append_assoc, append-nil, arith, take_all, take-take, length-append, length-take-le, eqb-true, zero-le, take_more, passes_at_first, Ends, EndsAt, IsLine, ReadsLine, StopsAtLine, Takes, lines_of, with_last, feed_of, ended, seen_of, slice_set, not}
+use Rattle.camp_talk.proofs.Words.{◌≡◌, ◌≢◌, ℕ, zero, suc, ◌+◌, ◌-◌, ◌<◌, ◌≤◌, min, Bool, true, false, cond, ◌==◌, nat_lt, List, [], ◌∷◌, ◌++◌, length, take, drop, position_or_len, Consumes, Consumes-trans, drop-append_seam, take-append_seam, All-append, All-cons, All-nil, as_read, Seen, Option, refl, sym, ap, subst, ◌∙◌, append_assoc, append-nil, arith, take_all, take-take, length-append, length-take-le, eqb-true, zero-le, take_more, passes_at_first, Ends, EndsAt, IsLine, ReadsLine, StopsAtLine, StopsInLine, Takes, lines_of, with_last, feed_of, ended, seen_of, slice_set, not}
 use Rattle.std.proofs.lemmas.Bool.{eqb-false, ltb-false, ltb-true}
 use Rattle.std.proofs.lemmas.Bool.Decides.{nat_tests}
 use Rattle.camp_talk.proofs.Cuts.{lines-last, lines-line}
@@ -69,6 +69,13 @@ module _ (shown : List ℕ) where
           ∙ ap (λ byte. take len shown ++ byte ∷ []) (eqb-true _ 10 (passes_at_first feed shown 0 (ltb-true len (length shown) more)))
       at false all true = ap (λ n. take n shown) (omega arith) ∙ sym (append-nil (take len shown))
       at false all false = ap (λ n. take n shown) (omega arith) ∙ sym (append-nil (take len shown))
+
+-- the bytes of a line and its line feed, if that is shown
+pub line_fed : (shown : List ℕ) → position_or_len feed shown < length shown
+    → take (position_or_len feed shown + 1) shown ≡ take (position_or_len feed shown) shown ++ 10 ∷ []
+line_fed shown within =
+    let len = position_or_len feed shown in
+    take_more shown len 0 within ∙ ap (λ byte. take len shown ++ byte ∷ []) (eqb-true _ 10 (passes_at_first feed shown 0 within))
 
 -- no more is taken than is shown
 pub taken_within : (shown before : ℕ) → before ≤ shown → before + length (feed_of (seen_of shown before)) ≤ shown
@@ -244,13 +251,8 @@ few_last (byte ∷ last) = omega arith
 
 module _ (a b : Option (List ℕ)) (line : List ℕ) (is : IsLine line) where
   -- in a line
-  pub stops_in_line : Consumes a b (line ++ []) → StopsAtLine a b
-  stops_in_line consumes = record {
-    some = line ++ [];
-    reads = consumes;
-    one = subst (λ (bytes : List ℕ). length (lines_of bytes) ≤ 1) (sym (append-nil line))
-        (subst (λ (ls : List (List ℕ)). length ls ≤ 1) (sym (lines-last line is)) (few_last line));
-  }
+  pub part_of_line : Consumes a b (line ++ []) → StopsInLine a b
+  part_of_line consumes = record { some = line; reads = subst (Consumes a b) (append-nil line) consumes; is_line = is }
 
   -- after a line
   pub stops_behind_line : Consumes a b (line ++ 10 ∷ []) → StopsAtLine a b
@@ -259,6 +261,14 @@ module _ (a b : Option (List ℕ)) (line : List ℕ) (is : IsLine line) where
     reads = consumes;
     one = subst (λ (ls : List (List ℕ)). length ls ≤ 1) (sym (lines-line line [] is)) (omega arith);
   }
+
+-- a part of a line is no more than a line
+pub stops_in_line : (a b : Option (List ℕ)) → StopsInLine a b → StopsAtLine a b
+stops_in_line a b stops = record {
+  some = stops.some;
+  reads = stops.reads;
+  one = subst (λ (ls : List (List ℕ)). length ls ≤ 1) (sym (lines-last stops.some stops.is_line)) (few_last stops.some);
+}
 
 -- nothing more is read
 pub stops_here : (a b c : Option (List ℕ)) (bytes : List ℕ) → Consumes a b bytes → Consumes b c [] → Consumes a c bytes

@@ -1,5 +1,6 @@
 -- How the lines of a conversation are grouped into commands: a first line, and those that belong to it.
-use Rattle.std.specs.Prelude.{◌≡◌, ℕ, nat_lt, List, [], ◌∷◌, ◌++◌, length, map, take, drop, Result, codes, if◌then◌else◌}
+use Rattle.std.specs.Prelude.{◌≡◌, ◌≢◌, ℕ, nat_lt, List, [], ◌∷◌, ◌++◌, length, map, take, drop, Result, codes, if◌then◌else◌}
+use Rattle.std.specs.List.{All}
 use Rattle.camp_base.specs.Limits.{longest_line}
 use Rattle.camp_base.specs.Signs.{newline}
 use Rattle.camp_call.specs.declared.calls.Call.{Call}
@@ -8,6 +9,10 @@ use Rattle.camp_script.specs.Lines.{lines_of}
 use Rattle.camp_script.specs.Reading.{script_of_lines}
 use Rattle.camp_script.specs.declared.faults.LineFault.{LineFault}
 use Rattle.camp_why.specs.Hints.{call_part}
+
+-- a line has no line feed in it
+abbrev pub IsLine : List ℕ → Type 0
+IsLine line = All (λ byte. byte ≢ newline) line
 
 -- bytes of the longest line that is read whole
 abbrev pub longest_read : ℕ

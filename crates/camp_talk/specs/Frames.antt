@@ -1,17 +1,18 @@
 -- Requests in frames: each comes after a line with its number of bytes, and so does its answer.
-use Rattle.std.specs.Prelude.{◌≡◌, ◌≢◌, ◌≤◌, ◌⊎◌, ℕ, Bool, true, false, List, [], ◌∷◌, ◌++◌, length, Option, OnSome, Some, Result, Ok, Err, codes}
+use Rattle.std.specs.Prelude.{◌≡◌, ◌≢◌, ◌<◌, ◌≤◌, ◌⊎◌, ℕ, Bool, true, false, List, [], ◌∷◌, ◌++◌, length, Option, OnSome, None, Some, Result, Ok, Err, codes}
 use Rattle.std.specs.Fmt.{decimal}
 use Rattle.std.specs.List.{flat_map}
 use Rattle.std.specs.Io.KnownBytes.{Appends, Consumes, IsAtEnd, Keeps}
 use Rattle.camp_base.specs.Signs.{newline}
 use Rattle.camp_script.specs.Words.{count_of}
+use Rattle.camp_talk.specs.Cutting.{IsLine}
 use Rattle.camp_talk.specs.Entries.{Entries}
 use Rattle.camp_talk.specs.Faults.{fault_status, fault_words}
 use Rattle.camp_talk.specs.Requests.{AnswersRequest, AnswersSome}
 use Rattle.camp_talk.specs.Talks.{AppendsSome}
 use Rattle.camp_talk.specs.declared.frames.FrameFault.{FrameFault}
 use Rattle.camp_talk.specs.declared.frames.FrameFault.TheVariants.{Cut, NoNumber, Talk, TooLarge}
-use Rattle.camp_talk.specs.declared.faults.TalkFault.TheVariants.{Write}
+use Rattle.camp_talk.specs.declared.faults.TalkFault.TheVariants.{Internal, Memory, Read, Write}
 
 -- the most bytes of a request
 abbrev pub most_bytes : ℕ
@@ -32,13 +33,72 @@ framed answer = decimal (length answer) ++ newline ∷ answer
 abbrev pub BeginsNoFrame : List ℕ → Type 0
 BeginsNoFrame bytes = (request frame more : List ℕ) → IsFrame request frame → frame ≢ bytes ++ more
 
+-- no whole frame stands at the front of these bytes
+abbrev pub HasNoFrame : List ℕ → Type 0
+HasNoFrame bytes = (request frame more : List ℕ) → IsFrame request frame → bytes ≢ frame ++ more
+
+-- a line with the number of bytes of a request, and fewer bytes after it than it says
+pub record IsShortFrame (bytes : List ℕ) : Type 0 where
+  pub line : List ℕ
+  pub some : List ℕ
+  pub count : ℕ
+  pub counts : count_of line ≡ Some count
+  pub few : count ≤ most_bytes
+  pub short : length some < count
+  pub is : bytes ≡ line ++ newline ∷ some
+
+-- bytes end within a frame: within the line before a request, or within the request
+abbrev pub EndsWithin : List ℕ → Type 0
+EndsWithin bytes = IsLine bytes ⊎ IsShortFrame bytes
+
 -- a request, its frame, and its answer
 pub record Service : Type 0 where
   pub request : List ℕ
   pub frame : List ℕ
   pub answer : List ℕ
 
--- by the content of a reader and of a writer, before and after, if that is known
+-- by the content of a reader, before and after, if that is known
+module _ (remaining rest : Option (List ℕ)) where
+  -- exactly a line was read, and it is no number of 1 to 10 digits
+  pub record ReadsNoNumber : Type 0 where
+    pub line : List ℕ
+    pub is_line : IsLine line
+    pub none : count_of line ≡ None
+    pub reads : Consumes remaining rest (line ++ newline ∷ [])
+
+  -- exactly a line was read, and its number is greater than the most bytes of a request
+  pub record ReadsTooLarge : Type 0 where
+    pub line : List ℕ
+    pub count : ℕ
+    pub counts : count_of line ≡ Some count
+    pub large : most_bytes < count
+    pub reads : Consumes remaining rest (line ++ newline ∷ [])
+
+  -- no more was read than a part of a frame
+  pub record ReadsPart : Type 0 where
+    pub some : List ℕ
+    pub reads : Consumes remaining rest some
+    pub within : EndsWithin some
+
+  -- the input has ended within a frame, and what there was of it was read
+  pub record ReadsCut : Type 0 where
+    pub part : ReadsPart
+    pub some_are : part.some ≢ []
+    pub ends : OnSome remaining (IsAtEnd rest)
+
+  -- no frame was read. NoNumber: exactly a line was read, which is no number. TooLarge: exactly a line was read, whose
+  -- number is too great. Cut: the input has ended within a frame. Memory, Read: memory ran out or the reader failed
+  -- within a frame.
+  abbrev pub ReadsNoFrame : FrameFault → Type 0
+  ReadsNoFrame NoNumber = ReadsNoNumber
+  ReadsNoFrame TooLarge = ReadsTooLarge
+  ReadsNoFrame Cut = ReadsCut
+  ReadsNoFrame (Talk Memory) = ReadsPart
+  ReadsNoFrame (Talk (Read error)) = ReadsPart
+  ReadsNoFrame (Talk (Write error)) = ⊥
+  ReadsNoFrame (Talk Internal) = ⊥
+
+-- by that, and the content of a writer, before and after, if that is known
 module _ (remaining rest old new : Option (List ℕ)) where
   -- exactly the frame of a request was read, and exactly that of its answer was written
   pub record ServesOne (before after : Entries) : Type 0 where
@@ -55,21 +115,15 @@ module _ (remaining rest old new : Option (List ℕ)) where
     pub keeps : Keeps old new
     pub same : after ≡ before
 
-  -- the bytes that were read do not begin a frame
-  pub record ReadsNoFrame (before after : Entries) : Type 0 where
-    pub some : List ℕ
-    pub reads : Consumes remaining rest some
-    pub none : BeginsNoFrame some
+  -- no frame was read, so nothing was executed or written
+  pub record ServesNoFrame (before : Entries) (why : FrameFault) (after : Entries) : Type 0 where
+    pub reads : ReadsNoFrame remaining rest why
     pub keeps : Keeps old new
     pub same : after ≡ before
 
-  -- the input has ended within a frame
-  pub record ReadsCut (before after : Entries) : Type 0 where
-    pub some : List ℕ
-    pub some_are : some ≢ []
-    pub reads : Consumes remaining rest some
-    pub none : (request : List ℕ) → IsFrame request some → ⊥
-    pub ends : OnSome remaining (IsAtEnd rest)
+  -- nothing was read, executed or written
+  pub record StaysStill (before after : Entries) : Type 0 where
+    pub reads : Consumes remaining rest []
     pub keeps : Keeps old new
     pub same : after ≡ before
 
@@ -89,17 +143,19 @@ module _ (remaining rest old new : Option (List ℕ)) where
     pub answers : AnswersRequest before service.request service.answer after
     pub writes : AppendsSome old new (framed service.answer)
 
-  -- the service of one request. Ok: whether there may be more, or else the input has ended. NoNumber or TooLarge: no
-  -- frame begins like this. Cut: the input has ended within one. Any other fault: the request could not be read, or
-  -- not be answered whole, and nothing was written; or its answer could not be written.
+  -- the service of one request. Ok: whether there may be more, or else the input has ended. NoNumber, TooLarge or Cut:
+  -- no frame was read. Memory, Read: no frame was read, or a request was not answered whole, and nothing was written.
+  -- Write: the answer could not be written. Internal: nothing was read, or a request was not answered whole.
   abbrev pub Serves : Entries → Result Bool FrameFault → Entries → Type 0
   Serves before (Ok true) after = ServesOne before after
   Serves before (Ok false) after = ServesNoMore before after
-  Serves before (Err NoNumber) after = ReadsNoFrame before after
-  Serves before (Err TooLarge) after = ReadsNoFrame before after
-  Serves before (Err Cut) after = ReadsCut before after
+  Serves before (Err NoNumber) after = ServesNoFrame before NoNumber after
+  Serves before (Err TooLarge) after = ServesNoFrame before TooLarge after
+  Serves before (Err Cut) after = ServesNoFrame before Cut after
+  Serves before (Err (Talk Memory)) after = ServesNoFrame before (Talk Memory) after ⊎ AnswersNot before after
+  Serves before (Err (Talk (Read error))) after = ServesNoFrame before (Talk (Read error)) after ⊎ AnswersNot before after
   Serves before (Err (Talk (Write error))) after = WritesNot before after
-  Serves before (Err (Talk other)) after = (Keeps old new × (after ≡ before)) ⊎ AnswersNot before after
+  Serves before (Err (Talk Internal)) after = StaysStill before after ⊎ AnswersNot before after
 
 -- requests are answered one after the other, from these accepted calls
 abbrev pub ServedInTurn : Entries → List Service → Entries → Type 0

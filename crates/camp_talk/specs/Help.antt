@@ -77,7 +77,9 @@ details topic.Graph = page (
     codes "Where patches are named: these, what they need, and what needs them." ∷
     codes "An arrow leads to what a patch needs directly; a line joins two in conflict, which is red" ∷
     codes "and bold where it is open, and dashed and pale where it is settled." ∷ [])
-details topic.WhatIf = page (codes "If it would be accepted: the conflicts and the files that its branch would have, too." ∷ [])
+details topic.WhatIf = page (
+    codes "If it would be accepted: the conflicts that its branch would have, the pairs that would become" ∷
+    codes "unresolved and those that would be resolved, and the files." ∷ [])
 details topic.Why = page (
     codes "Its answer, and its line behind >. Of a refusal what that says, what stands against the command," ∷
     codes "and what can be done; of a fault what is to be seen in the line, and the rule." ∷ [])

@@ -1,5 +1,5 @@
 -- The laws of answers, and of loading.
-use Rattle.std.specs.Prelude.{◌≡◌, ◌≢◌, ◌↔◌, ◌⊎◌, ◌<◌, ◌≤◌, ◌^◌, ℕ, true, false, List, [], ◌∷◌, ◌++◌, length, map, Option, Some, Result, Ok, Err}
+use Rattle.std.specs.Prelude.{◌≡◌, ◌≢◌, ◌↔◌, ◌⊎◌, ◌<◌, ◌≤◌, ◌^◌, ℕ, true, false, List, [], ◌∷◌, ◌++◌, length, map, Option, None, Some, Result, Ok, Err}
 use Rattle.std.specs.Fmt.{decimal}
 use Rattle.std.specs.List.{All, AllByRecursion}
 use Rattle.camp_base.specs.Signs.{newline, space}
@@ -17,16 +17,17 @@ use Rattle.camp_script.specs.Canonical.{AreNames, IsScriptCall, call_text}
 use Rattle.camp_script.specs.Keeping.{calls_of, kept_text}
 use Rattle.camp_script.specs.Lines.{lines_of}
 use Rattle.camp_script.specs.Texts.{reply_text}
+use Rattle.camp_script.specs.Words.{count_of}
 use Rattle.camp_script.specs.declared.faults.FaultKind.{FaultKind}
 use Rattle.camp_script.specs.declared.faults.LineFault.{LineFault}
 use Rattle.camp_talk.specs.Accounts.{Account, awaits_some, begins_command, left_by, may_be, passed}
 use Rattle.camp_talk.specs.Against.{absent_sides, call_about, lack_text, lacked_text, no_branch_text, sides_text, target}
 use Rattle.camp_talk.specs.Answers.{Answers, Standing, memory_text}
 use Rattle.camp_talk.specs.Asking.{asked_by, first_of}
-use Rattle.camp_talk.specs.Cutting.{lines_in, longest_read}
+use Rattle.camp_talk.specs.Cutting.{IsLine, lines_in, longest_read}
 use Rattle.camp_talk.specs.Dialogues.{Leads}
 use Rattle.camp_talk.specs.Entries.{Entries}
-use Rattle.camp_talk.specs.Frames.{Counter, ServesAt, ServesInTurn}
+use Rattle.camp_talk.specs.Frames.{BeginsNoFrame, Counter, EndsWithin, HasNoFrame, ServesAt, ServesInTurn, most_bytes}
 use Rattle.camp_talk.specs.Loads.{Loads, tells_failure}
 use Rattle.camp_talk.specs.Refusals.{reason_of, saying}
 use Rattle.camp_talk.specs.Told.{counted}
@@ -53,6 +54,13 @@ abbrev pub RequestsAreServedInTurn : Type 0
 RequestsAreServedInTurn =
     (first last : Counter) (over : List Counter) → Leads ServesAt first over last →
     ServesInTurn first.left last.left first.held last.held first.history last.history
+
+-- what is read of a request that is not served: a line that is no number of bytes, or too great a one, begins no frame;
+-- and no whole frame stands at the front of a part of one
+pub record UnservedBytesHaveNoFrame : Type 0 where
+  pub no_number : (line : List ℕ) → IsLine line → count_of line ≡ None → BeginsNoFrame (line ++ newline ∷ [])
+  pub too_large : (line : List ℕ) (count : ℕ) → count_of line ≡ Some count → most_bytes < count → BeginsNoFrame (line ++ newline ∷ [])
+  pub part : (bytes : List ℕ) → EndsWithin bytes → HasNoFrame bytes
 
 -- the parsed command has a fault, or this text is that of a refusal
 abbrev pub Failed : Result Asked LineFault → List ℕ → Type 0

@@ -4,6 +4,7 @@ pub mod Answers
 pub mod Asking
 pub mod Cutting
 pub mod Dialogues
+pub mod Engine
 pub mod Entries
 pub mod Faults
 pub mod Frames

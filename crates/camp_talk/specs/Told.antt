@@ -73,9 +73,13 @@ abbrev pub file_told : Option Lines → List ℕ
 file_told None = no_file_told
 file_told (Some lines) = counted (codes "file") (flat_map (signed_line equals_sign) lines)
 
+-- pairs of patches after a word
+abbrev pub pairs_told : List ℕ → List (List ℕ × List ℕ) → List ℕ
+pairs_told word pairs = counted word (flat_map pair_text pairs)
+
 -- pairs of patches in an unresolved conflict
 abbrev pub open_told : List (List ℕ × List ℕ) → List ℕ
-open_told pairs = counted (codes "open") (flat_map pair_text pairs)
+open_told pairs = pairs_told (codes "open") pairs
 
 -- the changes of a side, in the form of a group of a script
 abbrev pub side_told : List Primitive → List ℕ
@@ -127,10 +131,16 @@ catch_line catch = catch_text [] catch ++ newline ∷ []
 abbrev pub patch_told : Patch → List ℕ
 patch_told patch = counted (codes "show") (flat_map catch_line patch.catches ++ flat_map change_text patch.changes)
 
--- the state of a branch: its conflicts and its tree, each as the question for it is answered
+-- the conflicts that would become unresolved, and those that would be resolved
+abbrev pub changes_told : Standing → List ℕ
+changes_told standing =
+    pairs_told (codes "opened") standing.opened ++ pairs_told (codes "resolved") standing.resolved
+
+-- the state of a branch: its conflicts, as the question for them is answered; what is changed about unresolved ones;
+-- and its tree, as the question for it is answered
 abbrev pub standing_text : Option Standing → List ℕ
 standing_text None = []
-standing_text (Some standing) = conflicts_text standing.conflicts ++ tree_text standing.tree
+standing_text (Some standing) = conflicts_text standing.conflicts ++ changes_told standing ++ tree_text standing.tree
 
 -- the reply that a call would get, and the state of the branch that it would write to
 abbrev pub foreseen_told : Foreseen → List ℕ

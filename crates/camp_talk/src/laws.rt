@@ -1,4 +1,5 @@
-ghost use Rattle.camp_talk.specs.Laws.{CausesAreTold, CountsAreTold, FailuresAreTold, FaultsAreTold, KeptIsLoaded, RecordsAreAwaited, RefusalsAreTold, RequestsAreServedInTurn};
+//! Laws of answers: counts, failures, diagnostics, requests, and loading what `keep` writes.
+ghost use Rattle.camp_talk.specs.Laws.{CausesAreTold, CountsAreTold, FailuresAreTold, FaultsAreTold, KeptIsLoaded, RecordsAreAwaited, RefusalsAreTold, RequestsAreServedInTurn, UnservedBytesHaveNoFrame};
 ghost use Rattle.camp_talk.specs.Visible.{ShownBytesArePrintable};
 
 /// The first line of a counted answer gives the number of lines that follow.
@@ -45,6 +46,13 @@ pub fn faults_are_told()
 /// line, or a line that may be one was no command, and each command after it is one of these lines.
 pub fn records_are_awaited()
     ensures law { RecordsAreAwaited }
+{}
+
+/// A line that is no number of bytes, or too great a one, begins no frame; and what is read of a frame that
+/// is not whole has no whole one at its front. So no whole request is read and left unanswered at a fault.
+#[tactic(auto, using(crate::proofs::FrameLemmas::unserved_bytes_have_no_frame))]
+pub fn unserved_bytes_have_no_frame()
+    ensures law { UnservedBytesHaveNoFrame }
 {}
 
 /// Bytes of a command or a file that `why` shows are printable ASCII characters, whatever they are.

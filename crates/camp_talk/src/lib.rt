@@ -6,6 +6,7 @@ mod answers;
 mod asking;
 mod awaited;
 mod dialogues;
+mod engine;
 mod faults;
 mod frames;
 mod laws;
@@ -38,11 +39,13 @@ pub use accounts::Account;
 pub use answers::write_answer;
 pub use camp_repo::{Book, LimitFault, Limits, State, new_book};
 pub use dialogues::{Conversation, Dialogue, talk};
+pub use engine::{Backend, Frames, Framing, GroupLimits, Stop, responses_are_durable, run};
 pub use faults::{LoadFault, TalkFault};
 pub use frames::{FrameFault, FramedConversation};
 pub use laws::{
     causes_are_told, counts_are_told, failures_are_told, faults_are_told, kept_is_loaded,
     records_are_awaited, refusals_are_told, requests_are_served_in_turn, shown_bytes_are_printable,
+    unserved_bytes_have_no_frame,
 };
 pub use loads::load;
 pub use questions::{Question, Reason, Topic};

@@ -5,7 +5,7 @@ ghost use Rattle.std.specs.IoError.{error_kind};
 ghost use Rattle.std.specs.List.{position_or_len};
 ghost use Rattle.camp_base.specs.Signs.{newline};
 ghost use Rattle.camp_talk.specs.Cutting.{as_read, longest_read};
-ghost use Rattle.camp_talk.specs.Inside.Parts.{IsReading, ReadsLine, StopsAtLine, Takes, feed_of, last_seen, seen_of};
+ghost use Rattle.camp_talk.specs.Inside.Parts.{IsReading, ReadsLine, StopsAtLine, StopsInLine, Takes, feed_of, last_seen, seen_of};
 ghost use Rattle.camp_talk.specs.declared.faults.TalkFault.TheVariants as fault;
 
 use crate::TalkFault;
@@ -56,7 +56,7 @@ pub(crate) fn read_front<R: BufRead>(reader: &mut R, text: &mut Vec<u8>) -> Resu
     ensures front { IfOk result (λ whole. Takes (R.remaining reader.old) (R.remaining reader.new)
         (longest_read + 1) (last_seen whole) text.old.items text.new.items) }
     ensures fault { IfErr result IsReading }
-    ensures stops { IfErr result (λ why. StopsAtLine (R.remaining reader.old) (R.remaining reader.new)) }
+    ensures stops { IfErr result (λ why. StopsInLine (R.remaining reader.old) (R.remaining reader.new)) }
 {
     let start = text.len();
     for _ in 0..u64::MAX {
@@ -120,8 +120,8 @@ pub(crate) fn hold(text: &mut Vec<u8>, bytes: &[u8]) -> Result<(), TalkFault>
     }
 }
 
-// Counts the bytes before the first line feed, or all if there is none.
-fn line_len(shown: &[u8]) -> usize
+/// Counts the bytes before the first line feed, or all if there is none.
+pub(crate) fn line_len(shown: &[u8]) -> usize
     ensures place { result ≡ position_or_len (λ byte. byte == newline) shown.now }
     ensures within { result ≤ length shown.now }
 {

@@ -1,8 +1,8 @@
 //! Serving one request in its frame.
-ghost use Rattle.std.specs.Prelude.{◌≡◌, [], true, IfErr, IfOk, MatchOption, MatchResult};
-ghost use Rattle.std.specs.Io.KnownBytes.{Appends};
-ghost use Rattle.camp_talk.specs.Frames.{Serves, framed};
-ghost use Rattle.camp_talk.specs.Inside.Framing.{IsCounted, IsNotCounted, ReadsBytes, ReadsFrame, ReadsMore, ReadsNothing, StopsReading};
+ghost use Rattle.std.specs.Prelude.{◌≡◌, ◌+◌, [], true, IfErr, IfOk, MatchOption, MatchResult, OnErr};
+ghost use Rattle.std.specs.Io.KnownBytes.{Appends, Consumes};
+ghost use Rattle.camp_talk.specs.Frames.{ReadsNoFrame, Serves, framed};
+ghost use Rattle.camp_talk.specs.Inside.Framing.{IsCounted, IsNotCounted, ReadsBytes, ReadsFewer, ReadsFrame, ReadsMore, ReadsNothing};
 ghost use Rattle.camp_talk.specs.Inside.Parts.{IsReading};
 ghost use Rattle.camp_talk.specs.Inside.Said.{IsWriting};
 ghost use Rattle.camp_talk.specs.Talks.{AppendsSome, HasRisen};
@@ -21,7 +21,8 @@ const MAX_REQUEST: u64 = 268_435_456;
 
 /// Reads a request in its frame, answers it over a book at seat 0, writes the frame of the answer and
 /// flushes. True if there may be more; else the input has ended. `served` counts the requests that were
-/// served.
+/// served: each adds one. After a fault of the frame exactly a line was read, or the input ended within the
+/// frame; no whole frame is read and not answered.
 pub fn serve<R: BufRead, W: Write>(
     alloc: Global,
     book: &mut Book<State>,
@@ -32,6 +33,7 @@ pub fn serve<R: BufRead, W: Write>(
     ensures serves { Serves (R.remaining reader.old) (R.remaining reader.new) (W.contents writer.old) (W.contents writer.new)
         book.old result book.new }
     ensures counts { IfOk result (λ more. more ≡ true → HasRisen served.old served.new) }
+    ensures one { IfOk result (λ more. more ≡ true → served.new ≡ served.old + 1) }
 {
     let Some(after) = served.checked_add(1) else {
         return Err(FrameFault::Talk(TalkFault::Internal));
@@ -46,12 +48,15 @@ pub fn serve<R: BufRead, W: Write>(
     Ok(true)
 }
 
-// Reads the frame of a request, if there is one more.
-fn read_request<R: BufRead>(alloc: Global, reader: &mut R) -> Result<Option<Vec<u8>>, FrameFault>
+/// Reads the frame of a request, if there is one more.
+pub(crate) fn read_request<R: BufRead>(
+    alloc: Global,
+    reader: &mut R,
+) -> Result<Option<Vec<u8>>, FrameFault>
     ensures reads { IfOk result (λ found. MatchOption found
         (ReadsNothing (R.remaining reader.old) (R.remaining reader.new))
         (λ request. ReadsFrame (R.remaining reader.old) (R.remaining reader.new) request.items)) }
-    ensures fault { IfErr result (StopsReading (R.remaining reader.old) (R.remaining reader.new)) }
+    ensures fault { IfErr result (ReadsNoFrame (R.remaining reader.old) (R.remaining reader.new)) }
 {
     let mut line = Vec::new(alloc);
     if !read_front(reader, &mut line)? {
@@ -68,8 +73,8 @@ fn read_request<R: BufRead>(alloc: Global, reader: &mut R) -> Result<Option<Vec<
     Ok(Some(request))
 }
 
-// Parses the line before a request as its number of bytes.
-fn request_len(line: &[u8]) -> Result<u64, FrameFault>
+/// Parses the line before a request as its number of bytes.
+pub(crate) fn request_len(line: &[u8]) -> Result<u64, FrameFault>
     ensures { MatchResult result (IsCounted line.now) (IsNotCounted line.now) }
 {
     match count_of(line) {
@@ -88,14 +93,17 @@ fn read_bytes<R: BufRead>(
     requires { bytes.old.items ≡ [] }
     ensures reads { IfOk result (λ all. ReadsBytes (R.remaining reader.old) (R.remaining reader.new) count all bytes.new.items) }
     ensures fault { IfErr result IsReading }
+    ensures stops { OnErr result (ReadsFewer (R.remaining reader.old) (R.remaining reader.new) count) }
 {
+    if count == 0 {
+        return Ok(true);
+    }
     for _ in 0..u64::MAX {
-        let read = bytes.len() as u64;
-        if read >= count {
-            return Ok(true);
-        }
-        if !read_more(reader, bytes, count - read)? {
+        if !read_more(reader, bytes, count - bytes.len() as u64)? {
             return Ok(false);
+        }
+        if bytes.len() as u64 >= count {
+            return Ok(true);
         }
     }
     Err(TalkFault::Read(ErrorKind::TimedOut.into()))
@@ -105,6 +113,7 @@ fn read_bytes<R: BufRead>(
 fn read_more<R: BufRead>(reader: &mut R, bytes: &mut Vec<u8>, room: u64) -> Result<bool, TalkFault>
     ensures reads { IfOk result (λ more. ReadsMore (R.remaining reader.old) (R.remaining reader.new) room more bytes.old.items bytes.new.items) }
     ensures fault { IfErr result IsReading }
+    ensures none { OnErr result (Consumes (R.remaining reader.old) (R.remaining reader.new) []) }
 {
     let shown = match reader.fill_buf() {
         Ok(shown) => shown,

@@ -3,7 +3,7 @@ ghost use Rattle.std.specs.Prelude.{◌≡◌, ◌++◌, IfOk, OnOk};
 ghost use Rattle.std.specs.List.{flat_map};
 ghost use Rattle.camp_script.specs.Texts.{pair_text};
 ghost use Rattle.camp_talk.specs.Inside.Said.{TellsFound};
-ghost use Rattle.camp_talk.specs.Told.{marked_lines, marks_told, open_told, place_text, side_text, side_told};
+ghost use Rattle.camp_talk.specs.Told.{marked_lines, marks_told, open_told, pairs_told, place_text, side_text, side_told};
 
 use crate::told::{append_parts, counted_text, unanswered};
 use crate::told_lines::no_file;
@@ -22,9 +22,20 @@ pub(crate) fn tell_open(
     ensures { IfOk result (λ text. TellsFound open_told found text.items) }
 {
     match found {
-        Ok(pairs) => counted_text(alloc, "open", pairs_text(alloc, pairs.pairs())),
+        Ok(pairs) => tell_pairs(alloc, "open", &pairs),
         Err(why) => unanswered(alloc, why),
     }
+}
+
+/// Renders pairs of patches after a word and the number of their lines.
+pub(crate) fn tell_pairs(
+    alloc: Global,
+    word: &str,
+    pairs: &Conflicts,
+) -> Result<Vec<u8>, AllocError>
+    ensures { IfOk result (λ text. text.items ≡ pairs_told word.now pairs.now) }
+{
+    counted_text(alloc, word, pairs_text(alloc, pairs.pairs()))
 }
 
 fn pairs_text(alloc: Global, pairs: &[(Name, Name)]) -> Result<Vec<u8>, AllocError>

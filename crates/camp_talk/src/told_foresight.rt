@@ -3,9 +3,10 @@ ghost use Rattle.std.specs.Prelude.{◌≡◌, IfOk};
 ghost use Rattle.camp_questions.specs.Foresight.{Foresees};
 ghost use Rattle.camp_questions.specs.declared.foresight.Foreseen.{Foreseen as SaidForeseen};
 ghost use Rattle.camp_script.specs.Texts.{reply_text};
-ghost use Rattle.camp_talk.specs.Told.{foreseen_told, standing_text};
+ghost use Rattle.camp_talk.specs.Told.{changes_told, foreseen_told, standing_text};
 
 use crate::told::{both, counted_text};
+use crate::told_conflicts::tell_pairs;
 use camp_questions::{Foreseen, Standing, what_if};
 use camp_repo::{Call, Reply, State};
 use camp_script::answer_text;
@@ -42,8 +43,18 @@ fn standing_text(alloc: Global, standing: Option<Standing>) -> Result<Vec<u8>, A
     let Some(standing) = standing else {
         return Ok(Vec::new(alloc));
     };
+    let changes = changes_text(alloc, &standing);
     let conflicts = reply_text(alloc, Reply::Conflicts(standing.conflicts));
-    both(conflicts, reply_text(alloc, Reply::Tree(standing.tree)))
+    let tree = reply_text(alloc, Reply::Tree(standing.tree));
+    both(conflicts, both(changes, tree))
+}
+
+/// Renders the conflicts that would become unresolved, and those that would be resolved.
+fn changes_text(alloc: Global, standing: &Standing) -> Result<Vec<u8>, AllocError>
+    ensures { IfOk result (λ text. text.items ≡ changes_told standing.now) }
+{
+    let opened = tell_pairs(alloc, "opened", &standing.opened);
+    both(opened, tell_pairs(alloc, "resolved", &standing.resolved))
 }
 
 fn reply_text(alloc: Global, reply: Reply) -> Result<Vec<u8>, AllocError>

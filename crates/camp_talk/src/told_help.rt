@@ -178,7 +178,8 @@ fn details(topic: Topic) -> &'static str
         Topic::Marks => MARKS,
         Topic::Graph => GRAPH,
         Topic::WhatIf => {
-            "If it would be accepted: the conflicts and the files that its branch would have, too.\n"
+            "If it would be accepted: the conflicts that its branch would have, the pairs that would become\n\
+            unresolved and those that would be resolved, and the files.\n"
         }
         Topic::Why => WHY,
         Topic::History =>

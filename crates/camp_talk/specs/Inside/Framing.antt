@@ -1,9 +1,9 @@
 -- How much of the frame of a request was read.
-use Rattle.std.specs.Prelude.{◌≡◌, ◌≢◌, ◌<◌, ◌≤◌, ℕ, Bool, true, false, List, [], ◌++◌, length, Option, None, Some}
+use Rattle.std.specs.Prelude.{◌≡◌, ◌<◌, ◌≤◌, ℕ, Bool, true, false, List, [], ◌++◌, length, Option, None, Some}
 use Rattle.std.specs.Io.KnownBytes.{Consumes}
 use Rattle.camp_script.specs.Words.{count_of}
-use Rattle.camp_talk.specs.Frames.{BeginsNoFrame, IsFrame, most_bytes}
-use Rattle.camp_talk.specs.Inside.Parts.{Ends, IsReading}
+use Rattle.camp_talk.specs.Frames.{IsFrame, most_bytes}
+use Rattle.camp_talk.specs.Inside.Parts.{Ends}
 use Rattle.camp_talk.specs.declared.frames.FrameFault.{FrameFault}
 use Rattle.camp_talk.specs.declared.frames.FrameFault.TheVariants.{Cut, NoNumber, Talk, TooLarge}
 
@@ -30,6 +30,12 @@ module _ (remaining rest : Option (List ℕ)) where
   ReadsBytes count true bytes = Consumes remaining rest bytes × (length bytes ≡ count)
   ReadsBytes count false bytes = Consumes remaining rest bytes × (length bytes < count) × Ends remaining rest
 
+  -- fewer bytes were read than were wanted
+  pub record ReadsFewer (count : ℕ) : Type 0 where
+    pub some : List ℕ
+    pub reads : Consumes remaining rest some
+    pub fewer : length some < count
+
   -- the frame of a request was read
   pub record ReadsFrame (request : List ℕ) : Type 0 where
     pub frame : List ℕ
@@ -40,24 +46,3 @@ module _ (remaining rest : Option (List ℕ)) where
   pub record ReadsNothing : Type 0 where
     pub reads : Consumes remaining rest []
     pub ends : Ends remaining rest
-
-  -- the bytes that were read do not begin a frame
-  pub record ReadsOther : Type 0 where
-    pub some : List ℕ
-    pub reads : Consumes remaining rest some
-    pub none : BeginsNoFrame some
-
-  -- the input has ended within a frame
-  pub record ReadsPartly : Type 0 where
-    pub some : List ℕ
-    pub some_are : some ≢ []
-    pub reads : Consumes remaining rest some
-    pub none : (request : List ℕ) → IsFrame request some → ⊥
-    pub ends : Ends remaining rest
-
-  -- no frame could be read
-  abbrev pub StopsReading : FrameFault → Type 0
-  StopsReading NoNumber = ReadsOther
-  StopsReading TooLarge = ReadsOther
-  StopsReading Cut = ReadsPartly
-  StopsReading (Talk why) = IsReading why

@@ -1,21 +1,17 @@
 -- How much of a command was read.
-use Rattle.std.specs.Prelude.{◌≡◌, ◌≢◌, ◌==◌, ◌^◌, ◌<◌, ◌≤◌, nat_lt, if◌then◌else◌, ℕ, Bool, true, false, List, [], ◌∷◌, ◌++◌, length, map, take, Option, OnSome}
+use Rattle.std.specs.Prelude.{◌≡◌, ◌==◌, ◌^◌, ◌<◌, ◌≤◌, nat_lt, if◌then◌else◌, ℕ, Bool, true, false, List, [], ◌∷◌, ◌++◌, length, map, take, Option, OnSome}
 use Rattle.std.specs.List.{All, flat_map}
 use Rattle.std.specs.Io.KnownBytes.{Consumes, IsAtEnd}
 use Rattle.camp_base.specs.Signs.{newline}
 use Rattle.camp_script.specs.CommandLines.{HasRead}
 use Rattle.camp_script.specs.Lines.{lines_of}
 use Rattle.camp_script.specs.declared.command_lines.CommandLines.{CommandLines}
-use Rattle.camp_talk.specs.Cutting.{as_read, lines_in}
+use Rattle.camp_talk.specs.Cutting.{IsLine, as_read, lines_in}
 use Rattle.camp_talk.specs.declared.faults.TalkFault.{TalkFault}
 use Rattle.camp_talk.specs.declared.faults.TalkFault.TheVariants.{Internal, Memory, Read, Write}
 use Rattle.camp_talk.specs.Talks.{ReadsCommand}
 use Rattle.camp_talk.specs.declared.lines.Seen.{Seen}
 use Rattle.camp_talk.specs.declared.lines.Seen.TheVariants as seen
-
--- a line has no line feed in it
-abbrev pub IsLine : List ℕ → Type 0
-IsLine line = All (λ byte. byte ≢ newline) line
 
 -- lines, each with its line feed
 abbrev pub ended : List (List ℕ) → List ℕ
@@ -49,6 +45,12 @@ module _ (remaining rest : Option (List ℕ)) where
   -- nothing is left, if the content of the reader is known
   abbrev pub Ends : Type 0
   Ends = OnSome remaining (IsAtEnd rest)
+
+  -- a part of a line was read, without its line feed, or nothing
+  pub record StopsInLine : Type 0 where
+    pub some : List ℕ
+    pub reads : Consumes remaining rest some
+    pub is_line : IsLine some
 
   -- a line was read, or a part of one, or nothing
   pub record StopsAtLine : Type 0 where

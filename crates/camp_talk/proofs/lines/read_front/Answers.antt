@@ -1,5 +1,5 @@
-use Rattle.camp_talk.proofs.Words.{StopsAtLine, Consumes-nil, ◌≡◌, ◌++◌, [], length, take, ap, arith, rules, length-append, length-take}
-use Rattle.camp_talk.proofs.LineReads.{none_taken, stops_here, stops_in_line, taken_on}
+use Rattle.camp_talk.proofs.Words.{StopsInLine, Consumes-nil, ◌≡◌, ◌++◌, [], length, take, ap, arith, rules, length-append, length-take}
+use Rattle.camp_talk.proofs.LineReads.{none_taken, part_of_line, stops_here, taken_on}
 use Rattle.camp_talk.proofs.lines.read_front.Goals as goal
 
 pub loop-init : goal.loop-init
@@ -18,12 +18,12 @@ returns-in_err-read_some-clause-stops g c =
     let a = g.R.Read.remaining c.args.reader.now in
     let b = g.R.Read.remaining c.loop.reader in
     let d = g.R.Read.remaining c.read_some.new.reader in
-    let stops : StopsAtLine a d = stops_in_line a d c.loop.invariant.line c.loop.invariant.is_line
+    let stops : StopsInLine a d = part_of_line a d c.loop.invariant.line c.loop.invariant.is_line
     (stops_here a b d (c.loop.invariant.line ++ []) c.loop.invariant.consumes c.in_err-read_some.ensures.none) in
     search (rules, stops)
 
 pub returns-clause-stops : goal.returns-clause-stops
-returns-clause-stops g c = stops_in_line _ _ c.loop.invariant.line c.loop.invariant.is_line c.loop.invariant.consumes
+returns-clause-stops g c = part_of_line _ _ c.loop.invariant.line c.loop.invariant.is_line c.loop.invariant.consumes
 
 pub returns-in-Line-clause-front : goal.returns-in-Line-clause-front
 returns-in-Line-clause-front g c =

@@ -1,5 +1,5 @@
 use Rattle.camp_talk.proofs.Words.{◌≡◌, ◌++◌, Bool, length, take, drop, subst, rules, as_read, Takes, last_seen}
-use Rattle.camp_talk.proofs.LineReads.{last_line, stops_behind_line, whole_line}
+use Rattle.camp_talk.proofs.LineReads.{last_line, stops_behind_line, stops_in_line, whole_line}
 use Rattle.camp_talk.proofs.lines.read_line.Goals as goal
 
 pub returns-then-not-is_whole-clause-line : goal.returns-then-not-is_whole-clause-line
@@ -33,3 +33,6 @@ returns-in-Err-clause-stops g c =
     let takes = subst (λ (whole : Bool). Takes a b 1_048_577 (last_seen whole) c.args.text.now.items c.read_front.new.text.items)
     c.if-not-is_whole.false c.in_ok-is_whole.ensures.front in
     stops_behind_line a b takes.line takes.is_line takes.consumes
+
+pub returns-in_err-is_whole-clause-stops : goal.returns-in_err-is_whole-clause-stops
+returns-in_err-is_whole-clause-stops g c = search (rules, stops_in_line _ _ c.in_err-is_whole.ensures.stops)

@@ -1,6 +1,7 @@
 use Rattle.camp_talk.proofs.Words.{◌≡◌, ◌∙◌, sym, Bool, true, false, List, ℕ, ap, length, rules, subst, Takes, last_seen}
-use Rattle.camp_talk.proofs.FrameLemmas.{some_are, reads_cut_line, reads_cut_request, reads_frame, reads_nothing, reads_other}
-use Rattle.camp_talk.specs.Inside.Framing.{IsCounted, IsNotCounted, ReadsBytes, StopsReading}
+use Rattle.camp_talk.proofs.FrameLemmas.{some_are, reads_cut_line, reads_cut_request, reads_frame, reads_nothing, reads_other, stops_in_front, stops_in_request}
+use Rattle.camp_talk.specs.Frames.{ReadsNoFrame}
+use Rattle.camp_talk.specs.Inside.Framing.{IsCounted, IsNotCounted, ReadsBytes}
 use Rattle.camp_talk.specs.declared.lines.Seen.TheVariants as seen
 use Rattle.camp_talk.proofs.serving.read_request.Given.{Over}
 use Rattle.camp_talk.proofs.serving.read_request.Goals.{After-is_empty, After-request_len}
@@ -43,7 +44,7 @@ returns-in_err-count-clause-fault g c =
     let a = g.R.Read.remaining c.args.reader.now in
     let b = g.R.Read.remaining c.read_front.new.reader in
     let why = c.in_err-count.field-0.0 in
-    let stops : StopsReading a b why =
+    let stops : ReadsNoFrame a b why =
     reads_other a b c.new-line.result.items c.read_front.new.text.items (line g then) c.new-line.ensures.items why
     (subst (λ (bytes : List ℕ). IsNotCounted bytes why) c.deref.ensures.value c.in_err-count.ensures) in
     search (rules, stops)
@@ -65,3 +66,19 @@ returns-clause-reads g c =
     (subst (λ bytes. IsCounted bytes c.in_ok-count.count) c.deref.ensures.value c.in_ok-count.ensures)
     (subst (λ (all : Bool). ReadsBytes (g.R.Read.remaining c.read_front.new.reader) (g.R.Read.remaining c.read_bytes.new.reader) c.in_ok-count.count all c.read_bytes.new.bytes.items)
     all c.in_ok-read_bytes.ensures.reads)
+
+pub returns-in_err-read_front-clause-fault : goal.returns-in_err-read_front-clause-fault
+returns-in_err-read_front-clause-fault g c =
+    let a = g.R.Read.remaining c.args.reader.now in
+    let b = g.R.Read.remaining c.read_front.new.reader in
+    let why = c.in_err-read_front.field-0.0 in
+    let stops = stops_in_front a b why c.in_err-read_front.ensures.fault c.in_err-read_front.ensures.stops in
+    search (rules, stops)
+
+pub returns-in_err-read_bytes-clause-fault : goal.returns-in_err-read_bytes-clause-fault
+returns-in_err-read_bytes-clause-fault g c =
+    let then = (goal.at.returns-in_err-read_bytes-clause-fault g c).After-request_len in
+    let stops = stops_in_request _ _ (g.R.Read.remaining c.read_bytes.new.reader) c.new-line.result.items c.read_front.new.text.items (line g then) c.new-line.ensures.items c.in_ok-count.count
+    (subst (λ bytes. IsCounted bytes c.in_ok-count.count) c.deref.ensures.value c.in_ok-count.ensures)
+    c.in_err-read_bytes.ensures.stops _ c.in_err-read_bytes.ensures.fault in
+    search (rules, stops)

@@ -1,0 +1,136 @@
+-- Conversations grow by a group.
+use Rattle.std.proofs.Common.{◌≡◌, ℕ, ◌+◌, ◌-◌, ◌^◌, List, [], ◌∷◌, ◌++◌, length, Option, Result, Ok, Err, refl, sym, ◌∙◌, ap, subst, append-nil, arith, length-append, flat_map}
+use Rattle.std.proofs.KnownBytes.{Appends-nil, Appends-trans, Consumes-nil, Consumes-trans}
+use Rattle.std.proofs.lemmas.Grind.{flat_map-append}
+use Rattle.std.specs.Io.KnownBytes.{Appends, Consumes}
+use Rattle.camp_talk.specs.Engine.Groups.{Follows, HasSteps, IfSteps, RunsGroup, Step, responses}
+use Rattle.camp_talk.specs.Engine.Runs.{Commits, EndsAfterGroup, HasRun, IsCommitted, ResponsesAreDurable, RunsAll, Settles, UnlessCommitFails}
+use Rattle.camp_talk.specs.declared.engine.backends.Backend as backends
+use Rattle.camp_talk.specs.declared.engine.framings.Framing as framings
+use Rattle.camp_talk.specs.declared.engine.groups.GroupLimits.{GroupLimits}
+use Rattle.camp_talk.specs.declared.engine.groups.Halt.{Halt}
+use Rattle.camp_talk.specs.declared.engine.groups.Halt.TheVariants as halt
+use Rattle.camp_talk.specs.declared.engine.runs.Stop.{Stop}
+use Rattle.camp_talk.specs.declared.engine.runs.Stop.TheVariants as stop
+
+module _ {B F Q A E H : Type 0} (backend : backends.Ghosts B Q A E) (framing : framings.Ghosts F Q A H) (limits : GroupLimits) where
+  commits_more : (first : B) (from : F) (groups : List (List (Step Q A))) (begun : B) (at : F) (steps : List (Step Q A)) (executed : B) (to : F) (last : B)
+      → Commits backend framing limits first from groups begun at → HasSteps steps → Follows backend framing limits begun at [] steps executed to → IsCommitted backend executed last
+      → Commits backend framing limits first from (groups ++ steps ∷ []) last to
+  commits_more first from [] begun at steps executed to last (same, same_too) some follows committed = (
+    executed,
+    last,
+    to,
+    some,
+    subst (λ (b : B). Follows backend framing limits b from [] steps executed to) (sym same)
+        (subst (λ (f : F). Follows backend framing limits begun f [] steps executed to) (sym same_too) follows),
+    committed,
+    (refl, refl),
+  )
+  commits_more first from (group ∷ groups) begun at steps executed to last (done, next, on, several, follow, settled, more) some follows committed =
+      (done, next, on, several, follow, settled, commits_more next on groups begun at steps executed to last more some follows committed)
+
+  follows_read : (before : B) (from : F) (pending : List ℕ) (steps : List (Step Q A)) (after : B) (to : F)
+      → Follows backend framing limits before from pending steps after to
+      → Consumes (framing.remaining from) (framing.remaining to) (flat_map (λ (step : Step Q A). step.bytes) steps)
+  follows_read before from pending [] after to (same, same_too) =
+      subst (λ (f : F). Consumes (framing.remaining from) (framing.remaining f) []) same_too (Consumes-nil (framing.remaining from))
+  follows_read before from pending (step ∷ steps) after to (next, on, one, ahead, more) =
+      Consumes-trans (framing.remaining from) (framing.remaining on) (framing.remaining to) step.bytes (flat_map (λ (s : Step Q A). s.bytes) steps)
+      one.consumes (follows_read next on (pending ++ framing.renders step.response) steps after to more)
+
+  commits_read : (first : B) (from : F) (groups : List (List (Step Q A))) (last : B) (to : F) → Commits backend framing limits first from groups last to
+      → Consumes (framing.remaining from) (framing.remaining to) (flat_map (λ (steps : List (Step Q A)). flat_map (λ (step : Step Q A). step.bytes) steps) groups)
+  commits_read first from [] last to (same, same_too) =
+      subst (λ (f : F). Consumes (framing.remaining from) (framing.remaining f) []) same_too (Consumes-nil (framing.remaining from))
+  commits_read first from (steps ∷ groups) last to (executed, next, on, some, follows, committed, more) =
+      Consumes-trans (framing.remaining from) (framing.remaining on) (framing.remaining to) (flat_map (λ (s : Step Q A). s.bytes) steps)
+      (flat_map (λ (ss : List (Step Q A)). flat_map (λ (s : Step Q A). s.bytes) ss) groups)
+      (follows_read first from [] steps executed on follows) (commits_read next on groups last to more)
+
+  pub run_begins : (first : B) (from : F) (old : Option (List ℕ)) → (done : HasRun backend framing limits first from old first from old) × (length done.groups ≡ 0)
+  run_begins first from old = (record { groups = []; commits = (refl, refl); reads = Consumes-nil (framing.remaining from); writes = Appends-nil old }, refl)
+
+  module _ (first : B) (from : F) (old : Option (List ℕ)) (begun : B) (at : F) (held : Option (List ℕ)) (earlier : HasRun backend framing limits first from old begun at held)
+      (executed : B) (to : F) (text : List ℕ) (last : B) (new : Option (List ℕ)) where
+    -- one more group was committed and written
+    pub run_goes_on : (count : ℕ) → length earlier.groups ≡ count → RunsGroup backend framing limits begun at halt.Pause executed to text → (done : Unit {0})
+        → Settles {H = H} backend executed text held (Ok done) last new → (run : HasRun backend framing limits first from old last to new) × (length run.groups ≡ count + 1)
+    run_goes_on count counted gathers done (committed, writes) = (
+      record {
+        groups = earlier.groups ++ steps ∷ [];
+        commits = commits;
+        reads = commits_read first from (earlier.groups ++ steps ∷ []) last to commits;
+        writes = subst (Appends old new) joined (Appends-trans old held new _ _ earlier.writes (subst (Appends held new) gathers.gathered.text_is writes));
+      },
+      length-append earlier.groups (steps ∷ []) ∙ ap (λ (n : ℕ). n + 1) counted,
+    )
+      where
+        steps : List (Step Q A)
+        steps = gathers.gathered.steps
+
+        follows : Follows backend framing limits begun at [] steps executed to
+        follows = subst (λ (b : B). Follows backend framing limits begun at [] steps b to) gathers.halts.0
+            (subst (λ (f : F). Follows backend framing limits begun at [] steps gathers.middle f) gathers.halts.1 gathers.gathered.follows)
+
+        commits : Commits backend framing limits first from (earlier.groups ++ steps ∷ []) last to
+        commits = commits_more first from earlier.groups begun at steps executed to last earlier.commits gathers.is_over follows committed
+
+        joined : flat_map (responses backend framing) earlier.groups ++ responses backend framing steps
+            ≡ flat_map (responses backend framing) (earlier.groups ++ steps ∷ [])
+        joined =
+            ap (λ (l : List ℕ). flat_map (responses backend framing) earlier.groups ++ l) (sym (append-nil (responses backend framing steps)))
+            ∙ sym (flat_map-append (responses backend framing) earlier.groups (steps ∷ []))
+
+    ends : (why : Halt E H) → RunsGroup backend framing limits begun at why executed to text → (result : Result (Unit {0}) (Stop E H))
+        → Settles backend executed text held result last new → EndsAfterGroup backend framing limits why result first from old last to new
+    ends why gathers result settles = record {
+      begun = begun;
+      at = at;
+      held = held;
+      earlier = earlier;
+      executed = executed;
+      text = text;
+      gathers = gathers;
+      settles = settles;
+    }
+
+    -- a commit or a write has failed
+    pub run_stops : (why : Halt E H) → RunsGroup backend framing limits begun at why executed to text → (fault : Stop E H)
+        → Settles backend executed text held (Err fault) last new → RunsAll backend framing limits first from old (Err fault) last to new
+    run_stops why gathers (stop.Commit fault) settles = record { why = why; ends = ends why gathers (Err (stop.Commit fault)) settles }
+    run_stops why gathers (stop.Write error) settles = record { why = why; ends = ends why gathers (Err (stop.Write error)) settles }
+    run_stops why gathers (stop.Read fault) settles = absurd settles
+    run_stops why gathers (stop.Execute fault) settles = absurd settles
+    run_stops why gathers stop.Memory settles = absurd settles
+    run_stops why gathers stop.Internal settles = absurd settles
+
+module _ {B F Q A E H : Type 0} (backend : backends.Ghosts B Q A E) (framing : framings.Ghosts F Q A H) where
+  commits_durable : (limits : GroupLimits) (first : B) (from : F) (groups : List (List (Step Q A))) (last : B) (at : F) → Commits backend framing limits first from groups last at
+      → IfSteps groups (backend.durable last ≡ backend.history last)
+  commits_durable limits first from [] last at commits = tt
+  commits_durable limits first from (steps ∷ []) last at (executed, next, on, some, follows, committed, (same, same_too)) =
+      subst (λ (b : B). backend.durable b ≡ backend.history b) same committed.durable
+  commits_durable limits first from (steps ∷ second ∷ groups) last at (executed, next, on, some, follows, committed, more) =
+      commits_durable limits next on (second ∷ groups) last at more
+
+  counted_durable : (groups : List (List (Step Q A))) (fact : Type 0) → length groups ≡ 2 ^ 64 - 1 → IfSteps groups fact → fact
+  counted_durable [] fact counted holds = absurd (omega (arith, counted))
+  counted_durable (steps ∷ groups) fact counted holds = holds
+
+  run_durable : (limits : GroupLimits) (first : B) (from : F) (old : Option (List ℕ)) (result : Result (Unit {0}) (Stop E H)) (last : B) (to : F) (new : Option (List ℕ))
+      → RunsAll backend framing limits first from old result last to new → UnlessCommitFails result (backend.durable last ≡ backend.history last)
+  run_durable limits first from old (Ok done) last to new runs = runs.settles.0.durable
+  run_durable limits first from old (Err (stop.Commit why)) last to new runs = tt
+  run_durable limits first from old (Err (stop.Write error)) last to new runs = runs.ends.settles.0.durable
+  run_durable limits first from old (Err (stop.Read why)) last to new runs = runs.settles.0.durable
+  run_durable limits first from old (Err (stop.Execute why)) last to new runs = runs.settles.0.durable
+  run_durable limits first from old (Err stop.Memory) last to new runs = runs.settles.0.durable
+  run_durable limits first from old (Err stop.Internal) last to new (done, counted) =
+      counted_durable done.groups (backend.durable last ≡ backend.history last) counted (commits_durable limits first from done.groups last to done.commits)
+
+  pub responses_durable : ResponsesAreDurable backend framing
+  responses_durable = record {
+    groups = λ limits first from old last at new run. commits_durable limits first from run.groups last at run.commits;
+    all = run_durable;
+  }

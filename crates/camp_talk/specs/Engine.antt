@@ -1,0 +1,4 @@
+pub mod Backends
+pub mod Framings
+pub mod Groups
+pub mod Runs

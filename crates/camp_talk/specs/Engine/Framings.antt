@@ -1,0 +1,15 @@
+-- What a framing reads, and what was read ahead.
+use Rattle.std.specs.Prelude.{◌≡◌, ℕ, List, ◌++◌}
+use Rattle.camp_talk.specs.Frames.{IsFrame}
+
+-- a whole frame stands at the front of bytes
+pub record BeginsWithFrame (bytes : List ℕ) : Type 0 where
+  pub request : List ℕ
+  pub frame : List ℕ
+  pub more : List ℕ
+  pub is : IsFrame request frame
+  pub begins : bytes ≡ frame ++ more
+
+-- bytes have grown
+abbrev pub IsPartOf : List ℕ → List ℕ → Type 0
+IsPartOf old new = (more : List ℕ) × (new ≡ old ++ more)

@@ -1,0 +1,98 @@
+-- What a conversation did: groups of requests, each committed before its responses were written.
+use Rattle.std.specs.Prelude.{◌≡◌, ◌⊎◌, ◌-◌, ◌^◌, ℕ, List, [], ◌∷◌, length, Option, Result, Ok, Err, flat_map}
+use Rattle.std.specs.Io.KnownBytes.{Appends, Consumes, Keeps}
+use Rattle.camp_talk.specs.Engine.Groups.{Follows, HasSteps, IfSteps, RunsGroup, Step, responses}
+use Rattle.camp_talk.specs.Talks.{AppendsSome}
+use Rattle.camp_talk.specs.declared.engine.backends.Backend as backends
+use Rattle.camp_talk.specs.declared.engine.framings.Framing as framings
+use Rattle.camp_talk.specs.declared.engine.groups.GroupLimits.{GroupLimits}
+use Rattle.camp_talk.specs.declared.engine.groups.Halt.{Halt}
+use Rattle.camp_talk.specs.declared.engine.groups.Halt.TheVariants as halt
+use Rattle.camp_talk.specs.declared.engine.runs.Stop.{Stop}
+use Rattle.camp_talk.specs.declared.engine.runs.Stop.TheVariants as stop
+
+module _ {B Q A E : Type 0} (backend : backends.Ghosts B Q A E) where
+  -- the whole history is durable: a commit was acknowledged, or no call was waiting for one
+  pub record IsCommitted (before after : B) : Type 0 where
+    pub is : backend.commits before (Ok tt) after ⊎ ((backend.waiting before ≡ 0) × (after ≡ before))
+    pub same : backend.history after ≡ backend.history before
+    pub durable : backend.durable after ≡ backend.history after
+
+-- what became of pending responses. Ok: the whole history is durable, and exactly they were written. Commit: the commit
+-- failed, and nothing was written. Write: the whole history is durable, and a prefix of them was written.
+module _ {B Q A E H : Type 0} (backend : backends.Ghosts B Q A E) where
+  abbrev pub Settles : B → List ℕ → Option (List ℕ) → Result (Unit {0}) (Stop E H) → B → Option (List ℕ) → Type 0
+  Settles before text old (Ok done) after new = IsCommitted backend before after × Appends old new text
+  Settles before text old (Err (stop.Commit why)) after new = backend.commits before (Err why) after × Keeps old new
+  Settles before text old (Err (stop.Write error)) after new = IsCommitted backend before after × AppendsSome old new text
+  Settles before text old (Err (stop.Read why)) after new = ⊥
+  Settles before text old (Err (stop.Execute why)) after new = ⊥
+  Settles before text old (Err stop.Memory) after new = ⊥
+  Settles before text old (Err stop.Internal) after new = ⊥
+
+module _ {B F Q A E H : Type 0} (backend : backends.Ghosts B Q A E) (framing : framings.Ghosts F Q A H) (limits : GroupLimits) where
+  -- groups of requests were read and executed, and each was committed before the next one; none is empty
+  abbrev pub Commits : B → F → List (List (Step Q A)) → B → F → Type 0
+  Commits before from [] after to = (before ≡ after) × (from ≡ to)
+  Commits before from (steps ∷ groups) after to =
+      (executed next : B) × (on : F) × HasSteps steps × Follows backend framing limits before from [] steps executed on
+      × IsCommitted backend executed next × Commits next on groups after to
+
+  -- groups were executed and committed, exactly the bytes of their requests were read, and exactly their responses were
+  -- written
+  pub record HasRun (first : B) (from : F) (old : Option (List ℕ)) (last : B) (at : F) (new : Option (List ℕ)) : Type 0 where
+    pub groups : List (List (Step Q A))
+    pub commits : Commits first from groups last at
+    pub reads : Consumes (framing.remaining from) (framing.remaining at) (flat_map (λ steps. flat_map (λ step. step.bytes) steps) groups)
+    pub writes : Appends old new (flat_map (λ steps. responses backend framing steps) groups)
+
+  -- after groups that were committed and written there was a last one, which was over for this reason
+  pub record EndsAfterGroup (why : Halt E H) (result : Result (Unit {0}) (Stop E H)) (first : B) (from : F) (old : Option (List ℕ)) (last : B) (to : F)
+      (new : Option (List ℕ)) : Type 0 where
+    pub begun : B
+    pub at : F
+    pub held : Option (List ℕ)
+    pub earlier : HasRun first from old begun at held
+    pub executed : B
+    pub text : List ℕ
+    pub gathers : RunsGroup backend framing limits begun at why executed to text
+    pub settles : Settles backend executed text held result last new
+
+  -- it was that with any group
+  pub record StopsAfterGroup (result : Result (Unit {0}) (Stop E H)) (first : B) (from : F) (old : Option (List ℕ)) (last : B) (to : F)
+      (new : Option (List ℕ)) : Type 0 where
+    pub why : Halt E H
+    pub ends : EndsAfterGroup why result first from old last to new
+
+  -- a conversation. Ok: the input has ended, all is committed, and all responses were written. Commit: a commit failed,
+  -- and of the responses of its group none was written. Write: the last group is committed, and a prefix of its responses
+  -- was written. Read, Execute, Memory: no request could be read, or one was not executed, or its response not be buffered;
+  -- all is committed, and all other responses were written. Internal: there were 2^64 - 1 groups, each
+  -- with a request.
+  abbrev pub RunsAll : B → F → Option (List ℕ) → Result (Unit {0}) (Stop E H) → B → F → Option (List ℕ) → Type 0
+  RunsAll first from old (Ok done) last to new = EndsAfterGroup halt.End (Ok done) first from old last to new
+  RunsAll first from old (Err (stop.Commit why)) last to new = StopsAfterGroup (Err (stop.Commit why)) first from old last to new
+  RunsAll first from old (Err (stop.Write error)) last to new = StopsAfterGroup (Err (stop.Write error)) first from old last to new
+  RunsAll first from old (Err (stop.Read why)) last to new = EndsAfterGroup (halt.Read why) (Ok tt) first from old last to new
+  RunsAll first from old (Err (stop.Execute why)) last to new = EndsAfterGroup (halt.Execute why) (Ok tt) first from old last to new
+  RunsAll first from old (Err stop.Memory) last to new = EndsAfterGroup halt.Memory (Ok tt) first from old last to new
+  RunsAll first from old (Err stop.Internal) last to new =
+      (done : HasRun first from old last to new) × (length done.groups ≡ 2 ^ 64 - 1)
+
+-- a fact, unless a commit failed
+abbrev pub UnlessCommitFails : {E H : Type 0} → Result (Unit {0}) (Stop E H) → Type 0 → Type 0
+UnlessCommitFails (Ok done) fact = fact
+UnlessCommitFails (Err (stop.Commit why)) fact = Unit {0}
+UnlessCommitFails (Err (stop.Write error)) fact = fact
+UnlessCommitFails (Err (stop.Read why)) fact = fact
+UnlessCommitFails (Err (stop.Execute why)) fact = fact
+UnlessCommitFails (Err stop.Memory) fact = fact
+UnlessCommitFails (Err stop.Internal) fact = fact
+
+-- after groups whose responses were written the whole history is durable; and so it is after a conversation, unless a
+-- commit failed: then nothing was written after the groups before it
+pub record ResponsesAreDurable {B F Q A E H : Type 0} (backend : backends.Ghosts B Q A E) (framing : framings.Ghosts F Q A H) : Type 0 where
+  pub groups : (limits : GroupLimits) (first : B) (from : F) (old : Option (List ℕ)) (last : B) (at : F) (new : Option (List ℕ))
+      (run : HasRun backend framing limits first from old last at new) → IfSteps run.groups (backend.durable last ≡ backend.history last)
+  pub all : (limits : GroupLimits) (first : B) (from : F) (old : Option (List ℕ)) (result : Result (Unit {0}) (Stop E H)) (last : B) (to : F) (new : Option (List ℕ))
+      → RunsAll backend framing limits first from old result last to new → UnlessCommitFails result (backend.durable last ≡ backend.history last)

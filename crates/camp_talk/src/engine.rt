@@ -1,0 +1,13 @@
+//! One loop for any backend and any framing: requests are read by a framing and executed by a backend in groups, each with one
+//! commit, and no response is written before the commit of its group.
+mod backends;
+mod frames;
+mod framings;
+mod groups;
+mod runs;
+
+pub use backends::Backend;
+pub use frames::Frames;
+pub use framings::Framing;
+pub use groups::GroupLimits;
+pub use runs::{Stop, responses_are_durable, run};

@@ -1,0 +1,78 @@
+//! A group of requests that share one commit.
+ghost use Rattle.std.specs.Prelude.{◌≡◌, []};
+ghost use Rattle.camp_talk.specs.Engine.Groups.{RunsGroup, TakesOne};
+
+use crate::engine::{Backend, Framing};
+
+/// How much may be pending before it is committed and written.
+#[derive(Clone, Copy, Debug)]
+pub struct GroupLimits {
+    /// Calls that are not known to be durable.
+    pub calls: usize,
+    /// Bytes of responses.
+    pub bytes: usize,
+}
+
+/// Why a group is over.
+#[derive(Debug, Drop)]
+pub(crate) enum Halt<B, F> {
+    /// It is to be committed before more is read.
+    Pause,
+    /// The input has ended.
+    End,
+    /// No request could be read.
+    Read(F),
+    /// A request was not executed.
+    Execute(B),
+    /// A request was executed, and memory ran out for its response.
+    Memory,
+}
+
+/// Reads and executes requests, and buffers their responses, while a whole request was read ahead and little is
+/// pending; the first one is read in any case.
+pub(crate) fn gather<Q: Drop, A: Drop, B: Backend<Q, A>, F: Framing<Q, A>>(
+    backend: &mut B,
+    framing: &mut F,
+    pending: &mut Vec<u8>,
+    limits: GroupLimits,
+) -> Halt<B::Fault, F::Fault>
+    requires { pending.old.items ≡ [] }
+    ensures { RunsGroup B.Backend F.Framing limits backend.old framing.old result backend.new framing.new pending.new.items }
+{
+    for _ in 0..u64::MAX {
+        match take_one(backend, framing, pending) {
+            Some(halt) => return halt,
+            None => {}
+        }
+        if backend.waiting() >= limits.calls || pending.len() >= limits.bytes {
+            return Halt::Pause;
+        }
+        if !framing.is_ready() {
+            return Halt::Pause;
+        }
+    }
+    Halt::Pause
+}
+
+// Reads and executes a request, and buffers its response. Returns why the group is over, if it is.
+fn take_one<Q: Drop, A: Drop, B: Backend<Q, A>, F: Framing<Q, A>>(
+    backend: &mut B,
+    framing: &mut F,
+    pending: &mut Vec<u8>,
+) -> Option<Halt<B::Fault, F::Fault>>
+    ensures { TakesOne B.Backend F.Framing backend.old framing.old pending.old.items result backend.new framing.new pending.new.items }
+{
+    let request = match framing.read_request() {
+        Ok(Some(request)) => request,
+        Ok(None) => return Some(Halt::End),
+        Err(why) => return Some(Halt::Read(why)),
+    };
+    let response = match backend.execute(&request) {
+        Ok(response) => response,
+        Err(why) => return Some(Halt::Execute(why)),
+    };
+    match framing.write_response(&response, pending) {
+        Ok(()) => None,
+        Err(_) => Some(Halt::Memory),
+    }
+}

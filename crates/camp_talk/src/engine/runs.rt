@@ -1,0 +1,94 @@
+//! Conversations.
+ghost use Rattle.std.specs.Prelude.{◌≡◌, [], Err, MatchResult, OnOk};
+ghost use Rattle.camp_talk.specs.Engine.Runs.{IsCommitted, ResponsesAreDurable, RunsAll, Settles};
+
+use crate::engine::groups::{Halt, gather};
+use crate::engine::{Backend, Framing, GroupLimits};
+use crate::write_answer;
+use std::alloc::Global;
+use std::io::{self, Write};
+
+/// Why a conversation ended before its input did.
+#[derive(Debug, Drop)]
+pub enum Stop<B, F> {
+    /// A commit failed. No response of its group was written.
+    Commit(B),
+    /// The writer failed. All is committed, and a prefix of the responses was written.
+    Write(io::Error),
+    /// No request could be read. All is committed, and all responses were written.
+    Read(F),
+    /// A request was not executed. All is committed, and all other responses were written.
+    Execute(B),
+    /// Memory ran out for the response to a request, which was executed. All is committed, and all other
+    /// responses were written.
+    Memory,
+    /// There were 2^64 - 1 groups, each with a request. No conversation reaches that.
+    Internal,
+}
+
+/// Answers the requests of a framing, one after the other, until there are no more. Responses are buffered until
+/// everything that was executed before them is committed: before more has to be read for the next request, at the
+/// limits of a group, and at the end.
+pub fn run<Q: Drop, A: Drop, B: Backend<Q, A>, F: Framing<Q, A>, W: Write>(
+    alloc: Global,
+    backend: &mut B,
+    framing: &mut F,
+    writer: &mut W,
+    limits: GroupLimits,
+) -> Result<(), Stop<B::Fault, F::Fault>>
+    ensures { RunsAll B.Backend F.Framing limits backend.old framing.old (W.contents writer.old) result backend.new framing.new (W.contents writer.new) }
+{
+    let mut pending = Vec::new(alloc);
+    for _ in 0..u64::MAX {
+        let halt = gather(backend, framing, &mut pending, limits);
+        if let Err(fault) = settle(backend, &mut pending, writer) {
+            return Err(fault);
+        }
+        match halt {
+            Halt::Pause => {}
+            Halt::End => return Ok(()),
+            Halt::Read(why) => return Err(Stop::Read(why)),
+            Halt::Execute(why) => return Err(Stop::Execute(why)),
+            Halt::Memory => return Err(Stop::Memory),
+        }
+    }
+    Err(Stop::Internal)
+}
+
+// Commits, unless nothing is waiting, and then writes what is pending and flushes. If the commit fails nothing is
+// written.
+fn settle<Q, A, H, B: Backend<Q, A>, W: Write>(
+    backend: &mut B,
+    pending: &mut Vec<u8>,
+    writer: &mut W,
+) -> Result<(), Stop<B::Fault, H>>
+    ensures settles { Settles B.Backend backend.old pending.old.items (W.contents writer.old) result backend.new (W.contents writer.new) }
+    ensures empty { OnOk result (pending.new.items ≡ []) }
+{
+    if let Err(why) = commit_waiting(backend) {
+        return Err(Stop::Commit(why));
+    }
+    match write_answer(writer, pending) {
+        Ok(()) => {
+            pending.clear();
+            Ok(())
+        }
+        Err(error) => Err(Stop::Write(error)),
+    }
+}
+
+// Commits, unless nothing is waiting.
+fn commit_waiting<Q, A, B: Backend<Q, A>>(backend: &mut B) -> Result<(), B::Fault>
+    ensures { MatchResult result (λ _. IsCommitted B.Backend backend.old backend.new) (λ why. B.commits backend.old (Err why) backend.new) }
+{
+    if backend.waiting() == 0 {
+        return Ok(());
+    }
+    backend.commit()
+}
+
+/// Where responses were written, all that was executed before is durable: after each group, and after a conversation
+/// of which no commit failed.
+pub fn responses_are_durable<Q: Drop, A: Drop, B: Backend<Q, A>, F: Framing<Q, A>>()
+    ensures law { ResponsesAreDurable B.Backend F.Framing }
+{}
