@@ -4,11 +4,13 @@ use Rattle.std.specs.List.{AllByRecursion}
 use Rattle.std.proofs.lemmas.List.{drop-map, drop_at, length-map, map-append, take_all}
 use Rattle.camp_call.specs.declared.calls.Call.{Call}
 use Rattle.camp_kept.specs.Accepting.{AreAccepted, History, IsFrontOf, Stored, stored_of}
-use Rattle.camp_kept.specs.Keeping.{Holds, IsStoreOf, Tells, call_texts, disk_in, store_texts, title}
+use Rattle.camp_kept.specs.Keeping.{Holds, IsStoreOf, Tells, call_texts, disk_in, store_texts}
+use Rattle.camp_kept.specs.Titles.{title_of}
 use Rattle.camp_kept.specs.declared.kept.Kept.{Kept}
 use Rattle.camp_kept.proofs.Listing.{accepted_more, legal_alone}
 use Rattle.camp_object.specs.Histories.{IsBeginning, IsLegal}
 use Rattle.camp_object.specs.Objects.{IsFirst, begun}
+use Rattle.camp_repo.specs.Limits.{Bounds}
 use Rattle.camp_repo.specs.Objects.{repository}
 use Rattle.camp_script.specs.Canonical.{call_text}
 use Rattle.camp_script.specs.Keeping.{CanStand, calls_of}
@@ -22,14 +24,16 @@ rest_is calls all front = ap (λ (l : List Call). drop (length calls) l) (sym fr
 
 pub texts_grow : (some all : Stored) (front : IsFrontOf some all) → store_texts some ++ call_texts front.calls.rest ≡ store_texts all
 texts_grow some all front =
-    ap (λ (l : List (List ℕ)). title ∷ l) (sym (map-append call_text some.calls front.calls.rest)) ∙ ap (λ (l : List Call). title ∷ call_texts l) front.calls.makes
+    ap (λ (l : List (List ℕ)). title_of some.limits ∷ l) (sym (map-append call_text some.calls front.calls.rest))
+    ∙ ap (λ (l : List Call). title_of some.limits ∷ call_texts l) front.calls.makes
+    ∙ ap (λ (limits : Bounds). title_of limits ∷ call_texts all.calls) front.limits
 
 some_texts : (stored : Stored) → store_texts stored ≡ [] → ⊥
 some_texts stored none = absurd (omega (arith, ap (λ (l : List (List ℕ)). length l) none))
 
 -- a file with the texts of calls decodes to them
-pub stands_told : (stored : Stored) (file : List ℕ) → Stands (store_texts stored) file → Tells stored file
-stands_told stored file stands = record { texts = store_texts stored; are = inl refl; stands = stands; short = λ none. absurd (some_texts stored none) }
+pub stands_told : (new : Bounds) (stored : Stored) (file : List ℕ) → Stands (store_texts stored) file → Tells new stored file
+stands_told new stored file stands = record { texts = store_texts stored; are = inl refl; stands = stands; short = λ none. absurd (some_texts stored none) }
 
 -- the files that a crash may leave of a store that grows
 pub is_either : (calls all : Stored) (new : List (List ℕ)) → AreAccepted calls → AreAccepted all → store_texts calls ++ new ≡ store_texts all
@@ -60,7 +64,7 @@ pub committed : (stored : Stored) (read : List (ℕ × Call)) (book : History) �
 committed stored read book value first legal k is accepted front new are stand =
     let slice : calls_of (take (length read - k) (drop k read)) ≡ front.calls.rest =
     ap (λ (h : List (ℕ × Call)). calls_of (take (length h - k) (drop k h))) value ∙ slice_is book.calls stored.calls front.calls k is in (
-      accepted_more stored (stored_of book) front accepted.default accepted.can (subst (AllByRecursion CanStand) slice stand) (legal_alone book first legal),
+      accepted_more stored (stored_of book) front accepted.range accepted.can (subst (AllByRecursion CanStand) slice stand) (legal_alone book first legal),
       ap (λ (l : List (List ℕ)). store_texts stored ++ l) (are ∙ ap call_texts slice) ∙ texts_grow stored (stored_of book) front,
     )
 

@@ -6,3 +6,4 @@ pub mod Parts
 mod Recalling
 mod Refusing
 mod Reopening
+mod TitleLemmas

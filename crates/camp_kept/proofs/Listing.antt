@@ -6,11 +6,12 @@ use Rattle.camp_call.specs.declared.calls.Call.{Call}
 use Rattle.camp_call.specs.declared.calls.Call.TheVariants as call
 use Rattle.camp_call.specs.declared.replies.Reply.{Reply}
 use Rattle.camp_kept.specs.Accepting.{AreAccepted, History, IsFrontOf, Stored, alone}
+use Rattle.camp_kept.specs.Titles.{CanBeLimits}
 use Rattle.camp_object.specs.Histories.{IsLegal, run}
 use Rattle.camp_object.specs.Objects.{IsFirst, Sequential, begun}
 use Rattle.camp_object.proofs.Replays.{run-none}
 use Rattle.camp_repo.proofs.AcceptedSteps.{obliterates_nothing, pulls_nothing}
-use Rattle.camp_repo.specs.Limits.{Bounds, default_bounds}
+use Rattle.camp_repo.specs.Limits.{Bounds}
 use Rattle.camp_repo.specs.Objects.{next_of, repository, repository_within}
 use Rattle.camp_repo.specs.States.{Contents, new_within}
 use Rattle.camp_repo.specs.Steps.{step}
@@ -62,10 +63,10 @@ legal_alone history first legal =
     subst (λ (o : Option Contents). IsSome o) (run_alone limits (Some (new_within limits)) history.calls) here
 
 -- accepted calls that a script can contain, and more
-pub accepted_more : (some all : Stored) (front : IsFrontOf some all) → some.limits ≡ default_bounds → AllByRecursion IsScriptCall some.calls → AllByRecursion CanStand front.calls.rest
+pub accepted_more : (some all : Stored) (front : IsFrontOf some all) → CanBeLimits some.limits → AllByRecursion IsScriptCall some.calls → AllByRecursion CanStand front.calls.rest
     → IsLegal (repository_within all.limits) (alone all.calls) → AreAccepted all
-accepted_more some all front default can stand legal = record {
-  default = sym front.limits ∙ default;
+accepted_more some all front range can stand legal = record {
+  range = subst CanBeLimits front.limits range;
   can = subst (λ (l : List Call). AllByRecursion IsScriptCall l) front.calls.makes (both some.calls front.calls.rest can stand (subst (λ (l : List Call). AllByRecursion ListsNames l) (sym front.calls.makes) (all_list all.limits (Some (new_within all.limits)) all.calls legal)));
   legal = legal;
 }

@@ -1,11 +1,17 @@
 -- Where a file is damaged, by how long the blocks before that place are.
 use Rattle.std.proofs.Common.{◌≡◌, ◌⊎◌, inl, inr, ◌+◌, ◌≤◌, ◌<◌, ◌^◌, min, nat_lt, ℕ, Bool, true, false, List, [], ◌∷◌, ◌++◌, length, map, refl, sym, ◌∙◌, ap, subst, arith, append_assoc, length-append}
+use Rattle.std.proofs.lemmas.List.{length-map}
 use Rattle.std.proofs.lemmas.Bool.{ltb-false, ltb-true}
 use Rattle.camp_call.specs.declared.calls.Call.{Call}
 use Rattle.camp_kept.specs.Accepting.{History, alone}
+use Rattle.camp_kept.specs.Titles.{CanBeLimits, title_of}
 use Rattle.camp_kept.specs.Faults.{IsDamagedAt, IsNumber, IsOfNoCall}
-use Rattle.camp_kept.specs.Keeping.{call_texts, store_texts, title}
+use Rattle.camp_kept.specs.Keeping.{call_texts, store_texts}
 use Rattle.camp_kept.specs.Replaying.{AreAsked, AsksAgain}
+use Rattle.camp_object.specs.Histories.{IsLegal}
+use Rattle.camp_object.specs.Objects.{begun}
+use Rattle.camp_repo.specs.Limits.{Bounds}
+use Rattle.camp_repo.specs.Objects.{repository}
 use Rattle.camp_script.specs.Canonical.{call_text}
 use Rattle.camp_store.specs.Blocks.{AreBlocks, IsBlock, IsEnd, Stands, body, chain, digest_behind, first_digest}
 use Rattle.camp_store.proofs.BlockLemmas.{are-append, block_more, one_block}
@@ -55,14 +61,23 @@ part before (text ∷ texts) others bytes (behind, block, more) =
       more = parted.more;
     }
 
+-- how many calls were executed
+pub asked_count : (limits : Bounds) (texts : List (List ℕ)) (history : History) → AreAsked limits texts history → length history.calls ≡ length texts
+asked_count limits texts history asked =
+    ap (λ (h : History). length h.calls) asked.is
+    ∙ length-map asked.calls (λ (call : Call). (0, call))
+    ∙ sym (ap (λ (l : List (List ℕ)). length l) asked.texts_are ∙ length-map asked.calls call_text)
+
 -- a file of a title and of texts, one of which is of no call that is accepted there
-pub damaged_there : (done : List (List ℕ)) (text : List ℕ) (rest : List (List ℕ)) (history after : History) → AreAsked done history → AsksAgain history text false after
-    → (call at : ℕ) → IsNumber call (length done + 1) → IsNumber at (40 + size done) → (file : List ℕ) → Stands (title ∷ (done ++ text ∷ rest)) file → IsDamagedAt call at file
-damaged_there done text rest history after asked none call at call_is at_is file stands =
-    let parted = part first_digest (title ∷ done) (text ∷ rest) stands.front stands.are in
-    let long = are_long first_digest (title ∷ done) parted.front parted.are in
+pub damaged_there : (limits : Bounds) (done : List (List ℕ)) (text : List ℕ) (rest : List (List ℕ)) (history after : History) → CanBeLimits limits → AreAsked limits done history
+    → IsLegal (begun repository history.first) history.calls → AsksAgain history text false after
+    → (call at : ℕ) → IsNumber call (length done + 1) → IsNumber at (27 + length (title_of limits) + size done) → (file : List ℕ) → Stands (title_of limits ∷ (done ++ text ∷ rest)) file → IsDamagedAt call at file
+damaged_there limits done text rest history after range asked legal none call at call_is at_is file stands =
+    let parted = part first_digest (title_of limits ∷ done) (text ∷ rest) stands.front stands.are in
+    let long = are_long first_digest (title_of limits ∷ done) parted.front parted.are in
     record {
-      texts = title ∷ done;
+      texts = title_of limits ∷ done;
+      some = omega arith;
       front = parted.front;
       rest = parted.rest ++ stands.end;
       split = stands.split ∙ ap (λ (l : List ℕ). l ++ stands.end) parted.split ∙ append_assoc parted.front parted.rest stands.end;
@@ -70,11 +85,16 @@ damaged_there done text rest history after asked none call at call_is at_is file
       call_is = subst (λ (n : ℕ). IsNumber call n) (omega arith) call_is;
       at_is = subst (λ (n : ℕ). IsNumber at n) (omega (arith, long)) at_is;
       wrong = inr (record {
-        calls = asked.calls;
-        are = ap (λ (l : List (List ℕ)). title ∷ l) asked.texts_are;
+        before = record { limits = limits; calls = asked.calls };
+        accepted = record {
+          range = range;
+          can = asked.can;
+          legal = subst (λ (h : History). IsLegal (begun repository h.first) h.calls) asked.is legal;
+        };
+        are = ap (λ (l : List (List ℕ)). title_of limits ∷ l) asked.texts_are;
         text = text;
         behind = parted.more.0 ++ stands.end;
-        block = block_more (chain first_digest (title ∷ done)) text parted.more.0 stands.end parted.rest parted.more.1;
+        block = block_more (chain first_digest (title_of limits ∷ done)) text parted.more.0 stands.end parted.rest parted.more.1;
         none = subst (λ (h : History). AsksAgain h text false after) asked.is none;
       });
     }

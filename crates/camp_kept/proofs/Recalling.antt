@@ -7,8 +7,9 @@ use Rattle.std.proofs.lemmas.List.{map-append}
 use Rattle.camp_call.specs.declared.calls.Call.{Call}
 use Rattle.camp_call.specs.declared.replies.Reply.{Reply}
 use Rattle.camp_kept.specs.Accepting.{AreAccepted, History, Stored, alone}
-use Rattle.camp_kept.specs.Keeping.{AreTexts, Tells, call_texts, title}
-use Rattle.camp_kept.specs.Replaying.{AreAsked, AreRecalled, AsksAgain, AsksCall, CanBeNext, IsOnly, new_with, then_call}
+use Rattle.camp_kept.specs.Keeping.{AreTexts, Tells, call_texts}
+use Rattle.camp_kept.specs.Titles.{AreAsWanted, CanBeLimits, new_limits, title_of}
+use Rattle.camp_kept.specs.Replaying.{AreAsked, AreRecalled, AsksAgain, AsksCall, CanBeNext, new_with, then_call}
 use Rattle.camp_object.specs.Asking.{Accepts, AddsNothing, alone_at}
 use Rattle.camp_object.specs.Books.{AsksBook}
 use Rattle.camp_object.specs.Histories.{IsAccepted, IsAnswered, IsBeginning, IsLegal}
@@ -17,27 +18,13 @@ use Rattle.camp_object.proofs.SameBooks.{same_book}
 use Rattle.camp_object.proofs.Replays.{legal_front, replay_more}
 use Rattle.camp_repo.specs.Limits.{Bounds}
 use Rattle.camp_repo.specs.Objects.{number_told, repository, repository_within}
-use Rattle.camp_repo.specs.States.{Contents, initial}
+use Rattle.camp_repo.specs.States.{Contents, new_within}
 use Rattle.camp_script.specs.Canonical.{IsScriptCall, call_text}
 use Rattle.camp_script.specs.Keeping.{calls_of}
-use Rattle.camp_script.specs.Reading.{script_of}
-use Rattle.camp_script.specs.declared.faults.LineFault.{LineFault}
-use Rattle.camp_script.proofs.CalledLines.{text_reads}
+use Rattle.camp_script.proofs.SingleCalls.{one_call}
 use Rattle.camp_script.proofs.TextLemmas.{all_more}
-use Rattle.camp_script.proofs.Writable.{read_is_writable}
 use Rattle.camp_store.specs.Blocks.{Stands}
 use Rattle.camp_store.proofs.BlockLemmas.{stands_once}
-use Rattle.std.proofs.lemmas.Option.{none-some, same_Some}
-
-abbrev first_call : Call → Result (List (List Call)) LineFault → Call
-first_call c (Ok []) = c
-first_call c (Ok ([] ∷ sections)) = c
-first_call c (Ok ((x ∷ calls) ∷ sections)) = x
-first_call c (Err fault) = c
-
--- no two such calls have one text
-pub one_call : (c d : Call) → IsScriptCall c → IsScriptCall d → call_text c ≡ call_text d → c ≡ d
-one_call c d can could same = ap (first_call c) (sym (text_reads c can) ∙ ap script_of same ∙ text_reads d could)
 
 abbrev pub first_text : List (List ℕ) → List ℕ
 first_text [] = []
@@ -76,7 +63,7 @@ stands_behind (d ∷ done) (c ∷ calls) text rest can could e =
 
 -- accepted calls that have the texts of others, and one more: the call of that one is accepted after the others
 pub accepted_behind : (done : List Call) (stored : Stored) (text : List ℕ) (rest : List (List ℕ)) → AllByRecursion IsScriptCall done → AreAccepted stored
-    → call_texts stored.calls ≡ call_texts done ++ text ∷ rest → (call : Call) × IsScriptCall call × (call_text call ≡ text) × IsAccepted repository (alone done) call
+    → call_texts stored.calls ≡ call_texts done ++ text ∷ rest → (call : Call) × IsScriptCall call × (call_text call ≡ text) × IsAccepted (repository_within stored.limits) (alone done) call
 accepted_behind done stored text rest can accepted e =
     let behind = stands_behind done stored.calls text rest can accepted.can e in
     let c = behind.call in
@@ -85,23 +72,20 @@ accepted_behind done stored text rest can accepted e =
     ∙ sym (map-append (λ (call : Call). (0, call)) done (c ∷ behind.more))
     ∙ ap alone (sym behind.is) in
     let front : IsBeginning (alone done ++ (0, c) ∷ []) (alone stored.calls) = record { rest = alone behind.more; makes = makes } in
-    let all : IsLegal repository (alone stored.calls) = subst (λ (limits : Bounds). IsLegal (repository_within limits) (alone stored.calls)) accepted.default accepted.legal in
-    let legal : IsLegal repository (alone done ++ (0, c) ∷ []) = legal_front repository front all in
-    (c, behind.can, behind.text_is, subst (λ (o : Option Contents). IsSome o) (replay_more repository (alone done) (0, c)) legal)
+    let object = repository_within stored.limits in
+    let legal : IsLegal object (alone done ++ (0, c) ∷ []) = legal_front object front accepted.legal in
+    (c, behind.can, behind.text_is, subst (λ (o : Option Contents). IsSome o) (replay_more object (alone done) (0, c)) legal)
 
--- the calls of a file with a title
-pub told_texts : (texts : List (List ℕ)) (stored : Stored) (file : List ℕ) → Stands (title ∷ texts) file → Tells stored file → call_texts stored.calls ≡ texts
-told_texts texts stored file stands told = from told.are where
+-- the title and the calls of a file with texts
+pub told_texts : (new : Bounds) (title : List ℕ) (texts : List (List ℕ)) (stored : Stored) (file : List ℕ) → Stands (title ∷ texts) file → Tells new stored file
+    → (title_of stored.limits ≡ title) × (call_texts stored.calls ≡ texts)
+told_texts new title texts stored file stands told = from told.are where
   same : title ∷ texts ≡ told.texts
   same = stands_once (title ∷ texts) told.texts file stands told.stands
 
-  from : AreTexts told.texts stored → call_texts stored.calls ≡ texts
-  from (inl are) = sym (ap other_texts (same ∙ are))
+  from : AreTexts new told.texts stored → (title_of stored.limits ≡ title) × (call_texts stored.calls ≡ texts)
+  from (inl are) = (sym (ap first_text (same ∙ are)), sym (ap other_texts (same ∙ are)))
   from (inr none) = absurd (no_texts title texts (same ∙ none.0))
-
--- a file whose first text is not a title has no calls
-pub no_title : (text : List ℕ) (texts others : List (List ℕ)) (file : List ℕ) → Stands (text ∷ texts) file → Stands (title ∷ others) file → text ≡ title
-no_title text texts others file stands titled = ap first_text (stands_once (text ∷ texts) (title ∷ others) file stands titled)
 
 -- calls without their seat
 pub calls_alone : (calls : List Call) → calls_of (alone calls) ≡ calls
@@ -110,30 +94,6 @@ calls_alone (c ∷ calls) = ap (λ (l : List Call). c ∷ l) (calls_alone calls)
 
 pub alone-push : (calls : List Call) (c : Call) → alone calls ++ (0, c) ∷ [] ≡ alone (calls ++ c ∷ [])
 alone-push calls c = sym (map-append (λ (call : Call). (0, call)) calls (c ∷ []))
-
-pub last_holds : {A : Type 0} (P : A → Type 0) (xs : List A) (x : A) → AllByRecursion P (xs ++ x ∷ []) → P x
-last_holds P [] x all = all.0
-last_holds P (y ∷ xs) x all = last_holds P xs x all.1
-
-abbrev sections_in : Result (List (List Call)) LineFault → List (List Call)
-sections_in (Ok sections) = sections
-sections_in (Err fault) = []
-
--- reading the text of a call as a script
-read_alone : (text : List ℕ) (sections : List (List Call)) (call : Call) → script_of text ≡ Ok sections → IsScriptCall call → call_text call ≡ text → sections ≡ (call ∷ []) ∷ []
-read_alone text sections call reads can is = ap sections_in (sym reads ∙ ap script_of (sym is) ∙ text_reads call can)
-
-pub is_only : (text : List ℕ) (sections : List (List Call)) (found : Option Call) → script_of text ≡ Ok sections
-    → ((call : Call) → sections ≡ (call ∷ []) ∷ [] → found ≡ Some call) → IfSome found (λ call. AllByRecursion (AllByRecursion IsScriptCall) sections → IsScriptCall call)
-    → IsOnly text found
-is_only text sections None reads alone stand = λ call can is. none-some call (alone call (read_alone text sections call reads can is))
-is_only text sections (Some call) reads alone stand = (
-  stand (read_is_writable text sections reads).calls,
-  λ other can is. same_Some call other (alone other (read_alone text sections other reads can is)),
-)
-
-pub is_none : (text : List ℕ) → ((sections : List (List Call)) → script_of text ≢ Ok sections) → IsOnly text None
-is_none text none = λ call can is. none ((call ∷ []) ∷ []) (ap script_of (sym is) ∙ text_reads call can)
 
 -- a call is executed on a book, and its reply tells whether it was accepted
 module _ (before after : History) (call : Call) (asked : Reply) (asks : AsksBook repository 0 before call (Ok asked) after) where
@@ -162,40 +122,38 @@ asks_again before after text call true found asks = (call, found.1, found.0, ask
 asks_again before after text call false found asks = λ other can is. subst (λ (c : Call). CanBeNext before c → ⊥) (one_call call other found.1 can (found.0 ∙ sym is)) asks
 
 -- one more call is executed
-pub asked_more : (texts : List (List ℕ)) (text : List ℕ) (before after : History) → AreAsked texts before → AsksAgain before text true after → AreAsked (texts ++ text ∷ []) after
-asked_more texts text before after asked (call, can, text_is, grows) = record {
+pub asked_more : (limits : Bounds) (texts : List (List ℕ)) (text : List ℕ) (before after : History) → AreAsked limits texts before → AsksAgain before text true after → AreAsked limits (texts ++ text ∷ []) after
+asked_more limits texts text before after asked (call, can, text_is, grows) = record {
   calls = asked.calls ++ call ∷ [];
-  is = grows ∙ ap (λ (h : History). then_call h call) asked.is ∙ ap (λ (l : List (ℕ × Call)). record { first = initial; calls = l }) (alone-push asked.calls call);
+  is = grows ∙ ap (λ (h : History). then_call h call) asked.is ∙ ap (λ (l : List (ℕ × Call)). record { first = new_within limits; calls = l }) (alone-push asked.calls call);
   can = all_more IsScriptCall asked.calls call asked.can can;
   texts_are = ap (λ (l : List (List ℕ)). l ++ text ∷ []) asked.texts_are
       ∙ ap (λ (t : List ℕ). call_texts asked.calls ++ t ∷ []) (sym text_is)
       ∙ sym (map-append call_text asked.calls (call ∷ []));
 }
 
+-- no call is executed yet
+pub none_asked : (limits : Bounds) (history : History) → history ≡ new_with limits [] → AreAsked limits [] history
+none_asked limits history is = record { calls = []; is = is; can = tt; texts_are = refl }
+
 -- the calls that were executed, after a title
-pub recalled : (texts : List (List ℕ)) (history : History) → AreAsked texts history → AreRecalled (title ∷ texts) history
-recalled texts history asked =
+pub recalled : (wanted : Option Bounds) (limits : Bounds) (texts : List (List ℕ)) (history : History) → CanBeLimits limits → AreAsWanted wanted limits → AreAsked limits texts history
+    → AreRecalled wanted (title_of limits ∷ texts) history
+recalled wanted limits texts history range as_wanted asked =
     let calls : calls_of history.calls ≡ asked.calls = ap (λ (h : History). calls_of h.calls) asked.is ∙ calls_alone asked.calls in
+    let same : limits ≡ history.first.limits = sym (ap (λ (h : History). h.first.limits) asked.is) in
     record {
-      first = ap (λ (h : History). h.first) asked.is;
-      are = inl (ap (λ (l : List (List ℕ)). title ∷ l) (asked.texts_are ∙ ap call_texts (sym calls)));
+      range = subst CanBeLimits same range;
+      as_wanted = subst (AreAsWanted wanted) same as_wanted;
+      are = inl (ap (λ (l : List (List ℕ)). title_of limits ∷ l) (asked.texts_are ∙ ap call_texts (sym calls)) ∙ ap (λ (l : Bounds). title_of l ∷ call_texts (calls_of history.calls)) same);
       can = subst (λ (l : List Call). AllByRecursion IsScriptCall l) (sym calls) asked.can;
     }
 
--- no texts are those of a repository without calls
-pub none_recalled : (history : History) → history ≡ new_with [] → AreRecalled [] history
-none_recalled history is = subst (λ (h : History). AreRecalled [] h) (sym is) (record { first = refl; are = inr (refl, refl); can = tt })
+as_wanted_anew : (wanted : Option Bounds) → AreAsWanted wanted (new_limits wanted)
+as_wanted_anew None = tt
+as_wanted_anew (Some limits) = refl
 
-abbrev items_of : List (Vec Call Global) → List (List Call)
-items_of sections = map (λ section. section.items) sections
-
--- the last call of the last section
-pub popped : (sections rest : List (Vec Call Global)) (last : Vec Call Global) (others : List Call) (found : Option Call) → sections ≡ rest ++ last ∷ [] → last.items ≡ others ++ option_to_list found
-    → IfSome found (λ call. AllByRecursion (AllByRecursion IsScriptCall) (items_of sections) → IsScriptCall call)
-popped sections rest last others None splits ends = tt
-popped sections rest last others (Some call) splits ends = λ can.
-    let all : AllByRecursion IsScriptCall last.items =
-    last_holds (AllByRecursion IsScriptCall) (items_of rest) last.items (
-    subst (λ (l : List (List Call)). AllByRecursion (AllByRecursion IsScriptCall) l) (ap items_of splits ∙ map-append (λ (section : Vec Call Global). section.items) rest (last ∷ [])) can
-    ) in
-    last_holds IsScriptCall others call (subst (λ (l : List Call). AllByRecursion IsScriptCall l) ends all)
+-- no texts are those of a repository without calls, with the limits of a new store
+pub none_recalled : (wanted : Option Bounds) (history : History) → CanBeLimits (new_limits wanted) → history ≡ new_with (new_limits wanted) [] → AreRecalled wanted [] history
+none_recalled wanted history range is =
+    subst (λ (h : History). AreRecalled wanted [] h) (sym is) (record { range = range; as_wanted = as_wanted_anew wanted; are = inr (refl, refl); can = tt })

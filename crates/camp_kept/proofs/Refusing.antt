@@ -1,36 +1,61 @@
 -- Why a file is refused.
-use Rattle.std.proofs.Common.{◌≡◌, ◌≢◌, ◌≤◌, ◌+◌, inl, inr, ℕ, zero, suc, Bool, false, List, [], ◌∷◌, ◌++◌, length, Result, Ok, Err, IfErr, IsErrAnd, IsTrue, sym, ◌∙◌, ap, subst, arith, length-append, true≢false}
+use Rattle.std.proofs.Common.{◌≡◌, ◌≢◌, ◌≤◌, ◌+◌, inl, inr, ℕ, zero, suc, Bool, false, List, [], ◌∷◌, ◌++◌, length, Result, Ok, Err, IfErr, IsErrAnd, IsTrue, Option, None, refl, sym, ◌∙◌, ap, subst, arith, length-append, true≢false, ◌<◌}
+use Rattle.std.proofs.lemmas.List.{nil_from_length}
 use Rattle.camp_call.specs.declared.calls.Call.{Call}
 use Rattle.camp_kept.specs.Faults.{IsOfContents, IsRefusal, IsUnopened, IsUntitled, ReportsDisk, fault_of}
-use Rattle.camp_kept.specs.Accepting.{AreAccepted, History, Stored, none_stored}
-use Rattle.camp_kept.specs.Keeping.{LeavesKept, Tells, call_texts, most_unbegun, store_texts, title}
+use Rattle.camp_kept.specs.Accepting.{AreAccepted, History, Stored, alone, none_within}
+use Rattle.camp_kept.specs.Keeping.{LeavesKept, Tells, call_texts, most_unbegun, store_texts}
+use Rattle.camp_kept.specs.Titles.{CanBeLimits, SaysLimits, title_of}
 use Rattle.camp_kept.specs.Replaying.{AreAsked, AsksAgain}
 use Rattle.camp_kept.specs.declared.faults.KeptFault.{KeptFault}
 use Rattle.camp_kept.specs.declared.faults.KeptFault.TheVariants as kept
 use Rattle.camp_kept.specs.declared.kept.Kept.{Kept}
-use Rattle.camp_kept.proofs.Recalling.{accepted_behind, no_texts, no_title, told_texts}
-use Rattle.camp_store.specs.Blocks.{AllFit, Stands, blocks, body, head}
+use Rattle.camp_kept.proofs.Recalling.{accepted_behind, no_texts, told_texts}
+use Rattle.camp_kept.proofs.TitleLemmas.{one_title, title_short}
+use Rattle.camp_object.specs.Histories.{IsAccepted}
+use Rattle.camp_repo.specs.Limits.{Bounds}
+use Rattle.camp_repo.specs.Objects.{repository_within}
+use Rattle.camp_store.specs.Blocks.{AllFit, AreBlocks, IsBlock, Stands, blocks, body, chain, first_digest, head, IsEnd}
 use Rattle.camp_store.specs.Counting.{ReportsFault}
 use Rattle.camp_store.specs.Logs.{IsOfClosing, IsOfPutting, IsOpen, KeepsTexts, LeavesAfter, end_with}
-use Rattle.camp_store.specs.Readings.{IsDamage, IsOfBytes, IsOfReading}
+use Rattle.camp_store.specs.Readings.{IsDamage, IsDamaged, IsOfBytes, IsOfReading, IsReading}
 use Rattle.camp_store.specs.declared.logs.Log.{Log}
+use Rattle.camp_store.specs.declared.readings.Reading.{Reading}
 use Rattle.camp_store.specs.declared.faults.StoreFault.{StoreFault}
 use Rattle.camp_store.specs.declared.faults.StoreFault.TheVariants as store
-use Rattle.camp_store.proofs.BlockLemmas.{damage_is_no_store, stands_once}
+use Rattle.camp_store.proofs.BlockLemmas.{block_is_no_end, block_more, block_once, damage_is_no_store, stands_once}
 use Rattle.camp_store.proofs.HeadLemmas.{length-head}
 
+-- a file that is damaged at its start begins with no block
+no_first_block : (at : ℕ) (file : List ℕ) → IsDamaged zero at file → (text behind : List ℕ) → IsBlock first_digest text behind file → ⊥
+no_first_block at file damage text behind block =
+    let none : damage.texts ≡ [] = nil_from_length damage.texts (sym damage.count_is) in
+    let front : damage.front ≡ [] = subst (λ (ts : List (List ℕ)). AreBlocks first_digest ts damage.front) none damage.are in
+    let here : file ≡ damage.rest = damage.split ∙ ap (λ (l : List ℕ). l ++ damage.rest) front in
+    damage.no_block text behind
+    (subst (λ (ts : List (List ℕ)). IsBlock (chain first_digest ts) text behind damage.rest) (sym none)
+    (subst (λ (f : List ℕ). IsBlock first_digest text behind f) here block))
+
+-- a file of texts begins with the block of the first
+pub begins_with : (text : List ℕ) (texts : List (List ℕ)) (file : List ℕ) → Stands (text ∷ texts) file → (behind : List ℕ) × IsBlock first_digest text behind file
+begins_with text texts file stands = (
+  stands.are.0 ++ stands.end,
+  subst (λ (f : List ℕ). IsBlock first_digest text (stands.are.0 ++ stands.end) f) (sym stands.split) (block_more first_digest text stands.are.0 stands.end stands.front stands.are.1),
+)
+
 -- a damaged file is refused
-pub damage_is_refused : (why : StoreFault) (file : List ℕ) → IsOfBytes why → IsDamage why file → IsRefusal (fault_of why) file
-damage_is_refused store.Memory file of damage = tt
-damage_is_refused (store.Disk error) file of damage = absurd of
-damage_is_refused store.TooLong file of damage = absurd of
-damage_is_refused (store.Damaged zero at) file of damage = record {
-  untitled = λ texts stands. damage_is_no_store zero at file damage (title ∷ texts) stands;
+pub damage_is_refused : (wanted : Option Bounds) (why : StoreFault) (file : List ℕ) → IsOfBytes why → IsDamage why file → IsRefusal wanted (fault_of why) file
+damage_is_refused wanted store.Memory file of damage = tt
+damage_is_refused wanted (store.Disk error) file of damage = absurd of
+damage_is_refused wanted store.TooLong file of damage = absurd of
+damage_is_refused wanted (store.Damaged zero at) file of damage = record {
+  untitled = λ limits range behind block. no_first_block at file damage (title_of limits) behind block;
   long = λ none. absurd (damage_is_no_store zero at file damage [] none);
 }
-damage_is_refused (store.Damaged (suc n) at) file of damage = (
+damage_is_refused wanted (store.Damaged (suc n) at) file of damage = (
   record {
     texts = damage.texts;
+    some = omega (arith, damage.count_is);
     front = damage.front;
     rest = damage.rest;
     split = damage.split;
@@ -39,82 +64,100 @@ damage_is_refused (store.Damaged (suc n) at) file of damage = (
     at_is = inl damage.at_is;
     wrong = inl (record { no_end = damage.no_end; no_block = damage.no_block });
   },
-  λ stored accepted told. damage_is_no_store (suc n) at file damage told.texts told.stands,
+  λ new stored accepted told. damage_is_no_store (suc n) at file damage told.texts told.stands,
 )
-damage_is_refused store.Failed file of damage = absurd of
+damage_is_refused wanted store.Failed file of damage = absurd of
 
 -- a disk whose bytes are refused is not opened
-pub refusal_unopened : (usable : Bool) (why : KeptFault) (file : List ℕ) → IsRefusal why file → IsUnopened usable why file
-refusal_unopened usable kept.Memory file refusal = refusal
-refusal_unopened usable kept.NoStore file refusal = refusal
-refusal_unopened usable (kept.Damaged call at) file refusal = refusal
-refusal_unopened usable (kept.Store fault) file refusal = absurd refusal
+pub refusal_unopened : (usable : Bool) (wanted : Option Bounds) (why : KeptFault) (file : List ℕ) → IsRefusal wanted why file → IsUnopened usable wanted why file
+refusal_unopened usable wanted kept.Memory file refusal = refusal
+refusal_unopened usable wanted kept.NoStore file refusal = refusal
+refusal_unopened usable wanted (kept.Damaged call at) file refusal = refusal
+refusal_unopened usable wanted (kept.OtherLimits catches branches) file refusal = refusal
+refusal_unopened usable wanted (kept.Store fault) file refusal = absurd refusal
 
 -- a disk that could not be read is not opened
-unread_unopened : (usable : Bool) (why : StoreFault) (file : List ℕ) → IsOfReading usable why → IsDamage why file → IsUnopened usable (fault_of why) file
-unread_unopened usable store.Memory file of damage = tt
-unread_unopened usable (store.Disk error) file of damage = tt
-unread_unopened usable store.TooLong file of damage = absurd of
-unread_unopened usable (store.Damaged zero at) file of damage = damage_is_refused (store.Damaged zero at) file tt damage
-unread_unopened usable (store.Damaged (suc n) at) file of damage = damage_is_refused (store.Damaged (suc n) at) file tt damage
-unread_unopened usable store.Failed file of damage = of
+unread_unopened : (usable : Bool) (wanted : Option Bounds) (why : StoreFault) (file : List ℕ) → IsOfReading usable why → IsDamage why file → IsUnopened usable wanted (fault_of why) file
+unread_unopened usable wanted store.Memory file of damage = tt
+unread_unopened usable wanted (store.Disk error) file of damage = tt
+unread_unopened usable wanted store.TooLong file of damage = absurd of
+unread_unopened usable wanted (store.Damaged zero at) file of damage = damage_is_refused wanted (store.Damaged zero at) file tt damage
+unread_unopened usable wanted (store.Damaged (suc n) at) file of damage = damage_is_refused wanted (store.Damaged (suc n) at) file tt damage
+unread_unopened usable wanted store.Failed file of damage = of
 
 -- nor one after whose texts no mark could be closed
-pub unclosed_unopened : (usable now : Bool) (why : StoreFault) (file : List ℕ) → IsTrue now → IsOfClosing now why → IsUnopened usable (kept.Store why) file
-unclosed_unopened usable now store.Memory file may of = absurd of
-unclosed_unopened usable now (store.Disk error) file may of = tt
-unclosed_unopened usable now store.TooLong file may of = absurd of
-unclosed_unopened usable now (store.Damaged count at) file may of = absurd of
-unclosed_unopened usable now store.Failed file may of = absurd (true≢false (sym may ∙ of))
+pub unclosed_unopened : (usable now : Bool) (wanted : Option Bounds) (why : StoreFault) (file : List ℕ) → IsTrue now → IsOfClosing now why → IsUnopened usable wanted (kept.Store why) file
+unclosed_unopened usable now wanted store.Memory file may of = absurd of
+unclosed_unopened usable now wanted (store.Disk error) file may of = tt
+unclosed_unopened usable now wanted store.TooLong file may of = absurd of
+unclosed_unopened usable now wanted (store.Damaged count at) file may of = absurd of
+unclosed_unopened usable now wanted store.Failed file may of = absurd (true≢false (sym may ∙ of))
 
 -- nor one to which no title could be appended
-pub untitled_unopened : (usable : Bool) (why : KeptFault) (file : List ℕ) → IsUntitled why → IsUnopened usable why file
-untitled_unopened usable kept.Memory file untitled = tt
-untitled_unopened usable kept.NoStore file untitled = absurd untitled
-untitled_unopened usable (kept.Damaged call at) file untitled = absurd untitled
-untitled_unopened usable (kept.Store (store.Disk error)) file untitled = tt
-untitled_unopened usable (kept.Store store.Failed) file untitled = absurd untitled
-untitled_unopened usable (kept.Store store.Memory) file untitled = absurd untitled
-untitled_unopened usable (kept.Store store.TooLong) file untitled = absurd untitled
-untitled_unopened usable (kept.Store (store.Damaged count at)) file untitled = absurd untitled
+pub untitled_unopened : (usable : Bool) (wanted : Option Bounds) (why : KeptFault) (file : List ℕ) → IsUntitled why → IsUnopened usable wanted why file
+untitled_unopened usable wanted kept.Memory file untitled = tt
+untitled_unopened usable wanted kept.NoStore file untitled = absurd untitled
+untitled_unopened usable wanted (kept.Damaged call at) file untitled = absurd untitled
+untitled_unopened usable wanted (kept.OtherLimits catches branches) file untitled = absurd untitled
+untitled_unopened usable wanted (kept.Store (store.Disk error)) file untitled = tt
+untitled_unopened usable wanted (kept.Store store.Failed) file untitled = absurd untitled
+untitled_unopened usable wanted (kept.Store store.Memory) file untitled = absurd untitled
+untitled_unopened usable wanted (kept.Store store.TooLong) file untitled = absurd untitled
+untitled_unopened usable wanted (kept.Store (store.Damaged count at)) file untitled = absurd untitled
 
 -- a title has a length, and fits in a file without texts
-title_fits : AllFit (store_texts none_stored)
-title_fits = (omega arith, tt)
+title_fits : (limits : Bounds) → CanBeLimits limits → AllFit (store_texts (none_within limits))
+title_fits limits range = (omega (arith, title_short limits range), tt)
 
-short_title : (digest : List ℕ) → length (blocks digest (store_texts none_stored)) + 1 ≤ most_unbegun
-short_title digest = omega (arith, length-append (body digest title) [], length-append (head digest title) title, length-head digest title)
+short_title : (limits : Bounds) → CanBeLimits limits → (digest : List ℕ) → length (blocks digest (store_texts (none_within limits))) + 1 ≤ most_unbegun
+short_title limits range digest =
+    let title = title_of limits in
+    omega (arith, title_short limits range, length-append (body digest title) [], length-append (head digest title) title, length-head digest title)
 
-pub title_ends : {D : Type 0} (seen : D → List ℕ) (may_leave : D → List ℕ → Type 0) (log : Log D) → KeepsTexts seen may_leave [] log → end_with log (store_texts none_stored) ≤ most_unbegun
-title_ends seen may_leave log keeps = omega (arith, short_title log.digest, keeps.length_is, ap (λ (l : List ℕ). length l) keeps.are)
+pub title_ends : {D : Type 0} (seen : D → List ℕ) (may_leave : D → List ℕ → Type 0) (limits : Bounds) → CanBeLimits limits → (log : Log D) → KeepsTexts seen may_leave [] log
+    → end_with log (store_texts (none_within limits)) ≤ most_unbegun
+title_ends seen may_leave limits range log keeps = omega (arith, short_title limits range log.digest, keeps.length_is, ap (λ (l : List ℕ). length l) keeps.are)
 
 -- why a title is not appended to a log that has not failed
-pub title_is_unput : {D : Type 0} (seen : D → List ℕ) (may_leave : D → List ℕ → Type 0) (is_usable : D → Bool) (log : Log D) (why : StoreFault) → KeepsTexts seen may_leave [] log
-    → IsOpen is_usable log → IsOfPutting is_usable log (store_texts none_stored) why → IsUntitled (fault_of why)
-title_is_unput seen may_leave is_usable log store.Memory keeps open_ of = tt
-title_is_unput seen may_leave is_usable log (store.Disk error) keeps open_ of = tt
-title_is_unput seen may_leave is_usable log store.TooLong keeps open_ (inl unfit) = absurd (unfit title_fits)
-title_is_unput seen may_leave is_usable log store.TooLong keeps open_ (inr long) =
-    absurd (omega (arith, long, title_ends seen may_leave log keeps))
-title_is_unput seen may_leave is_usable log (store.Damaged zero at) keeps open_ of = absurd of
-title_is_unput seen may_leave is_usable log (store.Damaged (suc n) at) keeps open_ of = absurd of
-title_is_unput seen may_leave is_usable log store.Failed keeps open_ of = absurd (of open_)
+pub title_is_unput : {D : Type 0} (seen : D → List ℕ) (may_leave : D → List ℕ → Type 0) (is_usable : D → Bool) (limits : Bounds) → CanBeLimits limits → (log : Log D) (why : StoreFault)
+    → KeepsTexts seen may_leave [] log → IsOpen is_usable log → IsOfPutting is_usable log (store_texts (none_within limits)) why → IsUntitled (fault_of why)
+title_is_unput seen may_leave is_usable limits range log store.Memory keeps open_ of = tt
+title_is_unput seen may_leave is_usable limits range log (store.Disk error) keeps open_ of = tt
+title_is_unput seen may_leave is_usable limits range log store.TooLong keeps open_ (inl unfit) = absurd (unfit (title_fits limits range))
+title_is_unput seen may_leave is_usable limits range log store.TooLong keeps open_ (inr long) =
+    absurd (omega (arith, long, title_ends seen may_leave limits range log keeps))
+title_is_unput seen may_leave is_usable limits range log (store.Damaged zero at) keeps open_ of = absurd of
+title_is_unput seen may_leave is_usable limits range log (store.Damaged (suc n) at) keeps open_ of = absurd of
+title_is_unput seen may_leave is_usable limits range log store.Failed keeps open_ of = absurd (of open_)
 
 -- a file of texts, the first of which is no title
-pub another_title : (text : List ℕ) (texts : List (List ℕ)) → text ≢ title → (file : List ℕ) → Stands (text ∷ texts) file → IsRefusal kept.NoStore file
-another_title text texts other file stands = record {
-  untitled = λ others titled. other (no_title text texts others file stands titled);
-  long = λ none. absurd (no_texts text texts (stands_once (text ∷ texts) [] file stands none));
+pub another_title : (wanted : Option Bounds) (text : List ℕ) (texts : List (List ℕ)) → SaysLimits text None → (file : List ℕ) → Stands (text ∷ texts) file → IsRefusal wanted kept.NoStore file
+another_title wanted text texts none file stands =
+    let first = begins_with text texts file stands in
+    record {
+      untitled = λ limits range behind block. none limits range ((block_once first_digest (title_of limits) text behind first.0 file block first.1).0);
+      long = λ empty. absurd (no_texts text texts (stands_once (text ∷ texts) [] file stands empty));
+    }
+
+-- a long file without texts
+pub no_text : (wanted : Option Bounds) (file : List ℕ) → Stands [] file → most_unbegun < length file → IsRefusal wanted kept.NoStore file
+no_text wanted file stands long = record {
+  untitled = λ limits range behind block. block_is_no_end first_digest (title_of limits) behind file block
+      (subst (λ (f : List ℕ). IsEnd f) (sym (stands.split ∙ ap (λ (l : List ℕ). l ++ stands.end) stands.are)) stands.ends);
+  long = λ none. long;
 }
 
 -- a file of texts, one of which is of no call that is accepted there
-pub not_accepted : (done : List (List ℕ)) (text : List ℕ) (rest : List (List ℕ)) (history after : History) → AreAsked done history → AsksAgain history text false after
-    → (file : List ℕ) → Stands (title ∷ (done ++ text ∷ rest)) file → (stored : Stored) → AreAccepted stored → Tells stored file → ⊥
-not_accepted done text rest history after asked none file stands stored accepted told =
+pub not_accepted : (limits : Bounds) (done : List (List ℕ)) (text : List ℕ) (rest : List (List ℕ)) (history after : History) → CanBeLimits limits → AreAsked limits done history
+    → AsksAgain history text false after → (file : List ℕ) → Stands (title_of limits ∷ (done ++ text ∷ rest)) file → (new : Bounds) (stored : Stored) → AreAccepted stored → Tells new stored file → ⊥
+not_accepted limits done text rest history after range asked none file stands new stored accepted told =
+    let texts = told_texts new (title_of limits) (done ++ text ∷ rest) stored file stands told in
+    let same : stored.limits ≡ limits = one_title stored.limits limits accepted.range range texts.0 in
     let e : call_texts stored.calls ≡ call_texts asked.calls ++ text ∷ rest =
-    told_texts (done ++ text ∷ rest) stored file stands told ∙ ap (λ (l : List (List ℕ)). l ++ text ∷ rest) asked.texts_are in
+    texts.1 ∙ ap (λ (l : List (List ℕ)). l ++ text ∷ rest) asked.texts_are in
     let next = accepted_behind asked.calls stored text rest asked.can accepted e in
-    subst (λ (h : History). AsksAgain h text false after) asked.is none next.0 next.1 next.2 next.3
+    subst (λ (h : History). AsksAgain h text false after) asked.is none next.0 next.1 next.2
+    (subst (λ (l : Bounds). IsAccepted (repository_within l) (alone asked.calls) next.0) same next.3)
 
 -- what a batch that is not appended leaves of a repository
 leaves_kept : {D : Type 0} (why : StoreFault) (old : Kept D) (new : Log D) → LeavesAfter why old.log new → LeavesKept (fault_of why) old (record old { log = new })
@@ -155,20 +198,27 @@ unput_is_no_contents is_usable log texts (store.Damaged (suc n) at) of contents 
 unput_is_no_contents is_usable log texts store.Failed of contents = contents
 
 -- the fault with which a damaged file was reported
-pub refused_from : {T : Type 0} (Known : Type 0) (usable : Bool) (result : Result T KeptFault) (why : StoreFault) (file : List ℕ) → IsErrAnd result (λ fault. fault ≡ fault_of why)
-    → IsOfReading usable why → (Known → IsDamage why file) → IfErr result (λ fault. Known → IsUnopened usable fault file)
-refused_from Known usable (Ok value) why file is of damage = tt
-refused_from Known usable (Err fault) why file is of damage = λ known.
-    subst (λ (f : KeptFault). IsUnopened usable f file) (sym is) (unread_unopened usable why file of (damage known))
+pub refused_from : {T : Type 0} (Known : Type 0) (usable : Bool) (wanted : Option Bounds) (result : Result T KeptFault) (why : StoreFault) (file : List ℕ) → IsErrAnd result (λ fault. fault ≡ fault_of why)
+    → IsOfReading usable why → (Known → IsDamage why file) → IfErr result (λ fault. Known → IsUnopened usable wanted fault file)
+refused_from Known usable wanted (Ok value) why file is of damage = tt
+refused_from Known usable wanted (Err fault) why file is of damage = λ known.
+    subst (λ (f : KeptFault). IsUnopened usable wanted f file) (sym is) (unread_unopened usable wanted why file of (damage known))
 
 -- one that was read, and whose bytes are refused
-pub refused_then : {T : Type 0} (Known : Type 0) (usable : Bool) (result : Result T KeptFault) (why : KeptFault) (file : List ℕ) → IsErrAnd result (λ fault. fault ≡ why)
-    → (Known → IsRefusal why file) → IfErr result (λ fault. Known → IsUnopened usable fault file)
-refused_then Known usable (Ok value) why file is refusal = tt
-refused_then Known usable (Err fault) why file is refusal = λ known.
-    subst (λ (f : KeptFault). IsUnopened usable f file) (sym is) (refusal_unopened usable why file (refusal known))
+pub refused_then : {T : Type 0} (Known : Type 0) (usable : Bool) (wanted : Option Bounds) (result : Result T KeptFault) (why : KeptFault) (file : List ℕ) → IsErrAnd result (λ fault. fault ≡ why)
+    → (Known → IsRefusal wanted why file) → IfErr result (λ fault. Known → IsUnopened usable wanted fault file)
+refused_then Known usable wanted (Ok value) why file is refusal = tt
+refused_then Known usable wanted (Err fault) why file is refusal = λ known.
+    subst (λ (f : KeptFault). IsUnopened usable wanted f file) (sym is) (refusal_unopened usable wanted why file (refusal known))
 
-pub refused_at_once : {T : Type 0} (result : Result T KeptFault) (why : StoreFault) (file : List ℕ) → IsErrAnd result (λ fault. fault ≡ fault_of why)
-    → IsOfBytes why → IsDamage why file → IfErr result (λ fault. IsRefusal fault file)
-refused_at_once (Ok value) why file is of damage = tt
-refused_at_once (Err fault) why file is of damage = subst (λ (f : KeptFault). IsRefusal f file) (sym is) (damage_is_refused why file of damage)
+pub refused_at_once : {T : Type 0} (wanted : Option Bounds) (result : Result T KeptFault) (why : StoreFault) (file : List ℕ) → IsErrAnd result (λ fault. fault ≡ fault_of why)
+    → IsOfBytes why → IsDamage why file → IfErr result (λ fault. IsRefusal wanted fault file)
+refused_at_once wanted (Ok value) why file is of damage = tt
+refused_at_once wanted (Err fault) why file is of damage = subst (λ (f : KeptFault). IsRefusal wanted f file) (sym is) (damage_is_refused wanted why file of damage)
+
+-- one whose title is refused
+pub refused_so : {T : Type 0} (wanted : Option Bounds) (result : Result T KeptFault) (why : KeptFault) (Known : List ℕ → Type 0) → IsErrAnd result (λ fault. fault ≡ why)
+    → ((file : List ℕ) → Known file → IsRefusal wanted why file) → IfErr result (λ fault. (file : List ℕ) → Known file → IsRefusal wanted fault file)
+refused_so wanted (Ok value) why Known is refusal = tt
+refused_so wanted (Err fault) why Known is refusal = λ file known.
+    subst (λ (f : KeptFault). IsRefusal wanted f file) (sym is) (refusal file known)

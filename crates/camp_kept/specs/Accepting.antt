@@ -4,9 +4,10 @@ use Rattle.std.specs.List.{AllByRecursion}
 use Rattle.camp_call.specs.declared.calls.Call.{Call}
 use Rattle.camp_object.specs.Books.{Booked}
 use Rattle.camp_object.specs.Histories.{IsBeginning, IsLegal}
-use Rattle.camp_repo.specs.Limits.{Bounds, default_bounds}
+use Rattle.camp_kept.specs.Titles.{CanBeLimits}
+use Rattle.camp_repo.specs.Limits.{Bounds}
 use Rattle.camp_repo.specs.Objects.{repository_within}
-use Rattle.camp_repo.specs.States.{Contents, initial}
+use Rattle.camp_repo.specs.States.{Contents}
 use Rattle.camp_script.specs.Canonical.{IsScriptCall}
 use Rattle.camp_script.specs.Keeping.{calls_of}
 
@@ -23,9 +24,9 @@ pub record Stored : Type 0 where
   pub limits : Bounds
   pub calls : List Call
 
--- a repository without given limits, and without calls
-abbrev pub none_stored : Stored
-none_stored = record { limits = default_bounds; calls = [] }
+-- a repository with these limits, and without calls
+abbrev pub none_within : Bounds → Stored
+none_within limits = record { limits = limits; calls = [] }
 
 -- what the repository of a history has accepted
 abbrev pub stored_of : History → Stored
@@ -36,8 +37,8 @@ pub record IsFrontOf (part whole : Stored) : Type 0 where
   pub limits : part.limits ≡ whole.limits
   pub calls : IsBeginning part.calls whole.calls
 
--- calls that a script can contain, each accepted after those before it, by a repository without given limits
+-- calls that a script can contain, each accepted after those before it, by a repository with these limits
 pub record AreAccepted (stored : Stored) : Type 0 where
-  pub default : stored.limits ≡ default_bounds
+  pub range : CanBeLimits stored.limits
   pub can : AllByRecursion IsScriptCall stored.calls
   pub legal : IsLegal (repository_within stored.limits) (alone stored.calls)

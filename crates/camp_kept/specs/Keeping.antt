@@ -1,39 +1,38 @@
 -- The accepted calls of a repository, as a store has them.
-use Rattle.std.specs.Prelude.{◌≡◌, ◌⊎◌, ◌≤◌, ℕ, Bool, false, List, [], ◌∷◌, length, map, codes}
+use Rattle.std.specs.Prelude.{◌≡◌, ◌⊎◌, ◌≤◌, ℕ, Bool, false, List, [], ◌∷◌, length, map}
 use Rattle.camp_call.specs.declared.calls.Call.{Call}
-use Rattle.camp_kept.specs.Accepting.{AreAccepted, IsFrontOf, Stored, none_stored, stored_of}
+use Rattle.camp_kept.specs.Accepting.{AreAccepted, IsFrontOf, Stored, none_within, stored_of}
+use Rattle.camp_kept.specs.Titles.{title_of}
 use Rattle.camp_kept.specs.declared.faults.KeptFault.{KeptFault}
 use Rattle.camp_kept.specs.declared.faults.KeptFault.TheVariants as fault
 use Rattle.camp_kept.specs.declared.kept.Kept.{Kept}
+use Rattle.camp_repo.specs.Limits.{Bounds}
 use Rattle.camp_script.specs.Canonical.{call_text}
 use Rattle.camp_store.specs.Blocks.{Stands}
 use Rattle.camp_store.specs.Logs.{KeepsTexts, disk_of, may_go_on}
 use Rattle.camp_store.specs.declared.faults.StoreFault.TheVariants as store
 
--- the first text of a store
-abbrev pub title : List ℕ
-title = codes "camp store 1\n"
-
 -- the most bytes of a file without a text that is a store being created
 abbrev pub most_unbegun : ℕ
-most_unbegun = 64
+most_unbegun = 80
 
 -- the texts of calls, each in the form of a script
 abbrev pub call_texts : List Call → List (List ℕ)
 call_texts calls = map call_text calls
 
--- the texts of a store: its title, and those of its calls
+-- the texts of a store: its title, which says its limits, and those of its calls
 abbrev pub store_texts : Stored → List (List ℕ)
-store_texts stored = title ∷ call_texts stored.calls
+store_texts stored = title_of stored.limits ∷ call_texts stored.calls
 
--- these texts are a store of these calls; or there are no texts yet, and no calls
-abbrev pub AreTexts : List (List ℕ) → Stored → Type 0
-AreTexts texts stored = (texts ≡ store_texts stored) ⊎ ((texts ≡ []) × (stored ≡ none_stored))
+-- these texts are a store of these calls; or there are no texts yet, and no calls within the limits of a new store
+abbrev pub AreTexts : Bounds → List (List ℕ) → Stored → Type 0
+AreTexts new texts stored = (texts ≡ store_texts stored) ⊎ ((texts ≡ []) × (stored ≡ none_within new))
 
--- the file decodes to these calls: it has the texts of their store; or no text and few bytes, and then no calls
-pub record Tells (stored : Stored) (file : List ℕ) : Type 0 where
+-- the file decodes to these calls: it has the texts of their store; or no text and few bytes, and then no calls within
+-- the limits of a new store
+pub record Tells (new : Bounds) (stored : Stored) (file : List ℕ) : Type 0 where
   pub texts : List (List ℕ)
-  pub are : AreTexts texts stored
+  pub are : AreTexts new texts stored
   pub stands : Stands texts file
   pub short : texts ≡ [] → length file ≤ most_unbegun
 
@@ -52,8 +51,8 @@ module _ {D : Type 0} (seen : D → List ℕ) (may_leave : D → List ℕ → Ty
     pub count_is : kept.count ≡ length stored.calls
 
   -- whatever a crash leaves decodes to these calls
-  abbrev pub LeavesTold : Stored → D → Type 0
-  LeavesTold stored disk = (c : List ℕ) → may_leave disk c → Tells stored c
+  abbrev pub LeavesTold : Bounds → Stored → D → Type 0
+  LeavesTold new stored disk = (c : List ℕ) → may_leave disk c → Tells new stored c
 
 -- the disk of a durable repository
 abbrev pub disk_in : {D : Type 0} → Kept D → D
@@ -90,6 +89,7 @@ LeavesKept (fault.Store store.Failed) old new = new ≡ old
 LeavesKept fault.Memory old new = new ≡ old
 LeavesKept fault.NoStore old new = new ≡ old
 LeavesKept (fault.Damaged call at) old new = new ≡ old
+LeavesKept (fault.OtherLimits catches branches) old new = new ≡ old
 
 -- a disk on which nothing was written: a read returns the same, and a crash leaves one of the same files
 pub record IsUntouched {D : Type 0} (seen : D → List ℕ) (may_leave : D → List ℕ → Type 0) (old new : D) : Type 0 where

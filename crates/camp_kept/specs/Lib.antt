@@ -4,3 +4,4 @@ pub mod Faults
 pub mod Keeping
 pub mod Laws
 pub mod Replaying
+pub mod Titles

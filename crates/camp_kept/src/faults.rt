@@ -19,6 +19,9 @@ pub enum KeptFault {
     /// from 1.
     #[error("damaged at call {call}, byte {at}")]
     Damaged { call: usize, at: usize },
+    /// The store has these limits, and others are wanted.
+    #[error("the store has other limits: catches={catches},branches={branches}")]
+    OtherLimits { catches: usize, branches: usize },
     /// The fault of the file.
     #[error("{0}")]
     Store(StoreFault),

@@ -1,5 +1,5 @@
 //! Inspecting the bytes of a file.
-ghost use Rattle.std.specs.Prelude.{IfErr, IfOk};
+ghost use Rattle.std.specs.Prelude.{None, IfErr, IfOk};
 ghost use Rattle.camp_kept.specs.Endings.{IsInspection};
 ghost use Rattle.camp_kept.specs.Faults.{IsRefusal};
 
@@ -22,10 +22,10 @@ pub struct Inspection {
 /// Inspects the bytes of a file.
 pub fn inspect(alloc: Global, bytes: &[u8]) -> Result<Inspection, KeptFault>
     ensures told { IfOk result (λ found. IsInspection bytes.now found) }
-    ensures refused { IfErr result (λ why. IsRefusal why bytes.now) }
+    ensures refused { IfErr result (λ why. IsRefusal None why bytes.now) }
 {
     let reading = decode(alloc, bytes)?;
-    let book = recall(alloc, &reading)?;
+    let book = recall(alloc, &reading, &None)?;
     Ok(Inspection {
         calls: book.history().len(),
         digest: reading.digest,

@@ -1,15 +1,17 @@
 //! The durable repository.
-ghost use Rattle.std.specs.Prelude.{◌≡◌, ◌⊎◌, ◌-◌, List, Err, false, length, IfErr, IfOk, IsTrue, MatchResult, OnOk, ℕ};
+ghost use Rattle.std.specs.Prelude.{◌≡◌, ◌⊎◌, ◌-◌, List, Err, false, length, IfErr, IfOk, IsTrue, MatchResult, OnOk, Option, ℕ};
 ghost use Rattle.camp_kept.specs.Accepting.{Stored};
 ghost use Rattle.camp_kept.specs.Faults.{CountsDisk, IsOfContents, IsUnkept, IsUnopened, ReportsDisk};
 ghost use Rattle.camp_kept.specs.declared.faults.KeptFault.TheVariants as fault;
 ghost use Rattle.camp_kept.specs.Keeping.{IsStoreOf, IsUntouched, LeavesTold};
+ghost use Rattle.camp_kept.specs.Titles.{AreAsWanted, new_limits};
 ghost use Rattle.camp_store.specs.declared.faults.StoreFault.TheVariants as store_fault;
 
 use crate::KeptFault;
 use crate::openings::{begin, left_out, recover};
 use crate::texts::texts_to_keep;
-use camp_repo::{Book, State};
+use crate::titles::new_limits;
+use camp_repo::{Book, Limits, State};
 use camp_store::{Disk, Log, StoreFault};
 use std::alloc::Global;
 
@@ -27,26 +29,32 @@ impl<D: Disk> Kept<D> {
     ghost use Rattle.camp_kept.specs.Endings.{LeavesOut};
     ghost use Rattle.camp_kept.specs.Keeping.{AreFirst, AreTexts, Holds, LeavesKept, stored_in, disk_in, known_in, left_out_in, may_commit};
 
-    /// Opens the repository that a disk persists, and writes the title of a store if there is none. A crash
-    /// may come meanwhile too.
-    pub fn open(alloc: Global, mut disk: D) -> Result<Kept<D>, (KeptFault, D)>
+    /// Opens the repository that a disk persists, and writes the title of a store if there is none. If limits
+    /// are wanted, a new store has these, and any other has to have them; else a new store has the default ones.
+    /// A crash may come meanwhile too.
+    pub fn open(
+        alloc: Global,
+        mut disk: D,
+        wanted: Option<Limits>,
+    ) -> Result<Kept<D>, (KeptFault, D)>
         ensures holds { IfOk result (λ kept. IsTrue (D.Disk.is_clean (disk_in kept)) → Holds D.Disk.seen D.Disk.may_leave (stored_in kept) kept) }
         ensures told { IfOk result (λ kept. IsTrue (D.Disk.is_clean (disk_in kept)) → (texts : List (List ℕ))
-            × AreTexts texts (stored_in kept) × LeavesOut texts (D.Disk.seen disk) (left_out_in kept)) }
-        ensures refused { IfErr result (λ e. IsTrue (D.Disk.is_clean e.1) → IsUnopened (D.Disk.is_usable disk) e.0 (D.Disk.seen disk)) }
-        // A file that is not a store, or is damaged, is unchanged.
+            × AreTexts (new_limits wanted) texts (stored_in kept) × LeavesOut texts (D.Disk.seen disk) (left_out_in kept)) }
+        ensures wanted { IfOk result (λ kept. AreAsWanted wanted (stored_in kept).limits) }
+        ensures refused { IfErr result (λ e. IsTrue (D.Disk.is_clean e.1) → IsUnopened (D.Disk.is_usable disk) wanted e.0 (D.Disk.seen disk)) }
+        // A file that is not a store, is damaged, or has other limits, is unchanged.
         ensures untouched { IfErr result (λ e. IsOfContents e.0 → IsUntouched D.Disk.seen D.Disk.may_leave disk e.1) }
         ensures known { IfOk result (λ kept. known_in kept ≡ length (stored_in kept).calls) }
         ensures open_to_commits { IfOk result (λ kept. IsTrue (may_commit kept)) }
         ensures faults { IfOk result (λ kept. D.Disk.faults (disk_in kept) ≡ D.Disk.faults disk) }
         ensures faults_err { IfErr result (λ e. ReportsDisk e.0 (D.Disk.faults disk) (D.Disk.faults e.1)) }
-        // A crash leaves a file with the same calls.
-        ensures crash { IfOk result (λ kept. (stored : Stored) → LeavesTold D.Disk.seen D.Disk.may_leave stored disk
-            → IsTrue (D.Disk.is_clean (disk_in kept)) → LeavesTold D.Disk.seen D.Disk.may_leave stored (disk_in kept)) }
-        ensures crash_err { IfErr result (λ e. (stored : Stored) → LeavesTold D.Disk.seen D.Disk.may_leave stored disk
-            → IsTrue (D.Disk.is_clean e.1) → LeavesTold D.Disk.seen D.Disk.may_leave stored e.1) }
+        // A crash leaves a file with the same limits and calls.
+        ensures crash { IfOk result (λ kept. (stored : Stored) → LeavesTold D.Disk.seen D.Disk.may_leave (new_limits wanted) stored disk
+            → IsTrue (D.Disk.is_clean (disk_in kept)) → LeavesTold D.Disk.seen D.Disk.may_leave (new_limits wanted) stored (disk_in kept)) }
+        ensures crash_err { IfErr result (λ e. (stored : Stored) → LeavesTold D.Disk.seen D.Disk.may_leave (new_limits wanted) stored disk
+            → IsTrue (D.Disk.is_clean e.1) → LeavesTold D.Disk.seen D.Disk.may_leave (new_limits wanted) stored e.1) }
     {
-        let (reading, book) = match recover(alloc, &mut disk) {
+        let (reading, book) = match recover(alloc, &mut disk, &wanted) {
             Ok(found) => found,
             Err(fault) => return Err((fault, disk)),
         };
@@ -54,7 +62,7 @@ impl<D: Disk> Kept<D> {
             Ok(log) => log,
             Err((fault, disk)) => return Err((KeptFault::Store(fault), disk)),
         };
-        match begin(alloc, log, &reading.texts) {
+        match begin(alloc, log, &reading.texts, new_limits(&wanted)) {
             Ok(log) => Ok(Kept {
                 count: book.history().len(),
                 left_out: left_out(&reading),

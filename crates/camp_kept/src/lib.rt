@@ -8,13 +8,14 @@ mod laws;
 mod openings;
 mod replays;
 mod texts;
+mod titles;
 
-pub use camp_repo::{Book, State};
+pub use camp_repo::{Book, Limits, State};
 pub use camp_store::Disk;
 pub use faults::KeptFault;
 pub use inspections::{Inspection, inspect};
 pub use kept::Kept;
 pub use laws::stores_are_opened;
 
-/// The most bytes of a file that has no title yet: more than a store being created has.
-const MAX_UNBEGUN: usize = 64;
+/// The most bytes of a file that has no title yet: more than a store being created has, whatever its limits.
+const MAX_UNBEGUN: usize = 80;

@@ -1,66 +1,78 @@
 //! Replaying a book from the texts of its calls.
-ghost use Rattle.std.specs.Prelude.{◌≡◌, ◌↔◌, [], ◌∷◌, List, ℕ, IfErr, IfOk, IsTrue};
+ghost use Rattle.std.specs.Prelude.{◌≡◌, [], ◌∷◌, List, Option, ℕ, IfErr, IfOk};
 ghost use Rattle.camp_kept.specs.Faults.{IsNotOfDisk, IsRefusal};
-ghost use Rattle.camp_kept.specs.Keeping.{title};
 ghost use Rattle.camp_kept.specs.Replaying.{AreAsked, AreRecalled, AsksAgain, AsksCall, new_with};
+ghost use Rattle.camp_kept.specs.Titles.{CanBeLimits, title_of};
+ghost use Rattle.camp_repo.specs.Limits.{Bounds};
 ghost use Rattle.camp_store.specs.Blocks.{Stands};
 ghost use Rattle.camp_store.specs.Logs.{texts_of};
 
 use crate::KeptFault;
-use crate::texts::{TITLE, call_of};
-use camp_repo::{Book, Call, Object, State};
+use crate::titles::{limits_of, new_limits};
+use camp_repo::{Book, Call, Limits, Object, State, new_book};
+use camp_script::parse_call;
 use std::alloc::{AllocError, Global};
 
 /// Bytes of a block before its text: its mark and its head.
 const BEFORE_TEXT: usize = 27;
 
-/// Replays the book of the calls with these texts, which come after the title.
+/// Replays the book of the calls with these texts, which come after the title. If limits are wanted, the title
+/// has to say these.
 #[tactic(auto, using(crate::proofs::Recalling::none_recalled))]
-pub(crate) fn replay(alloc: Global, texts: &[Vec<u8>]) -> Result<Book<State>, KeptFault>
-    ensures recalled { IfOk result (AreRecalled (texts_of texts.now)) }
-    ensures refused { IfErr result (λ why. (file : List ℕ) → Stands (texts_of texts.now) file → IsRefusal why file) }
+pub(crate) fn replay(
+    alloc: Global,
+    texts: &[Vec<u8>],
+    wanted: &Option<Limits>,
+) -> Result<Book<State>, KeptFault>
+    ensures recalled { IfOk result (AreRecalled wanted.now (texts_of texts.now)) }
+    ensures refused { IfErr result (λ why. (file : List ℕ) → Stands (texts_of texts.now) file → IsRefusal wanted.now why file) }
     ensures not_disk { IfErr result IsNotOfDisk }
 {
-    let Some((first, others)) = texts.split_first() else {
-        return Ok(Book::new(alloc)?);
+    let Some((title, others)) = texts.split_first() else {
+        return Ok(new_book(alloc, new_limits(wanted))?);
     };
-    if !is_title(first) {
-        return Err(KeptFault::NoStore);
-    }
-    ask_all(alloc, others)
+    let limits = limits_of(alloc, title, wanted)?;
+    ask_all(alloc, limits, title, others)
 }
 
-fn is_title(text: &[u8]) -> bool
-    ensures { IsTrue result ↔ (text.now ≡ title) }
-{
-    text == TITLE
-}
-
-// Replays the book of the calls with these texts.
-fn ask_all(alloc: Global, texts: &[Vec<u8>]) -> Result<Book<State>, KeptFault>
-    ensures texts { IfOk result (AreAsked (texts_of texts.now)) }
-    ensures refused { IfErr result (λ why. (file : List ℕ) → Stands (title ∷ texts_of texts.now) file → IsRefusal why file) }
+// Replays the book of the calls with these texts, which come after the title of a store with these limits.
+fn ask_all(
+    alloc: Global,
+    limits: Limits,
+    title: &[u8],
+    texts: &[Vec<u8>],
+) -> Result<Book<State>, KeptFault>
+    requires title { title.now ≡ title_of limits }
+    requires range { CanBeLimits limits }
+    ensures texts { IfOk result (AreAsked limits (texts_of texts.now)) }
+    ensures refused { IfErr result (λ why. (wanted : Option Bounds) (file : List ℕ) → Stands (title.now ∷ texts_of texts.now) file → IsRefusal wanted why file) }
     ensures not_disk { IfErr result IsNotOfDisk }
 {
-    let mut book = Book::new(alloc)?;
-    ask_each(alloc, &mut book, texts)?;
+    let mut book = new_book(alloc, limits)?;
+    ask_each(alloc, &mut book, title, texts)?;
     Ok(book)
 }
 
-// Executes the calls with these texts on a new book.
-fn ask_each(alloc: Global, book: &mut Book<State>, texts: &[Vec<u8>]) -> Result<(), KeptFault>
-    requires { book.old ≡ new_with [] }
-    ensures texts { IfOk result (λ _. AreAsked (texts_of texts.now) book.new) }
-    ensures refused { IfErr result (λ why. (file : List ℕ) → Stands (title ∷ texts_of texts.now) file → IsRefusal why file) }
+// Executes the calls with these texts, which come after a title, on a new book.
+fn ask_each(
+    alloc: Global,
+    book: &mut Book<State>,
+    title: &[u8],
+    texts: &[Vec<u8>],
+) -> Result<(), KeptFault>
+    requires new { book.old ≡ new_with book.old.first.limits [] }
+    requires title { title.now ≡ title_of book.old.first.limits }
+    requires range { CanBeLimits book.old.first.limits }
+    ensures texts { IfOk result (λ _. AreAsked book.old.first.limits (texts_of texts.now) book.new) }
+    ensures refused { IfErr result (λ why. (wanted : Option Bounds) (file : List ℕ) → Stands (title.now ∷ texts_of texts.now) file → IsRefusal wanted why file) }
     ensures not_disk { IfErr result IsNotOfDisk }
 {
-    let mut call = 1usize;
-    let mut at = BEFORE_TEXT + TITLE.len();
+    let mut at = BEFORE_TEXT.saturating_add(title.len());
     for text in texts {
+        let call = book.history().len().saturating_add(1);
         if !ask_again(alloc, book, text)? {
             return Err(KeptFault::Damaged { call, at });
         }
-        call = call.saturating_add(1);
         at = at.saturating_add(BEFORE_TEXT).saturating_add(text.len());
     }
     Ok(())
@@ -70,7 +82,7 @@ fn ask_each(alloc: Global, book: &mut Book<State>, texts: &[Vec<u8>]) -> Result<
 fn ask_again(alloc: Global, book: &mut Book<State>, text: &[u8]) -> Result<bool, AllocError>
     ensures { IfOk result (λ yes. AsksAgain book.old text.now yes book.new) }
 {
-    match call_of(alloc, text)? {
+    match parse_call(alloc, text)? {
         Some(call) => accept(book, &call),
         None => Ok(false),
     }

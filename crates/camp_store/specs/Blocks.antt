@@ -20,7 +20,7 @@ first_digest = replicate 32 0
 abbrev pub digest_behind : List ℕ → List ℕ → List ℕ
 digest_behind before text = sha256 (before ++ text)
 
--- the digest of a list of texts after texts with a digest
+-- the digest of all texts, given the digest `before` of the first of them and the list of the others
 abbrev pub chain : List ℕ → List (List ℕ) → List ℕ
 chain before [] = before
 chain before (text ∷ texts) = chain (digest_behind before text) texts

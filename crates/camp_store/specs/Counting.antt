@@ -4,11 +4,11 @@ use Rattle.sqlite_disk.specs.Disk.{MoreFaults}
 use Rattle.camp_store.specs.declared.faults.StoreFault.{StoreFault}
 use Rattle.camp_store.specs.declared.faults.StoreFault.TheVariants.{Damaged, Disk, Failed, Memory, TooLong}
 
--- a fault of the disk is reported where one of its calls has failed, and any other where none has
+-- `Disk` is reported only if a call of the disk has failed; any other fault only if none has
 abbrev pub ReportsFault : StoreFault → ℕ → ℕ → Type 0
 ReportsFault (Disk error) old new = MoreFaults old new
 ReportsFault other old new = new ≡ old
 
--- at Ok no call of the disk has failed; a fault of the disk is reported where one has, and any other where none has
+-- Ok, and any fault but `Disk`, mean that no call of the disk has failed; `Disk` means that one has
 abbrev pub CountsFaults : {T : Type 0} → Result T StoreFault → ℕ → ℕ → Type 0
 CountsFaults result old new = MatchResult result (λ _. new ≡ old) (λ why. ReportsFault why old new)

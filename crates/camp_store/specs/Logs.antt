@@ -51,7 +51,7 @@ IsRefused texts Memory = Unit {0}
 IsRefused texts TooLong = ¬ (AllFit texts)
 IsRefused texts other = ⊥
 
--- why no mark could be closed: the disk has failed now; or it had failed before, and may not be used
+-- why a mark could not be closed: `Disk`: the disk has failed now; `Failed`: it had failed before, and may not be used
 abbrev pub IsOfClosing : Bool → StoreFault → Type 0
 IsOfClosing usable (Disk error) = Unit {0}
 IsOfClosing usable Failed = usable ≡ false

@@ -6,7 +6,7 @@ use Rattle.sqlite_disk.specs.Disk.{Holds, Torn, Follows, Only}
 
 -- two properties of files: what a read returns and what a crash may leave
 module _ {D : Type 0} (seen : D → List ℕ) (may_leave : D → List ℕ → Type 0) where
-  -- a write of n bytes has begun, and is durable, torn or absent after a crash
+  -- a write of n bytes has begun; after a crash it may be whole, torn or absent
   abbrev pub Begun : ℕ → ℕ → D → D → Type 0
   Begun at n before now = Follows (Torn at n) (may_leave before) (may_leave now)
 
@@ -17,7 +17,7 @@ module _ {D : Type 0} (seen : D → List ℕ) (may_leave : D → List ℕ → Ty
     pub written : Holds (seen now) at bytes
     pub durable : Only (seen now) (may_leave now)
 
-  -- each moment of appending a batch, whatever steps have begun or are done
+  -- what a crash may leave at each moment of appending a batch
   pub record EachMoment (old new : List (List ℕ)) (digest bytes : List ℕ) (at : ℕ) (before : D) : Type 0 where
     -- the bytes after its first mark are being written and synced
     pub staging : (now : D) → Begun (at + 1) (length bytes - 1) before now → (c : List ℕ) → may_leave now c → Stands old c

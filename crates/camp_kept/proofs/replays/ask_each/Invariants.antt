@@ -1,12 +1,12 @@
 use Rattle.std.proofs.Common.{◌+◌, length, take}
 use Rattle.camp_kept.specs.Faults.{IsNumber}
 use Rattle.camp_kept.specs.Replaying.{AreAsked}
+use Rattle.camp_kept.specs.Titles.{title_of}
 use Rattle.camp_kept.proofs.Numbering.{size}
 use Rattle.camp_store.specs.Logs.{texts_of}
 use Rattle.camp_kept.proofs.replays.ask_each.Given as goal
 
 abbrev pub invariant-loop-text : goal.invariant-loop-text
 invariant-loop-text l =
-    AreAsked (texts_of (take l.text-index l.texts)) l.book
-    × IsNumber l.call (length (texts_of (take l.text-index l.texts)) + 1)
-    × IsNumber l.at (40 + size (texts_of (take l.text-index l.texts)))
+    AreAsked l.fn.book.first.limits (texts_of (take l.text-index l.texts)) l.book
+    × IsNumber l.at (27 + length (title_of l.fn.book.first.limits) + size (texts_of (take l.text-index l.texts)))
