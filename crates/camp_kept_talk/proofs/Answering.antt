@@ -3,7 +3,8 @@ use Rattle.std.proofs.Common.{◌≡◌, ◌⊎◌, inl, inr, ℕ, Bool, true, f
 use Rattle.std.proofs.KnownBytes.{Appends-kept, Appends-trans, Consumes-trans}
 use Rattle.std.proofs.lemmas.Grind.{flat_map-append}
 use Rattle.std.specs.Io.KnownBytes.{Appends, Consumes, IsAtEnd, Keeps, append_known}
-use Rattle.camp_kept_talk.specs.Promises.{AnswersLast, Told}
+use Rattle.camp_kept.specs.Accepting.{IsFrontOf, Stored}
+use Rattle.camp_kept_talk.specs.Promises.{AnswersLast, Told, durable_at_least}
 use Rattle.camp_talk.specs.Answers.{Answers, Standing}
 use Rattle.camp_talk.specs.Cutting.{IsCommand, IsLeft}
 use Rattle.camp_talk.specs.Talks.{AppendsSome, Exchange, Follow, ReadsCommand}
@@ -79,6 +80,23 @@ holds_kept a b old now after first last holds keeps = record {
   reads = holds.reads;
   writes = Appends-kept old now after (flat_map (λ (e : Exchange). e.answer) holds.said) holds.writes keeps;
 }
+
+-- the commands are the same
+pub told_of_all : (a b old now : Option (List ℕ)) (first last : Standing) (holds : HoldsSo a b old now first last)
+    → (told_of a b old now first last holds).said ++ (told_of a b old now first last holds).more ≡ holds.said
+unfolding told_of
+told_of_all a b old now first last holds = append-nil holds.said
+
+pub holds_kept_all : (a b old now after : Option (List ℕ)) (first last : Standing) (holds : HoldsSo a b old now first last) (keeps : Keeps now after)
+    → (holds_kept a b old now after first last holds keeps).said ≡ holds.said
+unfolding holds_kept
+holds_kept_all a b old now after first last holds keeps = refl
+
+-- calls that include those that were durable, and those that are accepted, whatever was answered
+pub at_least_front : {Answered : Type 0} (answered : List Answered) (durable accepted calls : Stored) → IsFrontOf durable calls → IsFrontOf accepted calls
+    → IsFrontOf (durable_at_least answered durable accepted) calls
+at_least_front [] durable accepted calls still since = still
+at_least_front (one ∷ others) durable accepted calls still since = since
 
 -- whatever was written
 pub told_unseen : (a b old now : Option (List ℕ)) (first last : Standing) → Told a b old now first last → Told a b None None first last

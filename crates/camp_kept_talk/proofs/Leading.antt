@@ -1,16 +1,18 @@
 -- The results of flushing and of steps.
-use Rattle.std.proofs.Common.{◌≡◌, ◌⊎◌, inl, inr, ℕ, Bool, true, false, List, [], IsErrAnd, Option, Some, OnSome, Result, Ok, Err, MatchResult, refl, sym, ◌∙◌, ap, subst}
-use Rattle.std.proofs.KnownBytes.{Consumes-nil}
+use Rattle.std.proofs.Common.{◌≡◌, ◌⊎◌, inl, inr, ℕ, Bool, true, false, List, [], ◌++◌, IsErrAnd, Option, Some, OnSome, Result, Ok, Err, MatchResult, refl, sym, ◌∙◌, ap, subst}
+use Rattle.std.proofs.KnownBytes.{Appends-nil, Consumes-nil}
 use Rattle.std.specs.Io.KnownBytes.{Appends, Consumes, IsAtEnd, Keeps, append_known}
 use Rattle.camp_kept.specs.Accepting.{IsFrontOf, Stored, stored_of}
-use Rattle.camp_kept.specs.Keeping.{Holds, IsStoreOf, stored_in, store_texts}
+use Rattle.camp_kept.specs.Keeping.{AreFirst, Holds, IsStoreOf, LeavesKept, stored_in, store_texts}
+use Rattle.camp_kept.specs.declared.faults.KeptFault.{KeptFault}
 use Rattle.camp_kept.specs.declared.kept.Kept.{Kept}
 use Rattle.camp_kept.proofs.Committing.{holds_leave}
 use Rattle.camp_kept_talk.specs.Going.{AllAreKept, Comes, ComesSettled, Goes, IsUnwritten, MayBeKept, Settles, Stays, StopsSo, StopsUnkept, StopsUnwritten, TalksKept, as_told}
-use Rattle.camp_kept_talk.specs.Promises.{Promises}
+use Rattle.camp_kept_talk.specs.Promises.{Promises, Told, durable_at_least}
 use Rattle.camp_kept_talk.specs.declared.faults.StoredFault.{StoredFault}
 use Rattle.camp_kept_talk.specs.declared.faults.StoredFault.TheVariants as fault
-use Rattle.camp_kept_talk.proofs.Answering.{IsLast, appends_behind, appends_known, appends_some, holds_kept, holds_trans, keeps_behind, last_read, told_more, told_of, told_trans, told_unseen}
+use Rattle.camp_kept_talk.proofs.Answering.{IsLast, appends_behind, appends_known, appends_some, at_least_front, holds_kept, holds_kept_all, holds_trans, keeps_behind, last_read, told_more, told_of, told_of_all, told_trans, told_unseen}
+use Rattle.camp_kept_talk.proofs.Stopping.{leaves_durable}
 use Rattle.camp_kept.proofs.Parts.{part_grows, part_self, part_through}
 use Rattle.camp_store.specs.Logs.{KeepsTexts}
 use Rattle.camp_talk.specs.Accounts.{Account}
@@ -32,22 +34,24 @@ at history lines cause = record { history = history; lines = lines; cause = caus
 reads_none : (b : Option (List ℕ)) → ReadsWithin b b
 reads_none b = record { some = []; reads = Consumes-nil b; is = tt }
 
-module _ {D : Type 0} (seen : D → List ℕ) (may_leave : D → List ℕ → Type 0) (a old now : Option (List ℕ)) (first : Standing) (kept : Kept D) where
+module _ {D : Type 0} (seen : D → List ℕ) (may_leave : D → List ℕ → Type 0) (durable : Stored) (a old now : Option (List ℕ)) (first : Standing) (kept : Kept D) where
   -- at first
-  pub begins : (lines : ℕ) (cause : Account) → Holds seen may_leave (stored_in kept) kept → Goes seen may_leave a a now now [] (at kept.book lines cause) (at kept.book lines cause) kept
-  begins lines cause holds = record {
+  pub begins : (lines : ℕ) (cause : Account) → AreFirst durable kept → Holds seen may_leave durable kept
+      → Goes seen may_leave durable a a now now [] (at kept.book lines cause) (at kept.book lines cause) kept
+  begins lines cause front holds = record {
     middle = at kept.book lines cause;
     left = a;
-    told = begins_so a now (at kept.book lines cause);
+    told = record { said = []; follow = refl; reads = Consumes-nil a; writes = Appends-nil now };
     behind = begins_so a (Some []) (at kept.book lines cause);
-    calls = stored_in kept;
+    calls = durable;
     holds = holds;
-    since = part_self (stored_in kept);
-    within = part_self (stored_in kept);
+    still = part_self durable;
+    since = part_self durable;
+    within = front;
   }
 
-  module _ (b : Option (List ℕ)) (held : List ℕ) (lines : ℕ) (cause : Account) (goes : Goes seen may_leave a b old now held first (at kept.book lines cause) kept) where
-    pub stays : Stays seen may_leave a b old now held first kept
+  module _ (b : Option (List ℕ)) (held : List ℕ) (lines : ℕ) (cause : Account) (goes : Goes seen may_leave durable a b old now held first (at kept.book lines cause) kept) where
+    pub stays : Stays seen may_leave durable a b old now held first kept
     stays = record {
       middle = goes.middle;
       last = at kept.book lines cause;
@@ -58,6 +62,7 @@ module _ {D : Type 0} (seen : D → List ℕ) (may_leave : D → List ℕ → Ty
       reads = reads_none b;
       calls = goes.calls;
       holds = goes.holds;
+      still = goes.still;
       since = goes.since;
       within = goes.within;
       is = refl;
@@ -65,18 +70,23 @@ module _ {D : Type 0} (seen : D → List ℕ) (may_leave : D → List ℕ → Ty
 
     -- everything is persisted and written, and the conversation continues
     pub settled : (new : Kept D) (after : Option (List ℕ)) (rest : List ℕ) → AllAreKept seen may_leave kept new → rest ≡ [] → Appends now after held → new.book ≡ kept.book
-        → Goes seen may_leave a b old after rest first (at new.book lines cause) new
+        → Goes seen may_leave durable a b old after rest first (at new.book lines cause) new
     settled new after rest keeps none grows same = record {
       middle = at new.book lines cause;
       left = b;
-      told = subst (λ (h : Entries). HoldsSo a b old after first (at h lines cause)) (sym same)
-          (holds_trans a goes.left b old now after held first goes.middle (at kept.book lines cause) goes.told goes.behind grows);
+      told = told_now;
       behind = subst (λ (l : List ℕ). HoldsSo b b (Some []) (Some l) (at new.book lines cause) (at new.book lines cause)) (sym none) (begins_so b (Some []) (at new.book lines cause));
       calls = stored_in kept;
       holds = keeps goes.calls goes.within goes.holds;
-      since = subst (λ (h : Entries). IsFrontOf (stored_of h) (stored_in kept)) (sym same) (part_self (stored_in kept));
+      still = part_through goes.still goes.within;
+      since = at_least_front told_now.said durable (stored_in new) (stored_in kept) (part_through goes.still goes.within)
+          (subst (λ (h : Entries). IsFrontOf (stored_of h) (stored_in kept)) (sym same) (part_self (stored_in kept)));
       within = subst (λ (h : Entries). IsFrontOf (stored_in kept) (stored_of h)) (sym same) (part_self (stored_in kept));
     }
+      where
+        told_now : HoldsSo a b old after first (at new.book lines cause)
+        told_now = subst (λ (h : Entries). HoldsSo a b old after first (at h lines cause)) (sym same)
+            (holds_trans a goes.left b old now after held first goes.middle (at kept.book lines cause) goes.told goes.behind grows)
 
     module _ (c : Option (List ℕ)) (more : List ℕ) (new : Kept D) (same_log : new.log ≡ kept.log) (same_count : new.count ≡ kept.count) where
       holds_still : Holds seen may_leave goes.calls new
@@ -88,7 +98,7 @@ module _ {D : Type 0} (seen : D → List ℕ) (may_leave : D → List ℕ → Ty
 
       -- a command was answered into the buffer
       pub turned : (after : ℕ) (learnt : Account) → Turns b c (Some held) (Some more) (at kept.book lines cause) (Ok true) (at new.book after learnt)
-          → Goes seen may_leave a c old now more first (at new.book after learnt) new
+          → Goes seen may_leave durable a c old now more first (at new.book after learnt) new
       turned after learnt turns = record {
         middle = goes.middle;
         left = goes.left;
@@ -96,13 +106,14 @@ module _ {D : Type 0} (seen : D → List ℕ) (may_leave : D → List ℕ → Ty
         behind = holds_on goes.left b c (Some []) (Some held) (Some more) goes.middle (at kept.book lines cause) (at new.book after learnt) goes.behind turns;
         calls = goes.calls;
         holds = holds_still;
+        still = goes.still;
         since = goes.since;
         within = part_through goes.within (part_grows kept.book new.book (answers_grow (at kept.book lines cause) _ _ (at new.book after learnt) turns.answers));
       }
 
       -- one was answered, perhaps in part
       one_more : (said : Exchange) (next : Standing) → IsLast (OnSome b (IsAtEnd c)) said.command → Answers (at kept.book lines cause) said.command said.answer next
-          → Consumes b c said.command → AppendsSome (Some held) (Some more) said.answer → next.history ≡ new.book → Stays seen may_leave a c old now more first new
+          → Consumes b c said.command → AppendsSome (Some held) (Some more) said.answer → next.history ≡ new.book → Stays seen may_leave durable a c old now more first new
       one_more said next kind answers reads writes is = record {
         middle = goes.middle;
         last = next;
@@ -113,13 +124,14 @@ module _ {D : Type 0} (seen : D → List ℕ) (may_leave : D → List ℕ → Ty
         reads = reads_none c;
         calls = goes.calls;
         holds = holds_still;
+        still = goes.still;
         since = goes.since;
         within = part_through goes.within (part_grows kept.book next.history (answers_grow (at kept.book lines cause) said.command said.answer next answers));
         is = is;
       }
 
       -- none could be read
-      none_more : ReadsWithin b c → Keeps (Some held) (Some more) → new.book ≡ kept.book → Stays seen may_leave a c old now more first new
+      none_more : ReadsWithin b c → Keeps (Some held) (Some more) → new.book ≡ kept.book → Stays seen may_leave durable a c old now more first new
       none_more reads keeps same = record {
         middle = goes.middle;
         last = at kept.book lines cause;
@@ -130,19 +142,20 @@ module _ {D : Type 0} (seen : D → List ℕ) (may_leave : D → List ℕ → Ty
         reads = reads;
         calls = goes.calls;
         holds = holds_still;
+        still = goes.still;
         since = goes.since;
         within = goes.within;
         is = sym same;
       }
 
-      pub stopped : (after : ℕ) (learnt : Account) (why : TalkFault) → Turns b c (Some held) (Some more) (at kept.book lines cause) (Err why) (at new.book after learnt) → Stays seen may_leave a c old now more first new
+      pub stopped : (after : ℕ) (learnt : Account) (why : TalkFault) → Turns b c (Some held) (Some more) (at kept.book lines cause) (Err why) (at new.book after learnt) → Stays seen may_leave durable a c old now more first new
       stopped after learnt talk.Memory turns = none_more turns.none turns.keeps (ap (λ (s : Standing). s.history) turns.same)
       stopped after learnt (talk.Read error) turns = none_more turns.none turns.keeps (ap (λ (s : Standing). s.history) turns.same)
       stopped after learnt talk.Internal turns = none_more (record { some = turns.none.some; reads = turns.none.reads; is = turns.none.is }) turns.keeps (ap (λ (s : Standing). s.history) turns.same)
       stopped after learnt (talk.Write error) turns =
           one_more turns.said turns.behind (last_read b c turns.whole turns.said.command turns.reads) turns.answers (command_read b c turns.whole turns.said.command turns.reads) turns.writes (sym (ap (λ (s : Standing). s.history) turns.same))
 
-      pub ended : (after : ℕ) (learnt : Account) → Turns b c (Some held) (Some more) (at kept.book lines cause) (Ok false) (at new.book after learnt) → Stays seen may_leave a c old now more first new
+      pub ended : (after : ℕ) (learnt : Account) → Turns b c (Some held) (Some more) (at kept.book lines cause) (Ok false) (at new.book after learnt) → Stays seen may_leave durable a c old now more first new
       ended after learnt turns =
           one_more turns.said (at new.book after learnt) (last_read b c false turns.said.command turns.reads) turns.answers turns.reads.0 (appends_some (Some held) (Some more) turns.said.answer turns.writes) refl
 
@@ -186,7 +199,7 @@ module _ {D : Type 0} (seen : D → List ℕ) (may_leave : D → List ℕ → Ty
         writes = (turns.writes.0, turns.writes.1, turns.writes.2, appends_behind now then held more turns.writes.0 turns.writes.3 grows);
       })
 
-  module _ (come : Option (List ℕ)) (held : List ℕ) (stays : Stays seen may_leave a come old now held first kept) where
+  module _ (come : Option (List ℕ)) (held : List ℕ) (stays : Stays seen may_leave durable a come old now held first kept) where
     within_book : IsFrontOf stays.calls (stored_in kept)
     within_book = subst (λ (h : Entries). IsFrontOf stays.calls (stored_of h)) stays.is stays.within
 
@@ -197,44 +210,56 @@ module _ {D : Type 0} (seen : D → List ℕ) (may_leave : D → List ℕ → Ty
 
     module _ (new : Kept D) (after : Option (List ℕ)) (same : new.book ≡ kept.book) where
       -- all calls are persisted, and a prefix of the buffered answers is written
-      promised_all : AllAreKept seen may_leave kept new → AppendsSome now after held → Promises seen may_leave a old after first new
+      promised_all : AllAreKept seen may_leave kept new → AppendsSome now after held → Promises seen may_leave durable a old after first new
       promised_all keeps grows =
           let all : Holds seen may_leave (stored_in kept) new = keeps stays.calls within_book stays.holds in
           record {
             left = stays.right;
             last = stays.last;
-            told = told_trans a stays.left stays.right old now after held first stays.middle stays.last stays.told stays.behind grows;
+            told = told_now;
             crash = λ c left. (
               stored_in kept,
               holds_leave seen may_leave (stored_in kept) new all c left,
-              subst (λ (h : Entries). IsFrontOf (stored_of h) (stored_in kept)) (sym stays.is) (part_self (stored_in kept)),
+              at_least_front (told_now.said ++ told_now.more) durable (stored_of stays.last.history) (stored_in kept) (part_through stays.still within_book)
+                  (subst (λ (h : Entries). IsFrontOf (stored_of h) (stored_in kept)) (sym stays.is) (part_self (stored_in kept))),
               subst (λ (h : Entries). IsFrontOf (stored_in kept) (stored_of h)) (sym same) (part_self (stored_in kept)),
             );
           }
-
-      -- it is not known whether they are persisted, and nothing is written
-      promised_some : MayBeKept seen may_leave kept new → Keeps now after → Promises seen may_leave a old after first new
-      promised_some may keeps = record {
-        left = stays.left;
-        last = stays.middle;
-        told = told_of a stays.left old after first stays.middle (holds_kept a stays.left old now after first stays.middle stays.told keeps);
-        crash = λ c left. which c (may stays.calls within_book stays.holds c left);
-      }
         where
-          which : (c : List ℕ) → IsStoreOf stays.calls c ⊎ IsStoreOf (stored_in kept) c
-              → (calls : Stored) × IsStoreOf calls c × IsFrontOf (stored_of stays.middle.history) calls × IsFrontOf calls (stored_in new)
-          which c (inl some) = (
-            stays.calls,
-            some,
-            stays.since,
-            subst (λ (h : Entries). IsFrontOf stays.calls (stored_of h)) (sym same) within_book,
-          )
-          which c (inr all) = (
-            stored_in kept,
-            all,
-            part_through stays.since within_book,
-            subst (λ (h : Entries). IsFrontOf (stored_in kept) (stored_of h)) (sym same) (part_self (stored_in kept)),
-          )
+          told_now : Told a stays.right old after first stays.last
+          told_now = told_trans a stays.left stays.right old now after held first stays.middle stays.last stays.told stays.behind grows
+
+      -- it is not known whether they are persisted
+      left_some : (answered : List Exchange) → IsFrontOf (durable_at_least answered durable (stored_of stays.middle.history)) stays.calls
+          → (c : List ℕ) → IsStoreOf stays.calls c ⊎ IsStoreOf (stored_in kept) c
+          → (calls : Stored) × IsStoreOf calls c × IsFrontOf (durable_at_least answered durable (stored_of stays.middle.history)) calls × IsFrontOf calls (stored_in new)
+      left_some answered since c (inl some) = (
+        stays.calls,
+        some,
+        since,
+        subst (λ (h : Entries). IsFrontOf stays.calls (stored_of h)) (sym same) within_book,
+      )
+      left_some answered since c (inr all) = (
+        stored_in kept,
+        all,
+        part_through since within_book,
+        subst (λ (h : Entries). IsFrontOf (stored_in kept) (stored_of h)) (sym same) (part_self (stored_in kept)),
+      )
+
+      -- and nothing is written
+      promised_some : MayBeKept seen may_leave kept new → Keeps now after → Promises seen may_leave durable a old after first new
+      promised_some may keeps =
+          let told_so : HoldsSo a stays.left old after first stays.middle = holds_kept a stays.left old now after first stays.middle stays.told keeps in
+          let told_now : Told a stays.left old after first stays.middle = told_of a stays.left old after first stays.middle told_so in
+          record {
+            left = stays.left;
+            last = stays.middle;
+            told = told_now;
+            crash = λ c left. left_some (told_now.said ++ told_now.more)
+                (subst (λ (l : List Exchange). IsFrontOf (durable_at_least l durable (stored_of stays.middle.history)) stays.calls)
+                (sym (told_of_all a stays.left old after first stays.middle told_so ∙ holds_kept_all a stays.left old now after first stays.middle stays.told keeps)) stays.since)
+                c (may stays.calls within_book stays.holds c left);
+          }
 
       last_is : stays.last.history ≡ new.book
       last_is = stays.is ∙ sym same
@@ -251,8 +276,9 @@ module _ {D : Type 0} (seen : D → List ℕ) (may_leave : D → List ℕ → Ty
       }
 
       -- if the calls can't be persisted
-      unkept : MayBeKept seen may_leave kept new → Keeps now after → StopsUnkept seen may_leave a come old after first new
-      unkept may keeps = record {
+      unkept : (why : KeptFault) → MayBeKept seen may_leave kept new → Keeps now after → LeavesKept why kept new
+          → StopsUnkept seen may_leave durable a come old after first why new
+      unkept why may keeps leaves = record {
         middle = stays.middle;
         last = stays.last;
         left = stays.left;
@@ -262,76 +288,79 @@ module _ {D : Type 0} (seen : D → List ℕ) (may_leave : D → List ℕ → Ty
         reads = stays.reads;
         is = last_is;
         calls = stays.calls;
-        since = stays.since;
+        still = stays.still;
+        since = subst (λ (l : List Exchange). IsFrontOf (durable_at_least l durable (stored_of stays.middle.history)) stays.calls)
+            (sym (holds_kept_all a stays.left old now after first stays.middle stays.told keeps)) stays.since;
         within = subst (λ (h : Entries). IsFrontOf stays.calls (stored_of h)) (sym same) within_book;
         crash = λ c left. subst (λ (h : Entries). IsStoreOf stays.calls c ⊎ IsStoreOf (stored_of h) c) (sym same) (may stays.calls within_book stays.holds c left);
+        leaves = leaves_durable seen may_leave why stays.calls kept new stays.holds leaves;
       }
 
       -- if everything is flushed
       pub promised : (done : Unit {0}) (rest : List ℕ) → Settles seen may_leave kept held now (Ok done) new rest after
-          → Promises seen may_leave a old after first new × Holds seen may_leave (stored_in new) new
+          → Promises seen may_leave durable a old after first new × Holds seen may_leave (stored_in new) new
       promised done rest settles = (promised_all settles.0 (appends_some now after held settles.2), holds_all new same settles.0)
 
       -- if flushing fails
       pub stops_so : (why : StoredFault) (rest : List ℕ) → Settles seen may_leave kept held now (Err why) new rest after
-          → StopsSo seen may_leave a come old after first why new
-      stops_so (fault.Kept why) rest settles = (promised_some settles.0 settles.1, unkept settles.0 settles.1)
+          → StopsSo seen may_leave durable a come old after first why new
+      stops_so (fault.Kept why) rest settles = (promised_some settles.0 settles.1, unkept why settles.0 settles.1 settles.2)
       stops_so (fault.Talk why) rest settles = absurd settles
       stops_so (fault.Frame why) rest settles = absurd settles
       stops_so (fault.Write error) rest settles = (promised_all settles.0 settles.1, unwritten settles.0 settles.1)
 
 -- whatever the result of flushing
-pub settled_first : {D : Type 0} (seen : D → List ℕ) (may_leave : D → List ℕ → Type 0) (a b old now after : Option (List ℕ)) (first : Standing) (kept new : Kept D) (held rest : List ℕ) (lines : ℕ) (cause : Account)
-    (result : Result (Unit {0}) StoredFault) → Goes seen may_leave a b old now held first (at kept.book lines cause) kept → Settles seen may_leave kept held now result new rest after
-    → new.book ≡ kept.book → ComesSettled seen may_leave a b old after rest first (at new.book lines cause) result new
-settled_first seen may_leave a b old now after first kept new held rest lines cause (Ok done) goes settles same =
-    settled seen may_leave a old now first kept b held lines cause goes new after rest settles.0 settles.1 settles.2 same
-settled_first seen may_leave a b old now after first kept new held rest lines cause (Err why) goes settles same =
-    stops_so seen may_leave a old now first kept b held (stays seen may_leave a old now first kept b held lines cause goes) new after same why rest settles
+pub settled_first : {D : Type 0} (seen : D → List ℕ) (may_leave : D → List ℕ → Type 0) (durable : Stored) (a b old now after : Option (List ℕ)) (first : Standing) (kept new : Kept D) (held rest : List ℕ) (lines : ℕ) (cause : Account)
+    (result : Result (Unit {0}) StoredFault) → Goes seen may_leave durable a b old now held first (at kept.book lines cause) kept → Settles seen may_leave kept held now result new rest after
+    → new.book ≡ kept.book → ComesSettled seen may_leave durable a b old after rest first (at new.book lines cause) result new
+settled_first seen may_leave durable a b old now after first kept new held rest lines cause (Ok done) goes settles same =
+    settled seen may_leave durable a old now first kept b held lines cause goes new after rest settles.0 settles.1 settles.2 same
+settled_first seen may_leave durable a b old now after first kept new held rest lines cause (Err why) goes settles same =
+    stops_so seen may_leave durable a old now first kept b held (stays seen may_leave durable a old now first kept b held lines cause goes) new after same why rest settles
 
 -- whatever the result of a step after which everything is flushed
-module _ {D : Type 0} (seen : D → List ℕ) (may_leave : D → List ℕ → Type 0) (a b d old now : Option (List ℕ)) (first : Standing) (kept asked : Kept D) (held more : List ℕ) (lines after : ℕ) (cause learnt : Account)
-    (goes : Goes seen may_leave a b old now held first (at kept.book lines cause) kept) (same_log : asked.log ≡ kept.log) (same_count : asked.count ≡ kept.count)
+module _ {D : Type 0} (seen : D → List ℕ) (may_leave : D → List ℕ → Type 0) (durable : Stored) (a b d old now : Option (List ℕ)) (first : Standing) (kept asked : Kept D) (held more : List ℕ) (lines after : ℕ) (cause learnt : Account)
+    (goes : Goes seen may_leave durable a b old now held first (at kept.book lines cause) kept) (same_log : asked.log ≡ kept.log) (same_count : asked.count ≡ kept.count)
     (new : Kept D) (same : new.book ≡ asked.book) (rest : List ℕ) (then : Option (List ℕ)) where
   module _ (turns : Turns b d (Some held) (Some more) (at kept.book lines cause) (Ok false) (at asked.book after learnt)) where
-    stays_ended : Stays seen may_leave a d old now more first asked
-    stays_ended = ended seen may_leave a old now first kept b held lines cause goes d more asked same_log same_count after learnt turns
+    stays_ended : Stays seen may_leave durable a d old now more first asked
+    stays_ended = ended seen may_leave durable a old now first kept b held lines cause goes d more asked same_log same_count after learnt turns
 
     -- at the end of the input
     pub comes_end : (done : Unit {0}) → Settles seen may_leave asked more now (Ok done) new rest then
-        → Comes seen may_leave a d old then rest first (at new.book after learnt) (Ok false) new
+        → Comes seen may_leave durable a d old then rest first (at new.book after learnt) (Ok false) new
     comes_end done settles =
-        let both = promised seen may_leave a old now first asked d more stays_ended new then same done rest settles in (
+        let both = promised seen may_leave durable a old now first asked d more stays_ended new then same done rest settles in (
           both.0,
           subst (λ (h : Entries). EndsSo a d old then first (Ok false) h) (sym same)
-              (ends_so seen may_leave a old now first kept b held lines cause goes d more asked same_log same_count after learnt then turns settles.2),
+              (ends_so seen may_leave durable a old now first kept b held lines cause goes d more asked same_log same_count after learnt then turns settles.2),
           both.1,
         )
 
-    pub comes_end_unsettled : (why : StoredFault) → Settles seen may_leave asked more now (Err why) new rest then → StopsSo seen may_leave a d old then first why new
-    comes_end_unsettled why settles = stops_so seen may_leave a old now first asked d more stays_ended new then same why rest settles
+    pub comes_end_unsettled : (why : StoredFault) → Settles seen may_leave asked more now (Err why) new rest then → StopsSo seen may_leave durable a d old then first why new
+    comes_end_unsettled why settles = stops_so seen may_leave durable a old now first asked d more stays_ended new then same why rest settles
 
   module _ (wrong : TalkFault) (turns : Turns b d (Some held) (Some more) (at kept.book lines cause) (Err wrong) (at asked.book after learnt)) where
-    stays_stopped : Stays seen may_leave a d old now more first asked
-    stays_stopped = stopped seen may_leave a old now first kept b held lines cause goes d more asked same_log same_count after learnt wrong turns
+    stays_stopped : Stays seen may_leave durable a d old now more first asked
+    stays_stopped = stopped seen may_leave durable a old now first kept b held lines cause goes d more asked same_log same_count after learnt wrong turns
 
     -- at a fault
     pub comes_fault : (told : TalkFault) → told ≡ as_told wrong → (done : Unit {0}) → Settles seen may_leave asked more now (Ok done) new rest then
-        → StopsSo seen may_leave a d old then first (fault.Talk told) new
+        → StopsSo seen may_leave durable a d old then first (fault.Talk told) new
     comes_fault told told_is done settles =
-        let both = promised seen may_leave a old now first asked d more stays_stopped new then same done rest settles in (
+        let both = promised seen may_leave durable a old now first asked d more stays_stopped new then same done rest settles in (
           both.0,
           record {
             why = wrong;
             told_is = told_is;
             ends = subst (λ (h : Entries). EndsSo a d old then first (Err wrong) h) (sym same)
-                (breaks_so seen may_leave a old now first kept b held lines cause goes d more asked same_log same_count after learnt then wrong turns settles.2);
+                (breaks_so seen may_leave durable a old now first kept b held lines cause goes d more asked same_log same_count after learnt then wrong turns settles.2);
           },
           both.1,
         )
 
-    pub comes_unsettled : (why : StoredFault) → Settles seen may_leave asked more now (Err why) new rest then → StopsSo seen may_leave a d old then first why new
-    comes_unsettled why settles = stops_so seen may_leave a old now first asked d more stays_stopped new then same why rest settles
+    pub comes_unsettled : (why : StoredFault) → Settles seen may_leave asked more now (Err why) new rest then → StopsSo seen may_leave durable a d old then first why new
+    comes_unsettled why settles = stops_so seen may_leave durable a old now first asked d more stays_stopped new then same why rest settles
 
 -- the rest of a commit
 pub settles_so : {D : Type 0} (seen : D → List ℕ) (may_leave : D → List ℕ → Type 0) (old new : Kept D) (held now : List ℕ) (before after : Option (List ℕ)) (result : Result (Unit {0}) StoredFault)
@@ -345,8 +374,8 @@ settles_so seen may_leave old new held now before after (Err (fault.Frame why)) 
 settles_so seen may_leave old new held now before after (Err (fault.Write error)) keeps goes = (keeps, goes.1)
 
 -- the fault of a turn is the fault of the conversation
-pub talk_stops : {D : Type 0} (seen : D → List ℕ) (may_leave : D → List ℕ → Type 0) (a d old now : Option (List ℕ)) (first : Standing) (kept : Kept D)
-    (result : Result (Unit {0}) StoredFault) (why : StoredFault) → IsErrAnd result (λ fault. fault ≡ why) → StopsSo seen may_leave a d old now first why kept
-    → TalksKept seen may_leave a d old now first result kept
-talk_stops seen may_leave a d old now first kept (Ok done) why is stops = absurd is
-talk_stops seen may_leave a d old now first kept (Err fault) why is stops = subst (λ (w : StoredFault). StopsSo seen may_leave a d old now first w kept) (sym is) stops
+pub talk_stops : {D : Type 0} (seen : D → List ℕ) (may_leave : D → List ℕ → Type 0) (durable : Stored) (a d old now : Option (List ℕ)) (first : Standing) (kept : Kept D)
+    (result : Result (Unit {0}) StoredFault) (why : StoredFault) → IsErrAnd result (λ fault. fault ≡ why) → StopsSo seen may_leave durable a d old now first why kept
+    → TalksKept seen may_leave durable a d old now first result kept
+talk_stops seen may_leave durable a d old now first kept (Ok done) why is stops = absurd is
+talk_stops seen may_leave durable a d old now first kept (Err fault) why is stops = subst (λ (w : StoredFault). StopsSo seen may_leave durable a d old now first w kept) (sym is) stops

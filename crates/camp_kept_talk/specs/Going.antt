@@ -2,9 +2,11 @@
 use Rattle.std.specs.Prelude.{◌≡◌, ◌⊎◌, ℕ, Bool, true, false, List, [], Option, None, Some, Result, Ok, Err}
 use Rattle.std.specs.Io.KnownBytes.{Appends, Keeps}
 use Rattle.camp_kept.specs.Accepting.{IsFrontOf, Stored, stored_of}
-use Rattle.camp_kept.specs.Keeping.{AreFirst, Holds, IsStoreOf, stored_in, disk_in}
+use Rattle.camp_kept.specs.Keeping.{AreFirst, Holds, IsStoreOf, LeavesKept, stored_in, disk_in}
+use Rattle.camp_kept.specs.declared.faults.KeptFault.{KeptFault}
 use Rattle.camp_kept.specs.declared.kept.Kept.{Kept}
-use Rattle.camp_kept_talk.specs.Promises.{Promises, Told}
+use Rattle.camp_kept_talk.specs.Promises.{Promises, Told, durable_at_least}
+use Rattle.camp_kept_talk.specs.Stopping.{LeavesDurable}
 use Rattle.camp_kept_talk.specs.declared.faults.StoredFault.{StoredFault}
 use Rattle.camp_kept_talk.specs.declared.faults.StoredFault.TheVariants as fault
 use Rattle.camp_talk.specs.Answers.{Standing}
@@ -60,17 +62,19 @@ module _ {D : Type 0} (seen : D → List ℕ) (may_leave : D → List ℕ → Ty
       (calls : Stored) → AreFirst calls old → Holds seen may_leave calls old → (c : List ℕ) → may_leave (disk_in new) c → IsStoreOf calls c ⊎ IsStoreOf (stored_in old) c
 
   -- buffered answers are flushed to a writer. Ok: all calls are persisted, and then exactly the answers were written.
-  -- Kept: nothing was written. Write: all calls are persisted, and a prefix of the answers was written.
+  -- Kept: nothing was written, and the repository is as the commit left it. Write: all calls are persisted, and a
+  -- prefix of the answers was written.
   abbrev pub Settles : Kept D → List ℕ → Option (List ℕ) → Result (Unit {0}) StoredFault → Kept D → List ℕ → Option (List ℕ) → Type 0
   Settles old held before (Ok done) new now after = AllAreKept old new × (now ≡ []) × Appends before after held
-  Settles old held before (Err (fault.Kept why)) new now after = MayBeKept old new × Keeps before after
+  Settles old held before (Err (fault.Kept why)) new now after = MayBeKept old new × Keeps before after × LeavesKept why old new
   Settles old held before (Err (fault.Talk why)) new now after = ⊥
   Settles old held before (Err (fault.Frame why)) new now after = ⊥
   Settles old held before (Err (fault.Write error)) new now after = AllAreKept old new × AppendsSome before after held
 
-  module _ (remaining rest old now : Option (List ℕ)) (held : List ℕ) (first last : Standing) (kept : Kept D) where
-    -- commands were answered up to a place, and all calls that were accepted until then are durable; the answers to
-    -- those after it are buffered
+  module _ (durable : Stored) (remaining rest old now : Option (List ℕ)) (held : List ℕ) (first last : Standing) (kept : Kept D) where
+    -- where these first calls were durable: commands were answered up to a place, and all calls that were accepted
+    -- until then are durable; before the first answer the same calls are, at least. The answers to the commands after
+    -- the place are buffered.
     pub record Goes : Type 0 where
       pub middle : Standing
       pub left : Option (List ℕ)
@@ -78,12 +82,13 @@ module _ {D : Type 0} (seen : D → List ℕ) (may_leave : D → List ℕ → Ty
       pub behind : HoldsSo left rest (Some []) (Some held) middle last
       pub calls : Stored
       pub holds : Holds seen may_leave calls kept
-      pub since : IsFrontOf (stored_of middle.history) calls
+      pub still : IsFrontOf durable calls
+      pub since : IsFrontOf (durable_at_least told.said durable (stored_of middle.history)) calls
       pub within : IsFrontOf calls (stored_of last.history)
 
   -- a step has failed: the answers to the commands after the place are buffered, perhaps in part; and no more was
   -- read after them than a command has
-  pub record Stays (remaining rest old now : Option (List ℕ)) (held : List ℕ) (first : Standing) (kept : Kept D) : Type 0 where
+  pub record Stays (durable : Stored) (remaining rest old now : Option (List ℕ)) (held : List ℕ) (first : Standing) (kept : Kept D) : Type 0 where
     pub middle : Standing
     pub last : Standing
     pub left : Option (List ℕ)
@@ -93,15 +98,17 @@ module _ {D : Type 0} (seen : D → List ℕ) (may_leave : D → List ℕ → Ty
     pub reads : ReadsWithin right rest
     pub calls : Stored
     pub holds : Holds seen may_leave calls kept
-    pub since : IsFrontOf (stored_of middle.history) calls
+    pub still : IsFrontOf durable calls
+    pub since : IsFrontOf (durable_at_least told.said durable (stored_of middle.history)) calls
     pub within : IsFrontOf calls (stored_of last.history)
     pub is : last.history ≡ kept.book
 
   -- the calls could not be persisted: commands were answered up to a place, and all of their answers were written;
   -- those after it were answered, and none of their answers was written; no more was read than a further one has. The
   -- accepted calls are those of all these commands. Whatever a crash leaves is a store of some prefix of them, the
-  -- same each time, with all those up to the place; or of all.
-  pub record StopsUnkept (remaining rest old now : Option (List ℕ)) (first : Standing) (kept : Kept D) : Type 0 where
+  -- same each time, with all those up to the place, or at least those that were durable at first; or it is a store of
+  -- all. Either no commit is possible any more, or that prefix is durable.
+  pub record StopsUnkept (durable : Stored) (remaining rest old now : Option (List ℕ)) (first : Standing) (why : KeptFault) (kept : Kept D) : Type 0 where
     pub middle : Standing
     pub last : Standing
     pub left : Option (List ℕ)
@@ -111,9 +118,11 @@ module _ {D : Type 0} (seen : D → List ℕ) (may_leave : D → List ℕ → Ty
     pub reads : ReadsWithin right rest
     pub is : last.history ≡ kept.book
     pub calls : Stored
-    pub since : IsFrontOf (stored_of middle.history) calls
+    pub still : IsFrontOf durable calls
+    pub since : IsFrontOf (durable_at_least told.said durable (stored_of middle.history)) calls
     pub within : IsFrontOf calls (stored_in kept)
     pub crash : (c : List ℕ) → may_leave (disk_in kept) c → IsStoreOf calls c ⊎ IsStoreOf (stored_in kept) c
+    pub leaves : LeavesDurable seen may_leave why calls kept
 
   -- the writer failed: commands were answered, and a prefix of their answers was written; no more was read than a
   -- further one has. The accepted calls are those of all these commands, and they are durable.
@@ -128,33 +137,33 @@ module _ {D : Type 0} (seen : D → List ℕ) (may_leave : D → List ℕ → Ty
   -- a conversation has stopped at a fault: the promise holds. Kept: the calls could not be persisted. Write: the
   -- writer failed. Talk: a step had this fault, all accepted calls are durable, and all answers were written before
   -- it.
-  abbrev pub StopsSo : (remaining rest old now : Option (List ℕ)) → Standing → StoredFault → Kept D → Type 0
-  StopsSo remaining rest old now first (fault.Kept why) kept =
-      Promises seen may_leave remaining old now first kept × StopsUnkept remaining rest old now first kept
-  StopsSo remaining rest old now first (fault.Talk why) kept =
-      Promises seen may_leave remaining old now first kept × EndsTold remaining rest old now first why kept.book
+  abbrev pub StopsSo : Stored → (remaining rest old now : Option (List ℕ)) → Standing → StoredFault → Kept D → Type 0
+  StopsSo durable remaining rest old now first (fault.Kept why) kept =
+      Promises seen may_leave durable remaining old now first kept × StopsUnkept durable remaining rest old now first why kept
+  StopsSo durable remaining rest old now first (fault.Talk why) kept =
+      Promises seen may_leave durable remaining old now first kept × EndsTold remaining rest old now first why kept.book
       × Holds seen may_leave (stored_in kept) kept
-  StopsSo remaining rest old now first (fault.Frame why) kept = ⊥
-  StopsSo remaining rest old now first (fault.Write error) kept =
-      Promises seen may_leave remaining old now first kept × StopsUnwritten remaining rest old now first kept
+  StopsSo durable remaining rest old now first (fault.Frame why) kept = ⊥
+  StopsSo durable remaining rest old now first (fault.Write error) kept =
+      Promises seen may_leave durable remaining old now first kept × StopsUnwritten remaining rest old now first kept
 
   -- the result of a step
-  abbrev pub Comes : (remaining rest old now : Option (List ℕ)) → List ℕ → Standing → Standing → Result Bool StoredFault → Kept D → Type 0
-  Comes remaining rest old now held first last (Ok true) kept = Goes remaining rest old now held first last kept
-  Comes remaining rest old now held first last (Ok false) kept =
-      Promises seen may_leave remaining old now first kept × EndsSo remaining rest old now first (Ok false) last.history
+  abbrev pub Comes : Stored → (remaining rest old now : Option (List ℕ)) → List ℕ → Standing → Standing → Result Bool StoredFault → Kept D → Type 0
+  Comes durable remaining rest old now held first last (Ok true) kept = Goes durable remaining rest old now held first last kept
+  Comes durable remaining rest old now held first last (Ok false) kept =
+      Promises seen may_leave durable remaining old now first kept × EndsSo remaining rest old now first (Ok false) last.history
       × Holds seen may_leave (stored_in kept) kept
-  Comes remaining rest old now held first last (Err why) kept = StopsSo remaining rest old now first why kept
+  Comes durable remaining rest old now held first last (Err why) kept = StopsSo durable remaining rest old now first why kept
 
   -- the result of flushing
-  abbrev pub ComesSettled : (remaining rest old now : Option (List ℕ)) → List ℕ → Standing → Standing → Result (Unit {0}) StoredFault → Kept D → Type 0
-  ComesSettled remaining rest old now held first last (Ok done) kept = Goes remaining rest old now held first last kept
-  ComesSettled remaining rest old now held first last (Err why) kept = StopsSo remaining rest old now first why kept
+  abbrev pub ComesSettled : Stored → (remaining rest old now : Option (List ℕ)) → List ℕ → Standing → Standing → Result (Unit {0}) StoredFault → Kept D → Type 0
+  ComesSettled durable remaining rest old now held first last (Ok done) kept = Goes durable remaining rest old now held first last kept
+  ComesSettled durable remaining rest old now held first last (Err why) kept = StopsSo durable remaining rest old now first why kept
 
-  -- a conversation over a durable repository, from its start: the promise holds. After Ok it was held to its end, and
-  -- all accepted calls are durable.
-  abbrev pub TalksKept : (remaining rest old now : Option (List ℕ)) → Standing → Result (Unit {0}) StoredFault → Kept D → Type 0
-  TalksKept remaining rest old now first (Ok done) kept =
-      Promises seen may_leave remaining old now first kept × EndsSo remaining rest old now first (Ok false) kept.book
+  -- a conversation over a repository of which these first calls are durable, from its start: the promise holds. After
+  -- Ok it was held to its end, and all accepted calls are durable.
+  abbrev pub TalksKept : Stored → (remaining rest old now : Option (List ℕ)) → Standing → Result (Unit {0}) StoredFault → Kept D → Type 0
+  TalksKept durable remaining rest old now first (Ok done) kept =
+      Promises seen may_leave durable remaining old now first kept × EndsSo remaining rest old now first (Ok false) kept.book
       × Holds seen may_leave (stored_in kept) kept
-  TalksKept remaining rest old now first (Err why) kept = StopsSo remaining rest old now first why kept
+  TalksKept durable remaining rest old now first (Err why) kept = StopsSo durable remaining rest old now first why kept

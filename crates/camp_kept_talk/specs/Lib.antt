@@ -2,3 +2,4 @@ pub mod Going
 pub mod Laws
 pub mod Promises
 pub mod Serving
+pub mod Stopping

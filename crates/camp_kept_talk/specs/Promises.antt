@@ -27,13 +27,21 @@ pub record Told (remaining left old new : Option (List ℕ)) (first last : Stand
   pub reads : Consumes remaining left (flat_map (λ exchange. exchange.command) (said ++ more))
   pub writes : AppendsSome old new (flat_map (λ exchange. exchange.answer) (said ++ more))
 
+-- the calls that are durable at least: before anything was answered those that were durable at first, and after that
+-- all that were accepted until then
+abbrev pub durable_at_least : {Answered : Type 0} → List Answered → Stored → Stored → Stored
+durable_at_least [] durable accepted = durable
+durable_at_least (answered ∷ others) durable accepted = accepted
+
 -- two properties of a disk: what a read returns, and what a crash may leave
 module _ {D : Type 0} (seen : D → List ℕ) (may_leave : D → List ℕ → Type 0) where
-  -- nothing but answers to commands was written; and whatever a crash leaves is a store of a prefix of the accepted
-  -- calls, which includes all those that were accepted up to the last of these commands
-  pub record Promises (remaining old new : Option (List ℕ)) (first : Standing) (kept : Kept D) : Type 0 where
+  -- where these first calls were durable: nothing but answers to commands was written; and whatever a crash leaves is
+  -- a store of a prefix of the accepted calls. It includes those that were durable and, once a command was answered,
+  -- all that were accepted up to the last of these commands.
+  pub record Promises (durable : Stored) (remaining old new : Option (List ℕ)) (first : Standing) (kept : Kept D) : Type 0 where
     pub left : Option (List ℕ)
     pub last : Standing
     pub told : Told remaining left old new first last
     pub crash : (c : List ℕ) → may_leave (disk_in kept) c
-        → (calls : Stored) × IsStoreOf calls c × IsFrontOf (stored_of last.history) calls × IsFrontOf calls (stored_in kept)
+        → (calls : Stored) × IsStoreOf calls c × IsFrontOf (durable_at_least (told.said ++ told.more) durable (stored_of last.history)) calls
+        × IsFrontOf calls (stored_in kept)

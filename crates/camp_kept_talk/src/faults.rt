@@ -1,3 +1,4 @@
+//! Why a conversation over a store ended.
 ghost use Rattle.std.specs.Prelude.{◌≡◌};
 ghost use Rattle.camp_kept_talk.specs.declared.faults.StoredFault.TheVariants as fault;
 

@@ -1,7 +1,9 @@
 //! Requests in frames over a durable repository.
-ghost use Rattle.std.specs.Prelude.{◌≡◌, ◌-◌, ◌^◌, true, IfOk};
-ghost use Rattle.camp_kept.specs.Keeping.{Holds, stored_in, disk_in};
+ghost use Rattle.std.specs.Prelude.{◌≡◌, ◌-◌, ◌^◌, true, false, IfOk, MatchResult};
+ghost use Rattle.camp_kept.specs.Accepting.{Stored};
+ghost use Rattle.camp_kept.specs.Keeping.{AreFirst, Holds, disk_in, may_commit};
 ghost use Rattle.camp_kept_talk.specs.Serving.{ServesKept, frame_told};
+ghost use Rattle.camp_kept_talk.specs.Stopping.{CountsStored, StaysStopped, stopped_fault};
 ghost use Rattle.camp_talk.specs.Talks.{HasRisen};
 
 use crate::StoredFault;
@@ -13,7 +15,7 @@ use std::io::{BufRead, Write};
 
 /// Reads a request in its frame and answers it; persists all accepted calls; and then writes the frame of the
 /// answer. True if there may be more; else the input has ended. `served` counts the requests that were
-/// served.
+/// served. If a commit has failed at the disk before, no request is answered.
 pub fn serve_kept<D: Disk, R: BufRead, W: Write>(
     alloc: Global,
     kept: &mut Kept<D>,
@@ -21,9 +23,12 @@ pub fn serve_kept<D: Disk, R: BufRead, W: Write>(
     reader: &mut R,
     writer: &mut W,
 ) -> Result<bool, StoredFault>
-    ensures serves { Holds D.Disk.seen D.Disk.may_leave (stored_in kept.old) kept.old
+    ensures serves { (durable : Stored) → AreFirst durable kept.old → Holds D.Disk.seen D.Disk.may_leave durable kept.old
         → ServesKept D.Disk.seen D.Disk.may_leave (R.remaining reader.old) (R.remaining reader.new) (W.contents writer.old) (W.contents writer.new)
-        kept.old result kept.new }
+        durable kept.old result kept.new }
+    ensures stopped { may_commit kept.old ≡ false → StaysStopped kept.old kept.new writer.old writer.new
+        × MatchResult result (λ more. more ≡ false) (λ why. why ≡ stopped_fault) }
+    ensures faults { CountsStored result (D.Disk.faults (disk_in kept.old)) (D.Disk.faults (disk_in kept.new)) }
     ensures counts { IfOk result (λ more. more ≡ true → HasRisen served.old served.new) }
     ensures clean { D.Disk.is_clean (disk_in kept.new) ≡ D.Disk.is_clean (disk_in kept.old) }
 {
@@ -86,9 +91,12 @@ impl<D: Disk, R: BufRead, W: Write> FramedStore<D, R, W> {
 impl<D: Disk, R: BufRead, W: Write> Dialogue for FramedStore<D, R, W> {
     type Fault = StoredFault;
 
-    ghost comes_to = { λ old result new. Holds D.Disk.seen D.Disk.may_leave (stored_in old.kept) old.kept
+    ghost comes_to = { λ old result new. ((durable : Stored) → AreFirst durable old.kept → Holds D.Disk.seen D.Disk.may_leave durable old.kept
         → ServesKept D.Disk.seen D.Disk.may_leave (R.remaining old.reader) (R.remaining new.reader) (W.contents old.writer) (W.contents new.writer)
-        old.kept result new.kept };
+        durable old.kept result new.kept)
+        × (may_commit old.kept ≡ false → StaysStopped old.kept new.kept old.writer new.writer
+        × MatchResult result (λ more. more ≡ false) (λ why. why ≡ stopped_fault))
+        × CountsStored result (D.Disk.faults (disk_in old.kept)) (D.Disk.faults (disk_in new.kept)) };
 
     ghost left = { λ it. 2 ^ 64 - it.served };
 

@@ -1,8 +1,9 @@
 //! Answers that are buffered until the calls before them are persisted.
-ghost use Rattle.std.specs.Prelude.{◌≡◌, [], MatchResult};
+ghost use Rattle.std.specs.Prelude.{◌≡◌, [], Err, false, MatchResult};
 ghost use Rattle.std.specs.Io.KnownBytes.{Appends};
-ghost use Rattle.camp_kept.specs.Keeping.{disk_in};
+ghost use Rattle.camp_kept.specs.Keeping.{disk_in, may_commit};
 ghost use Rattle.camp_kept_talk.specs.Going.{IsUnwritten, Settles};
+ghost use Rattle.camp_kept_talk.specs.Stopping.{CountsStored, stopped_fault};
 ghost use Rattle.camp_talk.specs.Talks.{AppendsSome};
 
 use crate::StoredFault;
@@ -21,6 +22,8 @@ pub(crate) fn settle<D: Disk, W: Write>(
     writer: &mut W,
 ) -> Result<(), StoredFault>
     ensures settles { Settles D.Disk.seen D.Disk.may_leave kept.old held.old.items (W.contents writer.old) result kept.new held.new.items (W.contents writer.new) }
+    ensures stopped { may_commit kept.old ≡ false → (result ≡ Err stopped_fault) × (kept.new ≡ kept.old) × (writer.new ≡ writer.old) }
+    ensures faults { CountsStored result (D.Disk.faults (disk_in kept.old)) (D.Disk.faults (disk_in kept.new)) }
     ensures book { kept.new.book ≡ kept.old.book }
     ensures clean { D.Disk.is_clean (disk_in kept.new) ≡ D.Disk.is_clean (disk_in kept.old) }
 {

@@ -1,8 +1,10 @@
 //! Conversations over a durable repository.
-ghost use Rattle.std.specs.Prelude.{◌≡◌, []};
+ghost use Rattle.std.specs.Prelude.{◌≡◌, [], Err, false};
 ghost use Rattle.std.specs.Io.Buffered.{reader_remaining};
-ghost use Rattle.camp_kept.specs.Keeping.{Holds, stored_in, disk_in};
+ghost use Rattle.camp_kept.specs.Accepting.{Stored};
+ghost use Rattle.camp_kept.specs.Keeping.{AreFirst, Holds, disk_in, may_commit};
 ghost use Rattle.camp_kept_talk.specs.Going.{TalksKept};
+ghost use Rattle.camp_kept_talk.specs.Stopping.{CountsStored, StaysStopped, stopped_fault};
 ghost use Rattle.camp_talk.specs.Accounts.{no_account};
 
 use crate::StoredFault;
@@ -14,16 +16,20 @@ use std::io::{BufReader, Read, Write};
 
 /// Answers the commands of a reader, one after the other, until the input ends. Answers are buffered until
 /// all calls that were accepted before them are persisted: before more has to be read for the next command,
-/// after 256 accepted calls or a mebibyte of answers, and at the end.
+/// after 256 accepted calls or a mebibyte of answers, and at the end. Calls that the book had accepted before
+/// are persisted too. If a commit has failed at the disk before, nothing is written, and the fault is that of
+/// a commit.
 pub fn talk_kept<D: Disk, R: Read, W: Write>(
     alloc: Global,
     kept: &mut Kept<D>,
     reader: &mut BufReader<R>,
     writer: &mut W,
 ) -> Result<(), StoredFault>
-    ensures promises { Holds D.Disk.seen D.Disk.may_leave (stored_in kept.old) kept.old
-        → TalksKept D.Disk.seen D.Disk.may_leave (reader_remaining R.remaining reader.old) (reader_remaining R.remaining reader.new) (W.contents writer.old) (W.contents writer.new)
+    ensures promises { (durable : Stored) → AreFirst durable kept.old → Holds D.Disk.seen D.Disk.may_leave durable kept.old
+        → TalksKept D.Disk.seen D.Disk.may_leave durable (reader_remaining R.remaining reader.old) (reader_remaining R.remaining reader.new) (W.contents writer.old) (W.contents writer.new)
         (record { history = kept.old.book; lines = 0; cause = no_account }) result kept.new }
+    ensures stopped { may_commit kept.old ≡ false → StaysStopped kept.old kept.new writer.old writer.new × (result ≡ Err stopped_fault) }
+    ensures faults { CountsStored result (D.Disk.faults (disk_in kept.old)) (D.Disk.faults (disk_in kept.new)) }
     ensures clean { D.Disk.is_clean (disk_in kept.new) ≡ D.Disk.is_clean (disk_in kept.old) }
 {
     let mut held = HeldBack::new(alloc);

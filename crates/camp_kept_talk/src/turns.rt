@@ -1,8 +1,10 @@
 //! Steps of a conversation whose answers are buffered.
 ghost use Rattle.std.specs.Prelude.{◌≡◌, ◌⊎◌, [], true, false, IfErr, IfOk, List, MatchResult, OnOk, Option, ℕ};
 ghost use Rattle.std.specs.Io.KnownBytes.{Appends, Keeps};
-ghost use Rattle.camp_kept.specs.Keeping.{disk_in};
+ghost use Rattle.camp_kept.specs.Accepting.{Stored};
+ghost use Rattle.camp_kept.specs.Keeping.{disk_in, may_commit};
 ghost use Rattle.camp_kept_talk.specs.Going.{Comes, ComesSettled, Goes, WritesAllOrNone, WritesNone, as_told};
+ghost use Rattle.camp_kept_talk.specs.Stopping.{CountsStored, StaysStopped, stopped_fault};
 ghost use Rattle.camp_talk.specs.Accounts.{no_account};
 ghost use Rattle.camp_talk.specs.Answers.{Standing};
 ghost use Rattle.camp_talk.specs.Talks.{HasRisen, ReadsWithin};
@@ -56,10 +58,10 @@ pub fn stored_turn<D: Disk, R: BufRead, W: Write>(
     reader: &mut R,
     writer: &mut W,
 ) -> Result<bool, StoredFault>
-    ensures goes { (remaining old : Option (List ℕ)) (first : Standing)
-        → Goes D.Disk.seen D.Disk.may_leave remaining (R.remaining reader.old) old (W.contents writer.old) held.old.answers.items first
+    ensures goes { (durable : Stored) (remaining old : Option (List ℕ)) (first : Standing)
+        → Goes D.Disk.seen D.Disk.may_leave durable remaining (R.remaining reader.old) old (W.contents writer.old) held.old.answers.items first
         (record { history = kept.old.book; lines = held.old.lines; cause = held.old.cause }) kept.old
-        → Comes D.Disk.seen D.Disk.may_leave remaining (R.remaining reader.new) old (W.contents writer.new) held.new.answers.items first
+        → Comes D.Disk.seen D.Disk.may_leave durable remaining (R.remaining reader.new) old (W.contents writer.new) held.new.answers.items first
         (record { history = kept.new.book; lines = held.new.lines; cause = held.new.cause }) result kept.new }
     ensures counts { IfOk result (λ more. more ≡ true → HasRisen held.old.lines held.new.lines) }
     // It reads no more than a command has; and if the calls can't be persisted, it writes all buffered
@@ -68,6 +70,10 @@ pub fn stored_turn<D: Disk, R: BufRead, W: Write>(
     ensures whole { IfErr result (WritesAllOrNone held.old.answers.items (W.contents writer.old) (W.contents writer.new)) }
     // If no command is ready, the buffered answers are written.
     ensures settles { is_ready ≡ false → IfOk result (λ more. more ≡ true → Appends (W.contents writer.old) (W.contents writer.new) held.old.answers.items) }
+    // If a commit has failed at the disk before, nothing is written.
+    ensures stopped { may_commit kept.old ≡ false → StaysStopped kept.old kept.new writer.old writer.new
+        × MatchResult result (λ more. more ≡ true) (λ why. why ≡ stopped_fault) }
+    ensures faults { CountsStored result (D.Disk.faults (disk_in kept.old)) (D.Disk.faults (disk_in kept.new)) }
     ensures clean { D.Disk.is_clean (disk_in kept.new) ≡ D.Disk.is_clean (disk_in kept.old) }
 {
     settle_first(alloc, kept, held, is_ready, writer)?;
@@ -82,16 +88,18 @@ fn settle_first<D: Disk, W: Write>(
     is_ready: bool,
     writer: &mut W,
 ) -> Result<(), StoredFault>
-    ensures goes { (remaining rest old : Option (List ℕ)) (first : Standing)
-        → Goes D.Disk.seen D.Disk.may_leave remaining rest old (W.contents writer.old) held.old.answers.items first
+    ensures goes { (durable : Stored) (remaining rest old : Option (List ℕ)) (first : Standing)
+        → Goes D.Disk.seen D.Disk.may_leave durable remaining rest old (W.contents writer.old) held.old.answers.items first
         (record { history = kept.old.book; lines = held.old.lines; cause = held.old.cause }) kept.old
-        → ComesSettled D.Disk.seen D.Disk.may_leave remaining rest old (W.contents writer.new) held.new.answers.items first
+        → ComesSettled D.Disk.seen D.Disk.may_leave durable remaining rest old (W.contents writer.new) held.new.answers.items first
         (record { history = kept.new.book; lines = held.new.lines; cause = held.new.cause }) result kept.new }
     ensures lines { held.new.lines ≡ held.old.lines }
     ensures whole { MatchResult result
         (λ _. Appends (W.contents writer.old) (W.contents writer.new) held.old.answers.items ⊎ Keeps (W.contents writer.old) (W.contents writer.new))
         (WritesAllOrNone held.old.answers.items (W.contents writer.old) (W.contents writer.new)) }
     ensures settles { is_ready ≡ false → OnOk result (Appends (W.contents writer.old) (W.contents writer.new) held.old.answers.items) }
+    ensures stopped { may_commit kept.old ≡ false → (kept.new ≡ kept.old) × (writer.new ≡ writer.old) × IfErr result (λ why. why ≡ stopped_fault) }
+    ensures faults { CountsStored result (D.Disk.faults (disk_in kept.old)) (D.Disk.faults (disk_in kept.new)) }
     ensures clean { D.Disk.is_clean (disk_in kept.new) ≡ D.Disk.is_clean (disk_in kept.old) }
 {
     if may_wait(kept, held, is_ready) {
@@ -116,15 +124,18 @@ fn turn_on<D: Disk, R: BufRead, W: Write>(
     reader: &mut R,
     writer: &mut W,
 ) -> Result<bool, StoredFault>
-    ensures goes { (remaining old : Option (List ℕ)) (first : Standing)
-        → Goes D.Disk.seen D.Disk.may_leave remaining (R.remaining reader.old) old (W.contents writer.old) held.old.answers.items first
+    ensures goes { (durable : Stored) (remaining old : Option (List ℕ)) (first : Standing)
+        → Goes D.Disk.seen D.Disk.may_leave durable remaining (R.remaining reader.old) old (W.contents writer.old) held.old.answers.items first
         (record { history = kept.old.book; lines = held.old.lines; cause = held.old.cause }) kept.old
-        → Comes D.Disk.seen D.Disk.may_leave remaining (R.remaining reader.new) old (W.contents writer.new) held.new.answers.items first
+        → Comes D.Disk.seen D.Disk.may_leave durable remaining (R.remaining reader.new) old (W.contents writer.new) held.new.answers.items first
         (record { history = kept.new.book; lines = held.new.lines; cause = held.new.cause }) result kept.new }
     ensures counts { IfOk result (λ more. more ≡ true → HasRisen held.old.lines held.new.lines) }
     ensures within { ReadsWithin (R.remaining reader.old) (R.remaining reader.new) }
     ensures none { IfErr result (WritesNone (W.contents writer.old) (W.contents writer.new)) }
     ensures unwritten { IfOk result (λ more. more ≡ true → W.contents writer.new ≡ W.contents writer.old) }
+    ensures stopped { may_commit kept.old ≡ false → StaysStopped kept.old kept.new writer.old writer.new
+        × MatchResult result (λ more. more ≡ true) (λ why. why ≡ stopped_fault) }
+    ensures faults { CountsStored result (D.Disk.faults (disk_in kept.old)) (D.Disk.faults (disk_in kept.new)) }
     ensures clean { D.Disk.is_clean (disk_in kept.new) ≡ D.Disk.is_clean (disk_in kept.old) }
 {
     let turned = turn(

@@ -4,38 +4,38 @@ use Rattle.camp_kept_talk.proofs.Serving.{serves_no_more, serves_none, serves_no
 use Rattle.camp_kept_talk.proofs.frames.serve_kept.Goals as goal
 
 pub returns-in-Ok-clause-serves : goal.returns-in-Ok-clause-serves
-returns-in-Ok-clause-serves g c holds =
+returns-in-Ok-clause-serves g c durable front holds =
     let old = c.args.kept.now in
     let serves = rw (c.in-Ok-true.field-0-test, c.new-frame.ensures.items) at c.in-Ok-true.ensures.serves in
-    serves_so g.D.Disk.seen g.D.Disk.may_leave _ _ (g.W.Write.contents c.args.writer.now) old (record old { book = c.serve.new.book }) _ refl refl holds
+    serves_so g.D.Disk.seen g.D.Disk.may_leave durable _ _ (g.W.Write.contents c.args.writer.now) old (record old { book = c.serve.new.book }) _ refl refl front holds
     serves c.settle.new.kept c.settle.ensures.book c.settle.new.held.items (g.W.Write.contents c.settle.new.writer) c.in-Ok.field-0 c.in-Ok.ensures.settles
 
 pub returns-in-Ok-true-clause-serves : goal.returns-in-Ok-true-clause-serves
-returns-in-Ok-true-clause-serves g c holds =
+returns-in-Ok-true-clause-serves g c durable front holds =
     let old = c.args.kept.now in
     let serves = rw (c.in-Ok-true.field-0-test, c.new-frame.ensures.items) at c.in-Ok-true.ensures.serves in
-    serves_not g.D.Disk.seen g.D.Disk.may_leave _ _ (g.W.Write.contents c.args.writer.now) old (record old { book = c.serve.new.book }) _ refl refl holds
+    serves_not g.D.Disk.seen g.D.Disk.may_leave durable _ _ (g.W.Write.contents c.args.writer.now) old (record old { book = c.serve.new.book }) _ refl refl front holds
     serves c.settle.new.kept c.settle.ensures.book c.settle.new.held.items (g.W.Write.contents c.settle.new.writer) c.in-Err-settle.fault c.in-Err-settle.ensures.settles
 
 pub returns-in-Ok-false-clause-serves : goal.returns-in-Ok-false-clause-serves
-returns-in-Ok-false-clause-serves g c holds =
+returns-in-Ok-false-clause-serves g c durable front holds =
     let old = c.args.kept.now in
     let serves = rw (c.in-Ok-false.field-0-test, c.new-frame.ensures.items) at c.in-Ok-false.ensures.serves in
-    serves_no_more g.D.Disk.seen g.D.Disk.may_leave _ _ (g.W.Write.contents c.args.writer.now) old (record old { book = c.serve.new.book }) _ refl refl holds
+    serves_no_more g.D.Disk.seen g.D.Disk.may_leave durable _ _ (g.W.Write.contents c.args.writer.now) old (record old { book = c.serve.new.book }) _ refl refl front holds
     serves
 
 pub returns-in-Ok-commit-clause-serves : goal.returns-in-Ok-commit-clause-serves
-returns-in-Ok-commit-clause-serves g c holds =
+returns-in-Ok-commit-clause-serves g c durable front holds =
     let old = c.args.kept.now in
     let serves = subst (λ (frame : List ℕ). Serves (g.R.Read.remaining c.args.reader.now) (g.R.Read.remaining c.serve.new.reader) (Some frame) (Some c.serve.new.writer.items) old.book
     (Err c.in-Err.why) c.serve.new.book) c.new-frame.ensures.items c.in-Err.ensures.serves in
-    serves_none g.D.Disk.seen g.D.Disk.may_leave _ _ (g.W.Write.contents c.args.writer.now) old (record old { book = c.serve.new.book }) c.serve.new.writer.items refl refl holds
+    serves_none g.D.Disk.seen g.D.Disk.may_leave durable _ _ (g.W.Write.contents c.args.writer.now) old (record old { book = c.serve.new.book }) c.serve.new.writer.items refl refl front holds
     c.in-Err.why serves c.commit.new.self c.commit.ensures.book c.without_room.result c.without_room.ensures c.in-Ok-commit.ensures.acknowledged
 
 pub returns-clause-serves : goal.returns-clause-serves
-returns-clause-serves g c holds =
+returns-clause-serves g c durable front holds =
     let old = c.args.kept.now in
     let serves = subst (λ (frame : List ℕ). Serves (g.R.Read.remaining c.args.reader.now) (g.R.Read.remaining c.serve.new.reader) (Some frame) (Some c.serve.new.writer.items) old.book
     (Err c.in-Err.why) c.serve.new.book) c.new-frame.ensures.items c.in-Err.ensures.serves in
-    serves_unkept g.D.Disk.seen g.D.Disk.may_leave _ _ (g.W.Write.contents c.args.writer.now) old (record old { book = c.serve.new.book }) c.serve.new.writer.items refl refl holds
-    c.in-Err.why serves c.commit.new.self c.commit.ensures.book c.in-Err-commit.fault c.commit.ensures.crash
+    serves_unkept g.D.Disk.seen g.D.Disk.may_leave durable _ _ (g.W.Write.contents c.args.writer.now) old (record old { book = c.serve.new.book }) c.serve.new.writer.items refl refl front holds
+    c.in-Err.why serves c.commit.new.self c.commit.ensures.book c.in-Err-commit.fault c.commit.ensures.crash c.in-Err-commit.ensures.leaves
