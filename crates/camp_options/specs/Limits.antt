@@ -9,11 +9,11 @@ use Rattle.camp_repo.specs.declared.faults.LimitFault.{LimitFault}
 use Rattle.camp_repo.specs.declared.faults.LimitFault.TheVariants as limit
 use Rattle.camp_script.specs.Words.{count_of}
 
--- the number after a word that a text begins with, in 1 to 10 decimal digits
+-- the number, in 1 to 10 decimal digits, after the word with which a text begins
 abbrev pub number_after : List ℕ → List ℕ → Option ℕ
 number_after word text = if starts_with ◌==◌ text word then count_of (drop (length word) text) else None
 
--- the place of the first comma, or the end
+-- the index of the first comma, or the length
 abbrev pub comma_in : List ℕ → ℕ
 comma_in text = position_or_len (λ byte. byte == 44) text
 
@@ -30,6 +30,6 @@ in_range (Ok limits) = Ok limits
 in_range (Err limit.Catches) = Err fault.Catches
 in_range (Err limit.Branches) = Err fault.Branches
 
--- the limits that a text says
+-- the limits in a text, or what is wrong with it
 abbrev pub limits_in : List ℕ → Result Bounds LimitsFault
 limits_in text = option_map_or (λ numbers. in_range (bounded numbers.0 numbers.1)) (limit_numbers text) (Err fault.Form)

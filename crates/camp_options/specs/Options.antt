@@ -14,11 +14,11 @@ flag name = record (new_rule name) {
   parser = Some parser.Bool;
 }
 
--- tries of a call
+-- the most tries of a call
 abbrev pub most_tries : ℕ
 most_tries = 1_000
 
--- the option `--tries N`, N from 1 to the most, and 100 by default
+-- the option `--tries N`: 1 to `most_tries`, 100 by default
 abbrev pub tries : Rule
 tries = record (new_rule (codes "tries")) {
   long = Some (codes "tries");
@@ -28,7 +28,7 @@ tries = record (new_rule (codes "tries")) {
   defaults = codes "100" ∷ [];
 }
 
--- the option `--limits TEXT`; what its text says is read apart
+-- the option `--limits TEXT`; `limits_in` parses its text
 abbrev pub limits : Rule
 limits = record (new_rule (codes "limits")) {
   long = Some (codes "limits");
@@ -36,7 +36,7 @@ limits = record (new_rule (codes "limits")) {
   value_names = 1;
 }
 
--- a program that tells its version
+-- a program with the option `--version`
 abbrev pub with_version : App → App
 with_version app = record { top = record app.top { has_version = true }; subs = app.subs }
 
@@ -48,7 +48,7 @@ program = with_rule (with_rule (with_rule (with_rule (with_version (new_app (cod
 abbrev pub IsSet : List ℕ → List Row → Type 0
 IsSet name rows = one_of name rows ≡ Some (codes "true")
 
--- the value of the option is a numeral for the number, perhaps with a plus before it
+-- the value of the option is the number in decimal digits, with or without a plus sign
 abbrev pub WritesNumber : List ℕ → ℕ → List Row → Type 0
 WritesNumber name number rows = (text : List ℕ) × (one_of name rows ≡ Some text) × IsNumeral 10 (without_leading_plus text)
     × (number ≡ digits_value 10 (without_leading_plus text))

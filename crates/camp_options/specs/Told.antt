@@ -12,15 +12,15 @@ use Rattle.camp_options.specs.declared.faults.WordsFault.TheVariants.{NotText, R
 abbrev pub AsksForText : ErrorKind → Type 0
 AsksForText kind = (kind ≡ DisplayHelp) ⊎ (kind ≡ DisplayVersion)
 
--- output could not be written: 141, as of a program that SIGPIPE ends, where nobody reads it any more, and else 3
+-- the status if output could not be written: 141 for a closed pipe, as after SIGPIPE, else 3
 abbrev pub TellsUnwritten : io.ErrorKind → ℕ → Type 0
 TellsUnwritten kind status = ((kind ≡ BrokenPipe) × (status ≡ 141)) ⊎ ((kind ≢ BrokenPipe) × (status ≡ 3))
 
--- a text was printed, or could not be
+-- the status after printing a text: 0, or 3 or 141 if it could not be written
 abbrev pub IsPrinted : ℕ → Type 0
 IsPrinted status = (status ≡ 0) ⊎ (status ≡ 3) ⊎ (status ≡ 141)
 
--- 2 where the words are refused, or say no limits; 0, 3 or 141 where a text was asked for; 3 where memory ran out
+-- the status: 2 if the words are rejected; 0, 3 or 141 if they ask for the help text or the version; 3 if memory ran out
 abbrev pub TellsBy : WordsFault → ℕ → Type 0
 TellsBy NotText status = status ≡ 2
 TellsBy (Refused error) status =

@@ -1,4 +1,4 @@
-//! What is told where the words of a command line ask for nothing.
+//! Errors of command lines: how they are reported, and their exit statuses.
 ghost use Rattle.std.specs.Prelude.{◌≡◌, ◌≢◌};
 ghost use Rattle.std.specs.IoError.{error_kind};
 ghost use Rattle.clap.specs.Words.{kind_of};
@@ -12,19 +12,19 @@ use std::env::{self, Env};
 use std::fmt::Display;
 use std::io;
 
-// The status that a shell gives a program that writes to a pipe without a reader, and is ended by that: 128 and SIGPIPE.
+// The exit status of a program whose output is a closed pipe: 128 plus the number of SIGPIPE, as shells report it.
 const CLOSED_PIPE: u8 = 141;
 
-/// Why the words of a command line ask for nothing that a program can do.
+/// Why the words of a command line are not executed.
 #[derive(Debug, Drop)]
 pub enum WordsFault {
     /// A word is not UTF-8.
     NotText,
-    /// They are rejected, or ask for the help text.
+    /// The words are rejected, or ask for the help text or the version.
     Refused(Error),
-    /// The text of `--limits` says no limits of a repository.
+    /// The text of `--limits` is malformed or out of range.
     Limits(LimitsFault),
-    /// Memory ran out while they were parsed.
+    /// Memory ran out while the words were parsed.
     Memory,
 }
 
@@ -38,7 +38,7 @@ pub fn command_line<R: Env + AllocGlobal>(rt: &R) -> Result<Vec<String>, WordsFa
 }
 
 impl WordsFault {
-    /// Reports to the user of a program, and returns the exit status.
+    /// Prints the fault, or the requested text, and returns the exit status of the program.
     pub fn tell<R: Print + Eprint>(&self, rt: &R, program: &str) -> u8
         ensures status { TellsBy self.now result }
     {
@@ -57,7 +57,7 @@ impl WordsFault {
     }
 }
 
-// Writes the requested text, or what is wrong with the command line.
+// Prints the requested text, or what is wrong with the command line, and returns the exit status.
 fn tell_error<R: Print + Eprint>(rt: &R, program: &str, error: &Error) -> u8
     ensures text { AsksForText (kind_of error.now) → IsPrinted result }
     ensures mistake { kind_of error.now ≢ ErrorKind.DisplayHelp → kind_of error.now ≢ ErrorKind.DisplayVersion → result ≡ 2 }
@@ -72,8 +72,7 @@ fn tell_error<R: Print + Eprint>(rt: &R, program: &str, error: &Error) -> u8
     }
 }
 
-/// Tells the user of a program that its output could not be written, unless nobody reads it any more, and gives the
-/// exit status.
+/// Reports that output could not be written, but not for a closed pipe, and returns the exit status.
 pub fn tell_unwritten<R: Eprint>(rt: &R, program: &str, error: &io::Error) -> u8
     ensures status { TellsUnwritten (error_kind error.now) result }
 {
@@ -88,7 +87,7 @@ pub fn tell_unwritten<R: Eprint>(rt: &R, program: &str, error: &io::Error) -> u8
     )
 }
 
-/// Tells the user of a program why it ends, and gives the exit status back.
+/// Reports to standard error why a program ends, and returns the given exit status.
 pub fn tell_fault<R: Eprint, F: Display>(rt: &R, program: &str, fault: &F, status: u8) -> u8
     ensures exact { result ≡ status }
 {

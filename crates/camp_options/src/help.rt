@@ -1,4 +1,4 @@
-//! What `--help` and `--version` say.
+//! The texts of `--help` and `--version`.
 
 /// The version of camp, as `--version` of both programs prints it.
 pub const VERSION: &str = "0.1.0";

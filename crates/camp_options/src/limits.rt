@@ -7,14 +7,14 @@ ghost use Rattle.camp_repo.specs.Limits.{default_bounds};
 use camp_repo::{LimitFault, Limits};
 use camp_script::count_of;
 
-/// Why a text says no limits of a repository.
+/// Why the text of `--limits` is rejected.
 #[derive(Clone, Copy, PartialEq, Eq, Debug)]
 pub enum LimitsFault {
     /// It is not of the form `catches=N,branches=M`.
     Form,
-    /// The most catches of a branch are out of range.
+    /// The limit of catches in a branch is out of range.
     Catches,
-    /// The most branches are out of range.
+    /// The limit of branches is out of range.
     Branches,
 }
 
@@ -59,7 +59,7 @@ fn limit_numbers(text: &[u8]) -> Option<(u64, u64)>
     Some((catches, branches))
 }
 
-// Returns the place of the first comma, or the end.
+// Returns the index of the first comma, or the length.
 fn comma_in(text: &[u8]) -> usize
     ensures place { result ≡ comma_in text.now }
     ensures within { result ≤ length text.now }

@@ -9,9 +9,8 @@ use clap::{Arg, ArgAction, ArgMatches, Command, Error, value_parser};
 use std::alloc::{AllocError, Global};
 use std::convert::AsStr;
 
-/// Reads the words of a command line, of which the first is the program's name. The fault is a
-/// mistake in the words, a request for the help text or the version, or want of memory; it shows as the text for
-/// the user.
+/// Parses the words of a command line, of which the first is the program's name. The error is a mistake in the words, a
+/// request for the help text or the version, or out of memory; it displays as the text for the user.
 pub fn options<'a, S: AsStr>(alloc: Global, words: &'a [S]) -> Result<Options<'a>, Error>
     ensures given { IfOk result (Given (matches_of program (map S.text words.entry.now))) }
     ensures range { IfOk result (λ options. (1 ≤ options.tries) × (options.tries ≤ most_tries)) }

@@ -51,20 +51,21 @@ fn hold<'a>(rt: &HostRuntime, words: &'a [String]) -> Result<(), Stop<'a>> {
         return check_store(rt, store);
     }
     if let Some(store) = wish.store {
-        return hold_stored(rt, store, &wish);
+        return hold_stored(rt, store, limits_of(&wish)?, &wish);
     }
-    let book = loaded(rt, limits_of(&wish)?, &wish.files)?;
+    let limits = limits_of(&wish)?.unwrap_or(Limits::default());
+    let book = loaded(rt, limits, &wish.files)?;
     match wish.export {
         Some(branch) => export_branch(rt, &book, branch),
         None => converse(rt, book, wish.form),
     }
 }
 
-// Returns the limits that the command line gives, or the default ones.
-fn limits_of(wish: &Wish<'_>) -> Result<Limits, WordsFault> {
+// Returns the limits that the command line gives, if it gives some.
+fn limits_of(wish: &Wish<'_>) -> Result<Option<Limits>, WordsFault> {
     match wish.limits {
-        Some(text) => Ok(read_limits(text.as_bytes())?),
-        None => Ok(Limits::default()),
+        Some(text) => Ok(Some(read_limits(text.as_bytes())?)),
+        None => Ok(None),
     }
 }
 

@@ -8,20 +8,21 @@ use crate::{buffered, export_branch, form_at, load_file};
 use camp_kept_talk::{
     Disk, FramedStore, HeldBack, Kept, KeptFault, StoredFault, inspect, stored_turn, talk_kept,
 };
-use camp_talk::{Dialogue, TalkFault, talk};
+use camp_talk::{Dialogue, Limits, TalkFault, talk};
 use sqlite_std_file::{File, OpenError, Unknown, open};
 use std::alloc::{AllocError, Global};
 use std::fs;
 use std::io::{self, BufRead, ErrorKind, Read, Write};
 
-/// Opens a store, or creates it, loads files into it, and then holds a conversation over it, or writes a
-/// branch for git.
+/// Opens a store, or creates it, with the wanted limits, loads files into it, and then holds a conversation over
+/// it, or writes a branch for git.
 pub(crate) fn hold_stored<'a>(
     rt: &HostRuntime,
     store: &'a str,
+    wanted: Option<Limits>,
     wish: &Wish<'a>,
 ) -> Result<(), Stop<'a>> {
-    let mut kept = open_store(rt, store)?;
+    let mut kept = open_store(rt, store, wanted)?;
     for file in wish.files.iter() {
         load_file(rt, &mut kept.book, *file)?;
     }
@@ -103,9 +104,13 @@ impl<D: Disk, R: BufRead, W: Write> Dialogue for PromptedStore<D, R, W> {
 
 // Opens a store, and reports bytes that do not count. A log next to a file that is not a store belongs to
 // somebody else, and is left, unless it was not there before.
-fn open_store<'a>(rt: &HostRuntime, store: &'a str) -> Result<Kept<File>, Stop<'a>> {
+fn open_store<'a>(
+    rt: &HostRuntime,
+    store: &'a str,
+    wanted: Option<Limits>,
+) -> Result<Kept<File>, Stop<'a>> {
     let has_log = has_log(rt, store)?;
-    let kept = match Kept::open(rt.alloc(), open_file(rt, store)?) {
+    let kept = match Kept::open(rt.alloc(), open_file(rt, store)?, wanted) {
         Ok(kept) => kept,
         Err((fault, _disk)) => {
             if !has_log {

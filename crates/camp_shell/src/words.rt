@@ -13,7 +13,7 @@ pub(crate) struct Wish<'a> {
     pub(crate) export: Option<&'a str>,
     /// The file in which the repository is persisted.
     pub(crate) store: Option<&'a str>,
-    /// The text of the limits of a new repository, if they are given.
+    /// The text of the limits of the repository, if they are given.
     pub(crate) limits: Option<&'a str>,
     /// The file that is checked, and then nothing else is done.
     pub(crate) checked: Option<&'a str>,
@@ -74,8 +74,9 @@ is refused before anything is written: a file that is also a folder, and a part 
 With --store the repository is kept in this file, which is made where it is not there: each accepted call
 is on the disk before it is answered, and the next conversation over the file goes on from there. Files
 that are loaded are kept, too, all or none. Where calls can't be kept, they are not answered, and the
-status is 3. With --check-store it is told how many calls a file keeps, its bytes, the digest of all, and
-whether the end is whole; nothing is changed. docs/store.md has more.
+status is 3. A file keeps the --limits that it was made with, too: it is opened with these or without
+the option, and with others it is refused. With --check-store it is told how many calls a file keeps, its
+bytes, the digest of all, and whether the end is whole; nothing is changed. docs/store.md has more.
 
 Exit status:
   0  the input has ended, whatever was answered
@@ -192,7 +193,6 @@ fn limits<'a>(alloc: Global) -> Result<Arg<'a>, AllocError> {
         .help(
             "Allow N changes in a branch and M branches: catches=N,branches=M [default: catches=4096,branches=256]",
         )
-        .conflicts_with("store")?
         .conflicts_with("check-store")
 }
 
