@@ -10,7 +10,7 @@ use Rattle.camp_base.specs.Bytes.{is_path}
 use Rattle.camp_base.specs.Trees.{Files, Lines}
 use Rattle.camp_coding.specs.Contents.{Encodes, HasLines, between_newlines, content_lines, decoded, has_full_last, lacks_last_newline, needs_pieces, stored_lines, without_empty_end}
 use Rattle.camp_coding.specs.GitPaths.{AreBytes}
-use Rattle.camp_coding.specs.GitTrees.{DecodesFile, EncodesTree, GitEntries, GitFile, IsEntryPlace, LacksCampPath, PutsFile, RemovesFile, TreesComeBack, empty_file_if, file_at, is_regular, mode_lines, most_lines, place_lines, place_path}
+use Rattle.camp_coding.specs.GitTrees.{DecodesFile, EncodesTree, GitEntries, GitFile, IsEntryPlace, LacksCampPath, PutsFile, RemovesFile, TouchesOnly, TreesComeBack, empty_file_if, file_at, is_regular, mode_lines, most_lines, place_lines, place_path}
 use Rattle.camp_coding.specs.Inside.Placing.{AtNoPath, ClearsPlace, HasPathsOnly, SetsFile, SetsPlace}
 use Rattle.camp_coding.specs.Inside.Splitting.{AreLinesBefore}
 use Rattle.camp_coding.specs.declared.attributes.Attribute.{Attribute}
@@ -64,6 +64,11 @@ module _ (path : List ℕ) (bytes : AreBytes path) where
         ∙ s2.other camp_path (differs (Some ModeLine))
         ∙ s1.other camp_path (differs None);
   }
+
+-- four places are set, so no file differs elsewhere
+touched : (path : List ℕ) (l0 l1 l2 l3 : Option Lines) (f0 f1 f2 f3 f4 : Files) → SetsFile (place_path None path) l0 f0 f1 → SetsFile (place_path (Some ModeLine) path) l1 f1 f2 → SetsFile (place_path (Some LacksNewline) path) l2 f2 f3 → SetsFile (place_path (Some Wrapped) path) l3 f3 f4 → TouchesOnly path f0 f4
+touched path l0 l1 l2 l3 f0 f1 f2 f3 f4 s1 s2 s3 s4 = λ camp_path d0 d1 d2 d3.
+    s4.other camp_path d3 ∙ s3.other camp_path d2 ∙ s2.other camp_path d1 ∙ s1.other camp_path d0
 
 never : (entry : Option GitFile) → option_and_then (place_lines (Some EmptyCommit)) entry ≡ None
 never None = refl
@@ -321,14 +326,16 @@ put path bytes file l0 l1 l2 l3 f0 f1 f2 f3 f4 short e0 e1 e2 e3 s0 s1 s2 s3 = (
       let p0 = s0.1 encodes.paths in
       let p1 = s1.1 p0.1 in
       let p2 = s2.1 p1.1 in
-      let p3 = s3.1 p2.1 in
-      entry_put path bytes file git f0 f4 p3.1
-      (four_set path bytes (λ place. place_lines place file) f0 f1 f2 f3 f4
-      (subst (λ (l : Option Lines). SetsFile (place_path None path) l f0 f1) e0 p0.0)
-      (subst (λ (l : Option Lines). SetsFile (place_path (Some ModeLine) path) l f1 f2) e1 p1.0)
-      (subst (λ (l : Option Lines). SetsFile (place_path (Some LacksNewline) path) l f2 f3) e2 p2.0)
-      (subst (λ (l : Option Lines). SetsFile (place_path (Some Wrapped) path) l f3 f4) e3 p3.0))
-      encodes,
+      let p3 = s3.1 p2.1 in (
+        entry_put path bytes file git f0 f4 p3.1
+            (four_set path bytes (λ place. place_lines place file) f0 f1 f2 f3 f4
+            (subst (λ (l : Option Lines). SetsFile (place_path None path) l f0 f1) e0 p0.0)
+            (subst (λ (l : Option Lines). SetsFile (place_path (Some ModeLine) path) l f1 f2) e1 p1.0)
+            (subst (λ (l : Option Lines). SetsFile (place_path (Some LacksNewline) path) l f2 f3) e2 p2.0)
+            (subst (λ (l : Option Lines). SetsFile (place_path (Some Wrapped) path) l f3 f4) e3 p3.0))
+            encodes,
+        touched path l0 l1 l2 l3 f0 f1 f2 f3 f4 p0.0 p1.0 p2.0 p3.0,
+      ),
 )
   where
     at : (place : Option Attribute) (lines : Lines) → place_lines place file ≡ Some lines → is_path (place_path place path) ≡ true
@@ -344,5 +351,7 @@ removed path bytes f0 f1 f2 f3 f4 s0 s1 s2 s3 = λ git encodes.
     let p0 = s0 encodes.paths in
     let p1 = s1 p0.1 in
     let p2 = s2 p1.1 in
-    let p3 = s3 p2.1 in
-    entry_removed path bytes git f0 f4 p3.1 (four_set path bytes (λ place. None) f0 f1 f2 f3 f4 p0.0 p1.0 p2.0 p3.0) encodes
+    let p3 = s3 p2.1 in (
+      entry_removed path bytes git f0 f4 p3.1 (four_set path bytes (λ place. None) f0 f1 f2 f3 f4 p0.0 p1.0 p2.0 p3.0) encodes,
+      touched path None None None None f0 f1 f2 f3 f4 p0.0 p1.0 p2.0 p3.0,
+    )

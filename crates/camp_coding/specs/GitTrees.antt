@@ -83,18 +83,26 @@ pub record LacksCampPath (path : List ℕ) (file : GitFile) : Type 0 where
   pub has : place_lines place file ≡ Some lines
   pub no_path : is_path (place_path place path) ≡ false
 
+-- a file differs only at the path of camp of a path of git, or at that of an attribute of it
+abbrev pub TouchesOnly : List ℕ → Files → Files → Type 0
+TouchesOnly path old new =
+    (camp_path : List ℕ) → ¬ (camp_path ≡ place_path None path) → ¬ (camp_path ≡ place_path (Some ModeLine) path)
+    → ¬ (camp_path ≡ place_path (Some LacksNewline) path) → ¬ (camp_path ≡ place_path (Some Wrapped) path)
+    → get new camp_path ≡ get old camp_path
+
 -- Ok: the entry stands in the new tree, and all others as they did; an error names what camp can't hold
 abbrev pub PutsFile : List ℕ → GitFile → Files → Result Files EncodeFault → Type 0
 PutsFile path file old (Ok new) =
     HasCampPaths path file × (length (stored_lines file.content) ≤ most_lines)
-    × ((git : GitEntries) → EncodesTree git old → EncodesTree (insert git path file) new)
+    × ((git : GitEntries) → EncodesTree git old → EncodesTree (insert git path file) new × TouchesOnly path old new)
 PutsFile path file old (Err BadPath) = LacksCampPath path file
 PutsFile path file old (Err TooManyLines) = most_lines < length (stored_lines file.content)
 PutsFile path file old (Err Memory) = Unit {0}
 
 -- the entry of a path is gone, and all others stand as they did
 abbrev pub RemovesFile : List ℕ → Files → Files → Type 0
-RemovesFile path old new = (git : GitEntries) → EncodesTree git old → EncodesTree (remove git path) new
+RemovesFile path old new =
+    (git : GitEntries) → EncodesTree git old → EncodesTree (remove git path) new × TouchesOnly path old new
 
 -- the file of a path of git, or of an attribute of it, where that is a path of camp
 abbrev pub file_at : Files → Option Attribute → List ℕ → Option Lines

@@ -2,18 +2,20 @@
 use Rattle.std.proofs.Common.{◌≡◌, ℕ, ◌+◌, ◌<◌, ◌≤◌, List, [], ◌∷◌, ◌++◌, length, drop, refl, sym, ap, subst, ◌∙◌, append_assoc, append-nil, arith, inl, inr, ⊎_elim, Option, None, Some, Result, Ok, Err}
 use Rattle.std.proofs.Common.{add-one, drop-cons, get_or, length-append, length-drop, suc, take, take_all, zero, ◌-◌}
 use Rattle.std.proofs.lemmas.List.{drop-drop, length-take, length-take-le, nil_from_length}
+use Rattle.std.proofs.lemmas.Option.{same_Some}
 use Rattle.std.specs.FinMap.{get, insert, remove}
 use Rattle.std.specs.List.{AllByRecursion}
 use Rattle.camp_base.specs.Trees.{Files, Lines}
 use Rattle.camp_coding.proofs.PlaceLemmas.{inserted_at, inserted_other, removed_at, removed_other}
 use Rattle.camp_diff.specs.EditScripts.{AppliesHunk, AppliesInOrder, IsEditScript, IsTightHunk, IsWithin, lines_between}
 use Rattle.camp_diff.specs.declared.hunks.DiffHunk.{DiffHunk}
+use Rattle.camp_prim.specs.Commuting.{path_of}
 use Rattle.camp_prim.specs.declared.primitives.Primitive.{Primitive}
 use Rattle.camp_prim.specs.declared.primitives.Primitive.TheVariants.{Add, Remove}
 use Rattle.camp_import.specs.TreeChanges.{HasShortSides, LeadThrough}
 use Rattle.camp_import.specs.declared.edits.ChangeFault.{ChangeFault}
 use Rattle.camp_import.specs.declared.edits.ChangeFault.TheVariants.{Memory, TooManyLines}
-use Rattle.camp_import.specs.Inside.Growing.{AreTooMany, GrowsByFile, GrowsByFileOr, GrowsByHunk, IsFirstPiece, IsShort, LeadToFile, PutsLines, primitive_of}
+use Rattle.camp_import.specs.Inside.Growing.{AreTooMany, GrowsByFile, GrowsByFileOr, GrowsByHunk, IsFirstPiece, IsOfChangedFile, IsShort, LeadToFile, PutsLines, primitive_of}
 
 -- changes after changes
 pub lead_on : (first second : List Primitive) (old mid new : Files) → LeadThrough first old mid → LeadThrough second mid new → LeadThrough (first ++ second) old new
@@ -61,10 +63,15 @@ from_to_add path files is = record {
   sets = record { at = inserted_at files path []; other = inserted_other files path [] };
 }
 
--- changes of both lists are short
-pub all_short : (first second : List Primitive) → AllByRecursion HasShortSides first → AllByRecursion HasShortSides second → AllByRecursion HasShortSides (first ++ second)
-all_short [] second a b = b
-all_short (change ∷ first) second a b = (a.0, all_short first second a.1 b)
+-- what holds of the changes of both lists
+pub all_of_both : (P : Primitive → Type 0) (first second : List Primitive) → AllByRecursion P first → AllByRecursion P second → AllByRecursion P (first ++ second)
+all_of_both P [] second a b = b
+all_of_both P (change ∷ first) second a b = (a.0, all_of_both P first second a.1 b)
+
+-- what follows from what holds of all changes
+pub all_weaker : (P Q : Primitive → Type 0) (changes : List Primitive) → ((change : Primitive) → P change → Q change) → AllByRecursion P changes → AllByRecursion Q changes
+all_weaker P Q [] f all = tt
+all_weaker P Q (change ∷ changes) f all = (f change all.0, all_weaker P Q changes f all.1)
 
 front : (j n : ℕ) (xs : Lines) → take j xs ++ take n (drop j xs) ≡ take (j + n) xs
 front zero n xs = let e : n ≡ 0 + n = omega arith in ap (λ (k : ℕ). take k xs) e
@@ -136,6 +143,7 @@ grows_by_one path old new hunk before after short is = record {
     ),
     tt,
   );
+  own = (refl, tt);
 }
 
 -- a piece of a hunk, and then its rest
@@ -157,7 +165,8 @@ grows_by_pieces path old new hunk piece before between after within is one grown
           subst (λ (k : ℕ). AppliesHunk old new (record { old_start = piece.old_start; old_end = piece.old_end; new_start = k; new_end = piece.new_end }) file cut.mid) (sym is.new_start)
           (subst (λ (k : ℕ). AppliesHunk old new (record { old_start = k; old_end = piece.old_end; new_start = hunk.new_start; new_end = piece.new_end }) file cut.mid) (sym is.old_start) cut.first) in
           from_to_both path (Some file) (Some cut.mid) (Some later) first.more grown.more (first.changes file cut.mid start) (grown.changes cut.mid later cut.second);
-      short = all_short first.more grown.more first.short grown.short;
+      short = all_of_both HasShortSides first.more grown.more first.short grown.short;
+      own = all_of_both (λ change. path_of change ≡ path) first.more grown.more first.own grown.own;
     }
 
 -- what is left of a hunk after a piece
@@ -174,6 +183,9 @@ piece_within old new hunk piece within is = record {
   new_within = omega (arith, is.new_to, within.new_within);
 }
 
+cons_is_not_nil : (hunk : DiffHunk) (rest : List DiffHunk) → ¬ (hunk ∷ rest ≡ [])
+cons_is_not_nil hunk rest same = absurd cc
+
 -- the hunks before the rest of an edit script were appended
 pub record EditsSoFar (path : List ℕ) (old new : Lines) (rest : List DiffHunk) (before after : List Primitive) : Type 0 where
   pub more : List Primitive
@@ -183,6 +195,8 @@ pub record EditsSoFar (path : List ℕ) (old new : Lines) (rest : List DiffHunk)
   pub short : AllByRecursion HasShortSides more
   pub left : AppliesInOrder old new rest mid new
   pub tight : AllByRecursion (IsTightHunk old new) rest
+  pub needed : AllByRecursion (IsOfChangedFile path (Some old) (Some new)) more
+  pub unlike : ¬ (rest ≡ []) → ¬ (old ≡ new)
 
 pub edits_start : (path : List ℕ) (old new : Lines) (hunks : List DiffHunk) (before : List Primitive) → IsEditScript old new hunks → EditsSoFar path old new hunks before before
 edits_start path old new hunks before script = record {
@@ -193,6 +207,8 @@ edits_start path old new hunks before script = record {
   short = tt;
   left = script.leads;
   tight = script.tight;
+  needed = tt;
+  unlike = λ some same. some (script.none.1 same);
 }
 
 pub one_more_hunk : (path : List ℕ) (old new : Lines) (hunk : DiffHunk) (rest : List DiffHunk) (before after longer : List Primitive)
@@ -204,9 +220,14 @@ one_more_hunk path old new hunk rest before after longer so_far grown =
       grows = grown.grows ∙ ap (λ (l : List Primitive). l ++ grown.more) so_far.grows ∙ append_assoc before so_far.more grown.more;
       mid = step.0;
       changes = from_to_both path (Some old) (Some so_far.mid) (Some step.0) so_far.more grown.more so_far.changes (grown.changes so_far.mid step.0 step.1);
-      short = all_short so_far.more grown.more so_far.short grown.short;
+      short = all_of_both HasShortSides so_far.more grown.more so_far.short grown.short;
       left = step.2;
       tight = so_far.tight.1;
+      needed =
+          all_of_both (IsOfChangedFile path (Some old) (Some new)) so_far.more grown.more so_far.needed
+          (all_weaker (λ change. path_of change ≡ path) (IsOfChangedFile path (Some old) (Some new)) grown.more
+          (λ change own. (own, λ same. so_far.unlike (λ none. cons_is_not_nil hunk rest none) (same_Some old new same))) grown.own);
+      unlike = λ some. so_far.unlike (λ none. cons_is_not_nil hunk rest none);
     }
 
 pub edits_done : (path : List ℕ) (old new : Lines) (before after : List Primitive) → EditsSoFar path old new [] before after → GrowsByFile path (Some old) (Some new) before after
@@ -215,7 +236,11 @@ edits_done path old new before after so_far = record {
   grows = so_far.grows;
   changes = subst (λ (l : Lines). FromTo path (Some old) (Some l) so_far.more) so_far.left so_far.changes;
   short = so_far.short;
+  needed = so_far.needed;
 }
+
+some_is_not_none : (lines : Lines) → ¬ (Some lines ≡ None)
+some_is_not_none lines same = absurd cc
 
 pub grows_removed : (path : List ℕ) (old : Lines) (before after longer : List Primitive)
     → GrowsByFile path (Some old) (Some []) before after → longer ≡ after ++ Remove path ∷ [] → GrowsByFile path (Some old) None before longer
@@ -223,7 +248,12 @@ grows_removed path old before after longer grown is = record {
   more = grown.more ++ Remove path ∷ [];
   grows = is ∙ ap (λ (l : List Primitive). l ++ Remove path ∷ []) grown.grows ∙ append_assoc before grown.more (Remove path ∷ []);
   changes = from_to_both path (Some old) (Some []) None grown.more (Remove path ∷ []) grown.changes (from_to_remove path);
-  short = all_short grown.more (Remove path ∷ []) grown.short (tt, tt);
+  short = all_of_both HasShortSides grown.more (Remove path ∷ []) grown.short (tt, tt);
+  needed =
+      all_of_both (IsOfChangedFile path (Some old) None) grown.more (Remove path ∷ [])
+      (all_weaker (IsOfChangedFile path (Some old) (Some [])) (IsOfChangedFile path (Some old) None) grown.more
+      (λ change of. (of.0, λ same. some_is_not_none old same)) grown.needed)
+      ((refl, λ same. some_is_not_none old same), tt);
 }
 
 pub grows_added : (path : List ℕ) (new : Lines) (before between after : List Primitive)
@@ -233,10 +263,15 @@ grows_added path new before between after is grown = record {
   grows = grown.grows ∙ ap (λ (l : List Primitive). l ++ grown.more) is ∙ append_assoc before (Add path ∷ []) grown.more;
   changes = from_to_both path None (Some []) (Some new) (Add path ∷ []) grown.more (from_to_add path) grown.changes;
   short = (tt, grown.short);
+  needed = (
+    (refl, λ same. some_is_not_none new (sym same)),
+    all_weaker (IsOfChangedFile path (Some []) (Some new)) (IsOfChangedFile path None (Some new)) grown.more
+        (λ change of. (of.0, λ same. some_is_not_none new (sym same))) grown.needed,
+  );
 }
 
 pub grows_none : (path : List ℕ) (before : List Primitive) → GrowsByFile path None None before before
-grows_none path before = record { more = []; grows = sym (append-nil before); changes = from_to_none path None; short = tt }
+grows_none path before = record { more = []; grows = sym (append-nil before); changes = from_to_none path None; short = tt; needed = tt }
 
 -- the same where the changes of the lines may have failed
 pub added_or : (path : List ℕ) (new lines : Lines) (before between after : List Primitive) (result : Result (Unit {0}) ChangeFault)

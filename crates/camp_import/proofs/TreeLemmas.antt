@@ -16,18 +16,18 @@ use Rattle.camp_base.specs.Trees.{Files, Lines}
 use Rattle.camp_coding.proofs.PlaceLemmas.{bytes_or_not}
 use Rattle.camp_prim.specs.declared.primitives.Primitive.{Primitive}
 use Rattle.camp_share.specs.Maps.{map_of}
-use Rattle.camp_import.specs.Inside.Growing.{AreTooMany, GrowsByFile, GrowsByFileOr}
-use Rattle.camp_import.specs.TreeChanges.{DifferWithin, GivesChanges, HasLongFile, HasPath, HasShortSides, LeadThrough}
+use Rattle.camp_import.specs.Inside.Growing.{AreTooMany, GrowsByFile, GrowsByFileOr, IsOfChangedFile}
+use Rattle.camp_import.specs.TreeChanges.{DifferWithin, GivesChanges, HasLongFile, HasPath, HasShortSides, IsOfDifference, LeadThrough}
 use Rattle.camp_import.specs.declared.edits.ChangeFault.{ChangeFault}
 use Rattle.camp_import.specs.declared.edits.ChangeFault.TheVariants.{Memory, TooManyLines}
-use Rattle.camp_import.proofs.FileLemmas.{all_short, lead_on}
+use Rattle.camp_import.proofs.FileLemmas.{all_of_both, all_weaker, lead_on}
 
 -- entries of a set of paths
 abbrev pub PathEntries : Type 0
 PathEntries = List (List ℕ × Unit {0})
 
 -- the order of paths
-abbrev path_cmp : List ℕ → List ℕ → Ordering
+abbrev pub path_cmp : List ℕ → List ℕ → Ordering
 path_cmp = slice_cmp nat_cmp
 
 -- one of the entries is of a path
@@ -40,15 +40,15 @@ abbrev pub AreApart : PathEntries → Type 0
 AreApart [] = Unit {0}
 AreApart (entry ∷ rest) = (¬ (HasEntry rest entry.0)) × AreApart rest
 
-T_first : (a b : Bool) → T (a && b) → T a
+pub T_first : (a b : Bool) → T (a && b) → T a
 T_first true b both = tt
 T_first false b both = both
 
-T_second : (a b : Bool) → T (a && b) → T b
+pub T_second : (a b : Bool) → T (a && b) → T b
 T_second true b both = both
 T_second false b both = absurd both
 
-not_below_itself : (path : List ℕ) → T (is_lt (path_cmp path path)) → ⊥
+pub not_below_itself : (path : List ℕ) → T (is_lt (path_cmp path path)) → ⊥
 not_below_itself path below = subst (λ (o : Ordering). T (is_lt o)) (tied_itself nat_list_cmp_total path) below
 
 below_others : (path : List ℕ) (rest : PathEntries) → T (below_all path_cmp path rest) → ¬ (HasEntry rest path)
@@ -66,7 +66,10 @@ apart_from_sorted (entry ∷ rest) sorted = (
   apart_from_sorted rest (T_second (below_all path_cmp entry.0 rest) (is_sorted path_cmp rest) sorted),
 )
 
-other_key : (path other : List ℕ) → ¬ (path ≡ other) → eq_by_cmp path_cmp path other ≡ false
+pub same_key : (path other : List ℕ) → path ≡ other → eq_by_cmp path_cmp path other ≡ true
+same_key path other same = is_eq-slice_cmp path other ∙ (bytes_eq-Decides path other).1 same
+
+pub other_key : (path other : List ℕ) → ¬ (path ≡ other) → eq_by_cmp path_cmp path other ≡ false
 other_key path other differs =
     is_eq-slice_cmp path other
     ∙ ⊎_elim (λ is. absurd (differs ((bytes_eq-Decides path other).0 is))) (λ is_not. is_not) (cases_Bool (bytes_eq path other))
@@ -94,6 +97,7 @@ pub record LeadsSoFar (old new : Files) (rest : PathEntries) (changes : List Pri
   pub made : (path : List ℕ) → ¬ (HasEntry rest path) → get reached path ≡ get new path
   pub apart : AreApart rest
   pub short : AllByRecursion HasShortSides changes
+  pub needed : AllByRecursion (IsOfDifference old new) changes
 
 pub leads_start : (set : PathEntries) (old new : Files) → DifferWithin set old new → LeadsSoFar old new (entries_of set) []
 leads_start set old new within = record {
@@ -103,6 +107,7 @@ leads_start set old new within = record {
   made = λ path none. within path (λ has. none (has_entry set path has));
   apart = apart_from_sorted (entries_of set) (entries_sorted (map_of path_cmp set));
   short = tt;
+  needed = tt;
 }
 
 leads_one_more : (old new : Files) (entry : List ℕ × Unit {0}) (rest : PathEntries) (changes longer : List Primitive)
@@ -120,7 +125,12 @@ leads_one_more old new entry rest changes longer grown so_far =
           (λ differs. to.sets.other path differs ∙ so_far.made path (λ has. ⊎_elim (λ same. differs (sym same)) none has))
           (bytes_or_not path entry.0);
       apart = so_far.apart.1;
-      short = subst (AllByRecursion HasShortSides) (sym grown.grows) (all_short changes grown.more so_far.short grown.short);
+      short = subst (AllByRecursion HasShortSides) (sym grown.grows) (all_of_both HasShortSides changes grown.more so_far.short grown.short);
+      needed =
+          subst (AllByRecursion (IsOfDifference old new)) (sym grown.grows)
+          (all_of_both (IsOfDifference old new) changes grown.more so_far.needed
+          (all_weaker (IsOfChangedFile entry.0 (get old entry.0) (get new entry.0)) (IsOfDifference old new) grown.more
+          (λ change of. subst (λ (p : List ℕ). ¬ (get old p ≡ get new p)) (sym of.0) of.1) grown.needed));
     }
 
 -- the changes of one more path

@@ -1,2 +1,3 @@
 -- Definitions that only private functions use.
+pub mod Changing
 pub mod Growing

@@ -1,3 +1,4 @@
+pub mod CommitTrees
 pub mod Inside
 pub mod Parts
 pub mod TreeChanges

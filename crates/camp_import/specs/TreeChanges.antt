@@ -1,10 +1,11 @@
 -- Changes that lead from one tree to another.
-use Rattle.std.specs.Prelude.{◌≡◌, ℕ, ◌<◌, ◌≤◌, ◌⊎◌, List, [], ◌∷◌, length, Some, Result, Ok, Err}
+use Rattle.std.specs.Prelude.{◌≡◌, ◌≢◌, ℕ, ◌<◌, ◌≤◌, ◌⊎◌, List, [], ◌∷◌, length, Some, Result, Ok, Err}
 use Rattle.std.specs.FinMap.{get}
 use Rattle.std.specs.Global.{Vec}
 use Rattle.std.specs.Ordering.{nat_cmp}
 use Rattle.std.specs.Cmp.Lexicographic.{slice_cmp}
 use Rattle.camp_base.specs.Trees.{Files, Lines}
+use Rattle.camp_prim.specs.Commuting.{path_of}
 use Rattle.camp_prim.specs.Effect.{Applies}
 use Rattle.camp_prim.specs.declared.primitives.Primitive.{Primitive}
 use Rattle.camp_prim.specs.declared.primitives.Primitive.TheVariants.{Add, Remove, Hunk}
@@ -28,6 +29,14 @@ HasPath set path = get (map_of (slice_cmp nat_cmp) set) path ≡ Some tt
 -- two trees have the same files at all paths that are not in a set
 abbrev pub DifferWithin : List (List ℕ × Unit {0}) → Files → Files → Type 0
 DifferWithin set old new = (path : List ℕ) → ¬ (HasPath set path) → get old path ≡ get new path
+
+-- each path of a set has different files in two trees, or a file in one of them alone
+abbrev pub HasDifferencesOnly : List (List ℕ × Unit {0}) → Files → Files → Type 0
+HasDifferencesOnly set old new = (path : List ℕ) → HasPath set path → get old path ≢ get new path
+
+-- a change is of a path at which two trees differ
+abbrev pub IsOfDifference : Files → Files → Primitive → Type 0
+IsOfDifference old new change = get old (path_of change) ≢ get new (path_of change)
 
 -- a tree has a file of too many lines
 pub record HasLongFile (files : Files) : Type 0 where

@@ -1,13 +1,20 @@
 //! Commits of git as changes of camp.
 #![tactic(auto)]
 
+mod commit_trees;
+mod differences;
 mod edits;
+mod entry_changes;
 mod file_changes;
 mod parts;
 #[cfg(test)]
 mod tests;
+mod touched;
 mod tree_changes;
 
+pub use commit_trees::{ChangedTree, EntryFault, tree_after};
+pub use differences::differing_paths;
 pub use edits::ChangeFault;
+pub use entry_changes::EntryChange;
 pub use parts::{into_parts, part_name};
 pub use tree_changes::changes_between;

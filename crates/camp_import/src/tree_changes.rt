@@ -2,7 +2,7 @@
 
 ghost use Rattle.std.specs.Prelude.{IfOk};
 ghost use Rattle.std.specs.List.{AllByRecursion};
-ghost use Rattle.camp_import.specs.TreeChanges.{DifferWithin, GivesChanges, HasShortSides};
+ghost use Rattle.camp_import.specs.TreeChanges.{DifferWithin, GivesChanges, HasShortSides, IsOfDifference};
 
 use crate::edits::ChangeFault;
 use crate::file_changes::append_file_changes;
@@ -22,6 +22,8 @@ pub fn changes_between(
     requires within { DifferWithin paths.now old.now new.now }
     ensures exact { GivesChanges old.now new.now result }
     ensures short { IfOk result (λ changes. AllByRecursion HasShortSides changes.items) }
+    // A file that is the same in both trees, or in neither, has no change.
+    ensures needed { IfOk result (λ changes. AllByRecursion (IsOfDifference old.now new.now) changes.items) }
 {
     let mut changes = Vec::new(alloc);
     'paths: for entry in paths.iter() {

@@ -1,10 +1,11 @@
 -- Lists of changes that grow by the changes of one file.
-use Rattle.std.specs.Prelude.{◌≡◌, ℕ, ◌+◌, ◌-◌, ◌<◌, ◌≤◌, ◌⊎◌, List, ◌++◌, length, Option, Some, None, Result, Ok, Err}
+use Rattle.std.specs.Prelude.{◌≡◌, ◌≢◌, ℕ, ◌+◌, ◌-◌, ◌<◌, ◌≤◌, ◌⊎◌, List, ◌++◌, length, Option, Some, None, Result, Ok, Err}
 use Rattle.std.specs.FinMap.{get}
 use Rattle.std.specs.List.{AllByRecursion}
 use Rattle.camp_base.specs.Trees.{Files, Lines}
 use Rattle.camp_diff.specs.EditScripts.{AppliesHunk, lines_between}
 use Rattle.camp_diff.specs.declared.hunks.DiffHunk.{DiffHunk}
+use Rattle.camp_prim.specs.Commuting.{path_of}
 use Rattle.camp_prim.specs.Hunks.{hunk_of}
 use Rattle.camp_prim.specs.declared.primitives.Primitive.{Primitive}
 use Rattle.camp_prim.specs.declared.primitives.Primitive.TheVariants.{Hunk}
@@ -23,12 +24,17 @@ pub record LeadToFile (path : List ℕ) (lines : Option Lines) (changes : List P
   pub lead : LeadThrough changes old after
   pub sets : PutsLines path lines old after
 
+-- a change is of a path whose file becomes another one
+abbrev pub IsOfChangedFile : List ℕ → (old new : Option Lines) → Primitive → Type 0
+IsOfChangedFile path old new change = (path_of change ≡ path) × (old ≢ new)
+
 -- a list grows by changes that lead from each tree with these lines at a path to one with those
 pub record GrowsByFile (path : List ℕ) (old new : Option Lines) (before after : List Primitive) : Type 0 where
   pub more : List Primitive
   pub grows : after ≡ before ++ more
   pub changes : (files : Files) → get files path ≡ old → LeadToFile path new more files
   pub short : AllByRecursion HasShortSides more
+  pub needed : AllByRecursion (IsOfChangedFile path old new) more
 
 -- the primitive of a hunk of an edit script
 abbrev pub primitive_of : List ℕ → (old new : Lines) → DiffHunk → Primitive
@@ -52,6 +58,7 @@ pub record GrowsByHunk (path : List ℕ) (old new : Lines) (hunk : DiffHunk) (be
   pub grows : after ≡ before ++ more
   pub changes : (file later : Lines) → AppliesHunk old new hunk file later → (files : Files) → get files path ≡ Some file → LeadToFile path (Some later) more files
   pub short : AllByRecursion HasShortSides more
+  pub own : AllByRecursion (λ change. path_of change ≡ path) more
 
 -- the sides of a hunk are not too long
 pub record IsShort (hunk : DiffHunk) : Type 0 where

@@ -36,4 +36,5 @@ pub returns : goal.returns
 returns c = record {
   exact = leads_there c.args.old.now c.args.new.now c.paths.entry-iterator c.paths.changes.items c.in-None.ensures.steps.0 c.paths.invariant;
   short = c.paths.invariant.short;
+  needed = c.paths.invariant.needed;
 }
