@@ -108,7 +108,7 @@ module _ {State Call Reply : Type 0} (object : Sequential State Call Reply) wher
 
   pub told_of-are : IsLawfulObject object → (base : ℕ) (old : List (ℕ × Call)) (seat : ℕ) (requests : List (Request Call)) (replies : List Reply) (new : List (ℕ × Call)) (decided : AreDecided object old seat (calls_asked requests) replies new)
       → IsLegal object old → length new < 2 ^ 64 → base ≤ length old → AllByRecursion (λ request. request.at_least ≤ base) requests
-      → AreAnsweredFrom object (λ _. ⊥) seat old (told_of old seat requests replies new decided) new
+      → AreAnsweredFrom object (λ _ _. ⊥) seat old (told_of old seat requests replies new decided) new
   unfolding told_of
   told_of-are lawful base old seat [] [] new decided legal room within ready =
       let P : List (ℕ × Call) → Type 0 = λ list. IsBeginning old list × (own seat list ≡ own seat old) in subst P (sym decided) (begins_self old, refl)
@@ -128,12 +128,12 @@ module _ {State Call Reply : Type 0} (object : Sequential State Call Reply) wher
       )
 
   -- answers after answers
-  pub told-append : (may : NoReply → Type 0) (seat : ℕ) (one : List (ℕ × Call)) (told : List (AnsweredRequest Call Reply)) (two : List (ℕ × Call)) (more : List (AnsweredRequest Call Reply)) (three : List (ℕ × Call))
+  pub told-append : (may : Request Call → NoReply → Type 0) (seat : ℕ) (one : List (ℕ × Call)) (told : List (AnsweredRequest Call Reply)) (two : List (ℕ × Call)) (more : List (AnsweredRequest Call Reply)) (three : List (ℕ × Call))
       → IsLegal object two → AreAnsweredFrom object may seat one told two → AreAnsweredFrom object may seat two more three → AreAnsweredFrom object may seat one (told ++ more) three
   told-append may seat one [] two [] three legal first second = (begins_through first.0 second.0, second.1 ∙ first.1)
   told-append may seat one [] two (next ∷ more) three legal first second = (told_since may seat one two next first.0 first.1 second.0, second.1)
     where
-      told_since : (may : NoReply → Type 0) (seat : ℕ) (one two : List (ℕ × Call)) (next : AnsweredRequest Call Reply) → IsBeginning one two → own seat two ≡ own seat one → IsAnsweredAt object may seat two next → IsAnsweredAt object may seat one next
+      told_since : (may : Request Call → NoReply → Type 0) (seat : ℕ) (one two : List (ℕ × Call)) (next : AnsweredRequest Call Reply) → IsBeginning one two → own seat two ≡ own seat one → IsAnsweredAt object may seat two next → IsAnsweredAt object may seat one next
       told_since may seat one two next begins stays told = record {
         asks = ask_since object (member_caller seat) next.request.call next.history one two refl begins stays (as_answer next.answer) told.asks;
         at_least = told.at_least;
@@ -142,7 +142,7 @@ module _ {State Call Reply : Type 0} (object : Sequential State Call Reply) wher
   told-append may seat one (next ∷ told) two more three legal first second = (first.0, told-append may seat next.history told two more three legal first.1 second)
 
   -- the calls of a seat in the history are those that were accepted, each once
-  pub told_accepted : (may : NoReply → Type 0) (seat : ℕ) (seen : List (ℕ × Call)) (told : List (AnsweredRequest Call Reply)) (now : List (ℕ × Call)) → AreAnsweredFrom object may seat seen told now → own seat now ≡ own seat seen ++ accepted_in object told
+  pub told_accepted : (may : Request Call → NoReply → Type 0) (seat : ℕ) (seen : List (ℕ × Call)) (told : List (AnsweredRequest Call Reply)) (now : List (ℕ × Call)) → AreAnsweredFrom object may seat seen told now → own seat now ≡ own seat seen ++ accepted_in object told
   told_accepted may seat seen [] now are = are.1 ∙ sym (append-nil (own seat seen))
   told_accepted may seat seen (one ∷ more) now are =
       told_accepted may seat one.history more now are.1
@@ -222,7 +222,7 @@ module _ {State Call Reply : Type 0} (object : Sequential State Call Reply) (old
   finds_fault found (OutOfOrder next) at is stops = absurd (is.1 at)
   finds_fault found (Foreign where_it_is) at is stops = (is.0, is.1, stops, inr (inl is.2))
 
-  goes_same : new.seat ≡ old.seat → new.reading ≡ old.reading → new.answers ≡ old.answers → new.waiting ≡ old.waiting → (may : NoReply → Type 0) → MemberAdvances object may old new
+  goes_same : new.seat ≡ old.seat → new.reading ≡ old.reading → new.answers ≡ old.answers → new.waiting ≡ old.waiting → (may : Request Call → NoReply → Type 0) → MemberAdvances object may old new
   goes_same seat reading answers waiting may = record {
     told = [];
     seat = seat;
@@ -234,11 +234,11 @@ module _ {State Call Reply : Type 0} (object : Sequential State Call Reply) (old
         subst P (sym reading) (begins_self old.reading.history, refl);
   }
 
-  pub goes_unchanged : new ≡ old → (may : NoReply → Type 0) → MemberAdvances object may old new
+  pub goes_unchanged : new ≡ old → (may : Request Call → NoReply → Type 0) → MemberAdvances object may old new
   goes_unchanged same may = goes_same (ap (λ (m : Membership State Call Reply). m.seat) same) (ap (λ (m : Membership State Call Reply). m.reading) same) (ap (λ (m : Membership State Call Reply). m.answers) same) (ap (λ (m : Membership State Call Reply). m.waiting) same) may
 
   -- an entry of others, or one that was read before
-  goes_other : (entry : Tagged Call) (replies : List Reply) → ReadsEntry object old.reading entry replies new.reading → new.seat ≡ old.seat → FindsOther object old entry new → MemberAdvances object (λ _. ⊥) old new
+  goes_other : (entry : Tagged Call) (replies : List Reply) → ReadsEntry object old.reading entry replies new.reading → new.seat ≡ old.seat → FindsOther object old entry new → MemberAdvances object (λ _ _. ⊥) old new
   goes_other entry replies reads seat found = record {
     told = [];
     seat = seat;
@@ -265,9 +265,9 @@ module _ {State Call Reply : Type 0} (object : Sequential State Call Reply) (old
 
   -- the entry of the member itself
   goes_own : IsLawfulObject object → IsLegal object old.reading.history → length new.reading.history < 2 ^ 64 → old.sent ≤ length old.waiting → (0 < old.sent → FitsEntry object old.reading.history (take old.sent old.waiting))
-      → (entry : Tagged Call) (replies : List Reply) → ReadsEntry object old.reading entry replies new.reading → new.seat ≡ old.seat → FindsOwn object old entry replies new → MemberAdvances object (λ _. ⊥) old new
+      → (entry : Tagged Call) (replies : List Reply) → ReadsEntry object old.reading entry replies new.reading → new.seat ≡ old.seat → FindsOwn object old entry replies new → MemberAdvances object (λ _ _. ⊥) old new
   goes_own lawful legal room within batch entry replies reads seat found =
-      elim reads.effect as (λ _. MemberAdvances object (λ _. ⊥) old new) [
+      elim reads.effect as (λ _. MemberAdvances object (λ _ _. ⊥) old new) [
         | inl effect ↦ goes_new effect
         | inr effect ↦ (
             let number = found.own.1 in
@@ -277,7 +277,7 @@ module _ {State Call Reply : Type 0} (object : Sequential State Call Reply) (old
             )
       ]
     where
-      goes_new : ReadsNew object old.reading entry replies new.reading → MemberAdvances object (λ _. ⊥) old new
+      goes_new : ReadsNew object old.reading entry replies new.reading → MemberAdvances object (λ _ _. ⊥) old new
       goes_new effect =
           let T : ℕ × List Call → Type 0 = λ t. AreDecided object old.reading.history t.0 t.1 replies new.reading.history in
           let decided : AreDecided object old.reading.history old.seat (calls_asked (take old.sent old.waiting)) replies new.reading.history = subst T (λ i. (found.own.0 i, found.calls i)) effect.decided in
@@ -305,16 +305,16 @@ module _ {State Call Reply : Type 0} (object : Sequential State Call Reply) (old
           }
 
   pub finds_goes : IsLawfulObject object → IsLegal object old.reading.history → length new.reading.history < 2 ^ 64 → old.sent ≤ length old.waiting → (0 < old.sent → FitsEntry object old.reading.history (take old.sent old.waiting))
-      → (found : Option (Tagged Call)) (result : Result (Unit {0}) ReadFault) → FindsAt object old index found result new → MemberAdvances object (λ _. ⊥) old new
-  finds_goes lawful legal room within batch found (Ok done) (inl before) = goes_unchanged before.1 (λ _. ⊥)
+      → (found : Option (Tagged Call)) (result : Result (Unit {0}) ReadFault) → FindsAt object old index found result new → MemberAdvances object (λ _ _. ⊥) old new
+  finds_goes lawful legal room within batch found (Ok done) (inl before) = goes_unchanged before.1 (λ _ _. ⊥)
   finds_goes lawful legal room within batch None (Ok done) (inr finds) = let none = finds.3 in cc
   finds_goes lawful legal room within batch (Some entry) (Ok done) (inr finds) =
-      elim finds.2.effect as (λ _. MemberAdvances object (λ _. ⊥) old new) [
+      elim finds.2.effect as (λ _. MemberAdvances object (λ _ _. ⊥) old new) [
         | inl own ↦ goes_own lawful legal room within batch entry finds.2.replies finds.2.reads finds.2.seat own
         | inr other ↦ goes_other entry finds.2.replies finds.2.reads finds.2.seat other
       ]
-  finds_goes lawful legal room within batch found (Err Memory) finds = goes_unchanged finds (λ _. ⊥)
-  finds_goes lawful legal room within batch found (Err (OutOfOrder next)) finds = goes_unchanged finds.2 (λ _. ⊥)
+  finds_goes lawful legal room within batch found (Err Memory) finds = goes_unchanged finds (λ _ _. ⊥)
+  finds_goes lawful legal room within batch found (Err (OutOfOrder next)) finds = goes_unchanged finds.2 (λ _ _. ⊥)
   finds_goes lawful legal room within batch found (Err (Foreign at)) finds =
       goes_same (ap (λ (m : Membership State Call Reply). m.seat) finds.2) (ap (λ (m : Membership State Call Reply). m.reading) finds.2) (ap (λ (m : Membership State Call Reply). m.answers) finds.2)
-      (ap (λ (m : Membership State Call Reply). m.waiting) finds.2) (λ _. ⊥)
+      (ap (λ (m : Membership State Call Reply). m.waiting) finds.2) (λ _ _. ⊥)

@@ -9,6 +9,7 @@ use Rattle.camp_member.specs.Readings.{Reading, IsReadingOf, ReadsEntry}
 use Rattle.camp_member.specs.Telling.{AreAnsweredFrom, MemberAdvances, AnsweredRequest, accepted_in}
 use Rattle.camp_member.specs.Wanting.{FindsAt, IsStopped}
 use Rattle.camp_member.specs.declared.requests.NoReply.{NoReply}
+use Rattle.camp_member.specs.declared.requests.Request.{Request}
 
 -- the entries of a seat that count have the numbers 1, 2, .. in order, so no tag counts twice
 abbrev pub EachTagCountsOnce : Type 0 → Type 0
@@ -17,8 +18,8 @@ EachTagCountsOnce Call =
     → slice_get (of_seat seat (counted_entries log)) index ≡ Some entry → entry.number ≡ index + 1
 
 -- there is no reply, for any reason
-abbrev pub AnyReason : NoReply → Type 0
-AnyReason why = Unit {0}
+abbrev pub AnyReason : {Call : Type 0} → Request Call → NoReply → Type 0
+AnyReason request why = Unit {0}
 
 module _ {State Call Reply : Type 0} (object : Sequential State Call Reply) where
   -- a reader that has read nothing is at the start of every log
@@ -64,9 +65,9 @@ module _ {State Call Reply : Type 0} (object : Sequential State Call Reply) wher
 
   -- an advance with fewer reasons for no reply is one with any reason
   pub record AdvancesAnyhow : Type 0 where
-    pub replies : (old new : Membership State Call Reply) → MemberAdvances object (λ _. ⊥) old new → MemberAdvances object AnyReason old new
-    pub stopped : (member old new : Membership State Call Reply) → MemberAdvances object (IsStopped member) old new → MemberAdvances object AnyReason old new
-    pub one_reason : (reason : NoReply) (old new : Membership State Call Reply) → MemberAdvances object (λ why. why ≡ reason) old new → MemberAdvances object AnyReason old new
+    pub replies : (old new : Membership State Call Reply) → MemberAdvances object (λ _ _. ⊥) old new → MemberAdvances object AnyReason old new
+    pub stopped : (member old new : Membership State Call Reply) → MemberAdvances object (IsStopped object member) old new → MemberAdvances object AnyReason old new
+    pub one_reason : (reason : NoReply) (old new : Membership State Call Reply) → MemberAdvances object (λ _ why. why ≡ reason) old new → MemberAdvances object AnyReason old new
 
   -- what a member has read of a log, with what it finds after it, is what it has read then
   abbrev pub FindsOn : Type 0

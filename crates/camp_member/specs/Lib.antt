@@ -4,6 +4,8 @@ pub mod Inside
 pub mod Laws
 pub mod Logs
 pub mod Members
+pub mod NoteLaws
+pub mod Notes
 pub mod Readings
 pub mod Telling
 pub mod Wanting

@@ -21,14 +21,14 @@ answers_in told = map (λ one. (one.request.id, one.answer)) told
 
 module _ {State Call Reply : Type 0} (object : Sequential State Call Reply) where
   -- a request of a seat is answered after this history: the answer says what `Ask` says; a reply holds at least as many
-  -- accepted calls as the request waits for, and without a reply there is such a reason
-  pub record IsAnsweredAt (may : NoReply → Type 0) (seat : ℕ) (seen : List (ℕ × Call)) (one : AnsweredRequest Call Reply) : Type 0 where
+  -- accepted calls as the request waits for, and without a reply there is such a reason for it
+  pub record IsAnsweredAt (may : Request Call → NoReply → Type 0) (seat : ℕ) (seen : List (ℕ × Call)) (one : AnsweredRequest Call Reply) : Type 0 where
     pub asks : Ask object (member_caller seat) seen one.request.call (as_answer one.answer) one.history
     pub at_least : IfOk one.answer (λ _. one.request.at_least ≤ length one.history)
-    pub why : IfErr one.answer may
+    pub why : IfErr one.answer (may one.request)
 
   -- requests of a seat are answered one after another, from one history to another; no other call of the seat comes in between
-  abbrev pub AreAnsweredFrom : (NoReply → Type 0) → ℕ → List (ℕ × Call) → List (AnsweredRequest Call Reply) → List (ℕ × Call) → Type 0
+  abbrev pub AreAnsweredFrom : (Request Call → NoReply → Type 0) → ℕ → List (ℕ × Call) → List (AnsweredRequest Call Reply) → List (ℕ × Call) → Type 0
   AreAnsweredFrom may seat seen [] now = IsBeginning seen now × (own seat now ≡ own seat seen)
   AreAnsweredFrom may seat seen (one ∷ more) now = IsAnsweredAt may seat seen one × AreAnsweredFrom may seat one.history more now
 
@@ -43,7 +43,7 @@ module _ {State Call Reply : Type 0} (object : Sequential State Call Reply) wher
   accepted_in (one ∷ more) = if is_done one.answer then one.request.call ∷ accepted_in more else accepted_in more
 
   -- a member advances: it answers the first of its requests in their order, each once
-  pub record MemberAdvances (may : NoReply → Type 0) (old new : Membership State Call Reply) : Type 0 where
+  pub record MemberAdvances (may : Request Call → NoReply → Type 0) (old new : Membership State Call Reply) : Type 0 where
     pub told : List (AnsweredRequest Call Reply)
     pub seat : new.seat ≡ old.seat
     pub first : new.reading.first ≡ old.reading.first

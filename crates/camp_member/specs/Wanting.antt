@@ -20,14 +20,16 @@ given answers waiting [] = (answers, waiting)
 given answers [] (reply ∷ replies) = (answers, [])
 given answers (request ∷ waiting) (reply ∷ replies) = given (answers ++ (request.id, Ok reply) ∷ []) waiting replies
 
--- only a member that has stopped gives no reply
-abbrev pub IsStopped : {State Call Reply : Type 0} → Membership State Call Reply → NoReply → Type 0
-IsStopped member why = (why ≡ Stopped) × (member.is_stopped ≡ true)
-
 module _ {State Call Reply : Type 0} (object : Sequential State Call Reply) where
   -- the request waits for more accepted calls
   abbrev pub IsWaiting : List (ℕ × Call) → Request Call → Type 0
   IsWaiting history request = length history < request.at_least
+
+  -- a member gives no reply only where it has stopped, and only to a request that waits for more accepted calls, or whose call
+  -- is accepted at what was read: so any question is answered at what was read
+  abbrev pub IsStopped : Membership State Call Reply → Request Call → NoReply → Type 0
+  IsStopped member request why =
+      (why ≡ Stopped) × (member.is_stopped ≡ true) × (IsWaiting member.reading.history request ⊎ IsAccepted object member.reading.history request.call)
 
   -- the answer to a request at what was read; none if it has to wait for more, or to be appended
   abbrev pub IsAnswerTo : Membership State Call Reply → Request Call → Option (Result Reply NoReply) → Type 0
@@ -35,8 +37,12 @@ module _ {State Call Reply : Type 0} (object : Sequential State Call Reply) wher
       (member.is_stopped ≡ false) × (IsWaiting member.reading.history request ⊎ IsAccepted object member.reading.history request.call)
   IsAnswerTo member request (Some (Ok reply)) =
       (request.at_least ≤ length member.reading.history) × IsAnswered object member.reading.history request.call reply
-  IsAnswerTo member request (Some (Err why)) =
-      IsStopped member why × (IsWaiting member.reading.history request ⊎ IsAccepted object member.reading.history request.call)
+  IsAnswerTo member request (Some (Err why)) = IsStopped member request why
+
+  -- a member without an entry under way can't answer its first request at what was read
+  abbrev pub IsAtRest : Membership State Call Reply → Type 0
+  IsAtRest member =
+      member.sent ≡ 0 → (request : Request Call) (rest : List (Request Call)) → member.waiting ≡ request ∷ rest → IsAnswerTo member request None
 
   -- requests that one entry may have: some, at most 256, that write and wait for no more than was read
   pub record FitsEntry (history : List (ℕ × Call)) (requests : List (Request Call)) : Type 0 where

@@ -22,7 +22,7 @@ impl<State: Object> Member<State> {
         found: &Option<Entry<State::Call>>,
     ) -> Result<(), ReadFault>
         ensures finds { FindsAt (begun State.object self.old.reading.first) self.old index found.now result self.new }
-        ensures goes { MemberAdvances (begun State.object self.old.reading.first) (λ _. ⊥) self.old self.new }
+        ensures goes { MemberAdvances (begun State.object self.old.reading.first) (λ _ _. ⊥) self.old self.new }
     {
         let _before = self.reader.position();
         let result = self.find(alloc, index, found);

@@ -7,6 +7,7 @@ mod faults;
 mod finding;
 mod laws;
 mod members;
+mod notes;
 mod numbers;
 mod readers;
 mod requests;
@@ -19,5 +20,6 @@ pub use laws::{
     readers_follow_the_log, readers_share_one_history,
 };
 pub use members::Member;
+pub use notes::{NotedCall, Noting};
 pub use readers::Reader;
 pub use requests::{NoReply, Request, Want};

@@ -1,5 +1,5 @@
 //! A member of a log: who asks over it, without IO.
-ghost use Rattle.std.specs.Prelude.{◌≡◌, ◌++◌, [], ◌∷◌, OnOk, OnErr, IfOk, MatchOption};
+ghost use Rattle.std.specs.Prelude.{◌≡◌, ◌≤◌, ◌++◌, [], ◌∷◌, length, OnOk, OnErr, IfOk, MatchOption};
 ghost use Rattle.camp_object.specs.Histories.{IsLegal, replay};
 ghost use Rattle.camp_object.specs.Objects.{IsFirst, begun};
 
@@ -45,7 +45,8 @@ impl<State: Object> Model for Member<State> {
 impl<State: Object> Member<State> {
     ghost use Rattle.camp_member.specs.Members.{new_member};
 
-    /// Makes a member of a seat that nobody else has. Its history begins with a first state.
+    /// Makes a member of a seat that nobody else has: where two have one seat and append an entry of the same
+    /// number with equal calls, each takes it for its own. Its history begins with a first state.
     pub fn new(alloc: Global, first: State, seat: u128) -> Member<State>
         requires { IsFirst State.object first }
         ensures exact { result ≡ new_member first seat }
@@ -73,6 +74,14 @@ impl<State: Object> Member<State> {
         ensures exact { result ≡ self.now.is_stopped }
     {
         self.is_stopped
+    }
+
+    /// Returns the requests that wait for an answer, in order; those of the entry under way come first.
+    pub fn waiting(&self) -> &[Request<State::Call>]
+        ensures exact { result.now ≡ self.now.waiting }
+        ensures within { self.now.sent ≤ length self.now.waiting }
+    {
+        &self.waiting
     }
 
     /// Queues a request after those that wait for an answer.

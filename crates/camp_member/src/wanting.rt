@@ -1,11 +1,11 @@
 //! What a member wants of its log.
-ghost use Rattle.std.specs.Prelude.{◌≡◌, ◌≢◌, ◌<◌, ◌≤◌, ◌+◌, ◌++◌, ◌∷◌, [], length, map, take, drop, true, None, Some, Err, if◌then◌else◌, OnErr, OnOk, IfOk, MatchOption};
+ghost use Rattle.std.specs.Prelude.{◌≡◌, ◌≢◌, ◌<◌, ◌≤◌, ◌+◌, ◌++◌, ◌∷◌, ◌==◌, [], length, map, take, drop, true, None, Some, Err, if◌then◌else◌, OnErr, OnOk, IfOk, MatchOption};
 ghost use Rattle.std.specs.Vec.{vec_capacity};
 ghost use Rattle.camp_object.specs.Objects.{begun};
 ghost use Rattle.camp_member.specs.Entries.{most_calls_of_entry, number_in};
 ghost use Rattle.camp_member.specs.Members.{calls_asked, under_way, without_reply};
 ghost use Rattle.camp_member.specs.Telling.{MemberAdvances};
-ghost use Rattle.camp_member.specs.Wanting.{AfterEnd, IsAnswerTo, FitsEntry, IsNeeded, IsStopped, WantsOfLog};
+ghost use Rattle.camp_member.specs.Wanting.{AfterEnd, IsAnswerTo, IsAtRest, FitsEntry, IsNeeded, IsStopped, WantsOfLog};
 ghost use Rattle.camp_member.specs.declared.requests.NoReply.TheVariants as no_reply;
 
 use crate::{Entry, MAX_CALLS, Member, NoReply, Request, Want};
@@ -39,16 +39,33 @@ impl<State: Object> Member<State> {
     ghost use Rattle.camp_member.specs.declared.wanting.Next.TheVariants as next;
     ghost use Rattle.camp_member.specs.declared.wanting.Rest.TheVariants as rest;
 
-    /// Answers the first requests that can be answered at what was read, and says what the member wants of the
-    /// log. An entry under way is wanted as it is until it is found or refused. If memory runs out, the entry
-    /// under way stays, and what was answered stays answered.
-    pub fn want(&mut self, alloc: Global) -> Result<Want<State::Call>, AllocError>
+    /// Answers the first requests that can be answered at what was read. If memory runs out, the entry under
+    /// way stays, and what was answered stays answered.
+    pub fn answer_ready(&mut self) -> Result<(), AllocError>
+        ensures rests { IfOk result (λ _. IsAtRest (begun State.object self.new.reading.first) self.new) }
+        ensures stays { 0 < self.old.sent → self.new ≡ self.old }
+        ensures reading { self.new.reading ≡ self.old.reading }
+        ensures is_stopped { self.new.is_stopped ≡ self.old.is_stopped }
+        ensures sent { self.new.sent ≡ self.old.sent }
+        ensures goes { MemberAdvances (begun State.object self.old.reading.first) (IsStopped (begun State.object self.old.reading.first) self.old) self.old self.new }
+    {
+        self.settle()?;
+        Ok(())
+    }
+
+    /// Answers the first requests that can be answered at what was read, as `answer_ready` does, and says what
+    /// the member wants of the log. A new entry gets at most `most` calls (one if that is 0), and at most 256.
+    /// An entry under way is wanted as it is until it is found or refused. If memory runs out, the entry under
+    /// way stays, and what was answered stays answered.
+    pub fn want(&mut self, alloc: Global, most: usize) -> Result<Want<State::Call>, AllocError>
+        ensures few { self.old.sent ≡ 0 → self.new.sent ≤ (if most == 0 then 1 else most) }
+        ensures rests { IsAtRest (begun State.object self.old.reading.first) self.old → self.new.waiting ≡ self.old.waiting }
         ensures wants { IfOk result (λ want. WantsOfLog State.object want self.new) }
         ensures needed { IfOk result (λ want. self.old.sent ≡ 0 → IsNeeded (begun State.object self.new.reading.first) want self.new) }
         ensures stays { 0 < self.old.sent → self.new ≡ self.old }
         ensures reading { self.new.reading ≡ self.old.reading }
         ensures is_stopped { self.new.is_stopped ≡ self.old.is_stopped }
-        ensures goes { MemberAdvances (begun State.object self.old.reading.first) (IsStopped self.old) self.old self.new }
+        ensures goes { MemberAdvances (begun State.object self.old.reading.first) (IsStopped (begun State.object self.old.reading.first) self.old) self.old self.new }
     {
         match self.settle()? {
             Rest::Nothing => Ok(Want::Nothing),
@@ -56,7 +73,7 @@ impl<State: Object> Member<State> {
                 from: self.reader.index(),
             }),
             Rest::Sends => {
-                self.sent = self.batch();
+                self.sent = self.batch(at_least_one(most));
                 self.append(alloc)
             }
             Rest::UnderWay => self.append(alloc),
@@ -66,11 +83,12 @@ impl<State: Object> Member<State> {
     // Answers the first requests that can be answered at what was read.
     fn settle(&mut self) -> Result<Rest, AllocError>
         ensures rest { IfOk result (IsRest (begun State.object self.new.reading.first) self.new) }
+        ensures rests { IsAtRest (begun State.object self.old.reading.first) self.old → self.new ≡ self.old }
         ensures stays { 0 < self.old.sent → self.new ≡ self.old }
         ensures reading { self.new.reading ≡ self.old.reading }
         ensures is_stopped { self.new.is_stopped ≡ self.old.is_stopped }
         ensures sent { self.new.sent ≡ self.old.sent }
-        ensures goes { MemberAdvances (begun State.object self.old.reading.first) (IsStopped self.old) self.old self.new }
+        ensures goes { MemberAdvances (begun State.object self.old.reading.first) (IsStopped (begun State.object self.old.reading.first) self.old) self.old self.new }
     {
         let _position = self.reader.position();
         for _ in 0..u64::MAX {
@@ -140,13 +158,15 @@ impl<State: Object> Member<State> {
     }
 
     // Returns how many of the first requests go into an entry.
-    fn batch(&self) -> usize
-        requires { IsRest (begun State.object self.now.reading.first) self.now rest.Sends }
+    fn batch(&self, limit: usize) -> usize
+        requires some { 0 < limit }
+        requires sends { IsRest (begun State.object self.now.reading.first) self.now rest.Sends }
         ensures within { result ≤ length self.now.waiting }
+        ensures few { result ≤ limit }
         ensures is { FitsEntry State.object self.now.reading.history (take result self.now.waiting) }
     {
         let position = self.reader.position();
-        let most = at_most_an_entry(self.waiting.len());
+        let most = at_most_an_entry(self.waiting.len(), limit);
         for at in 1..most {
             let request = &self.waiting[at];
             if !State::is_writing(&request.call) || request.at_least > position {
@@ -175,7 +195,7 @@ impl<State: Object> Member<State> {
     pub fn refused(&mut self) -> Result<(), AllocError>
         ensures refused { OnOk result (self.new ≡ without_reply no_reply.Refused self.old) }
         ensures stays { OnErr result (self.new ≡ self.old) }
-        ensures goes { MemberAdvances (begun State.object self.old.reading.first) (λ why. why ≡ no_reply.Refused) self.old self.new }
+        ensures goes { MemberAdvances (begun State.object self.old.reading.first) (λ _ why. why ≡ no_reply.Refused) self.old self.new }
     {
         let _position = self.reader.position();
         let count = self.sent;
@@ -187,7 +207,7 @@ impl<State: Object> Member<State> {
     pub fn ended(&mut self, index: usize) -> Result<(), AllocError>
         ensures ends { OnOk result (AfterEnd (begun State.object self.old.reading.first) self.old index self.new) }
         ensures stays { OnErr result (self.new ≡ self.old) }
-        ensures goes { MemberAdvances (begun State.object self.old.reading.first) (λ why. why ≡ no_reply.Ended) self.old self.new }
+        ensures goes { MemberAdvances (begun State.object self.old.reading.first) (λ _ why. why ≡ no_reply.Ended) self.old self.new }
     {
         let _position = self.reader.position();
         if !self.waits_at_end(index) {
@@ -232,13 +252,23 @@ fn first_of<Call: Drop>(waiting: &[Request<Call>]) -> Option<&Request<Call>>
     waiting.first()
 }
 
-// Returns how many of these requests an entry may have at most.
-fn at_most_an_entry(count: usize) -> usize
+// Returns how many calls an entry may get: one if none were allowed.
+fn at_least_one(most: usize) -> usize
+    ensures exact { result ≡ (if most == 0 then 1 else most) }
+    ensures some { 0 < result }
+{
+    if most == 0 { 1 } else { most }
+}
+
+// Returns how many of `count` requests go into one entry: at most `limit`, and at most 256.
+fn at_most_an_entry(count: usize, limit: usize) -> usize
     ensures within { result ≤ count }
     ensures few { result ≤ most_calls_of_entry }
-    ensures some { 0 < count → 0 < result }
+    ensures limited { result ≤ limit }
+    ensures some { 0 < count → 0 < limit → 0 < result }
 {
-    if count < MAX_CALLS { count } else { MAX_CALLS }
+    let most = if limit < MAX_CALLS { limit } else { MAX_CALLS };
+    if count < most { count } else { most }
 }
 
 // Copies the calls of requests.

@@ -37,8 +37,8 @@ returns-clause-is g c =
     let few = c.at_most_an_entry-most.ensures.few in
     let size = c.len.ensures in
     let items = c.self.inside.waiting.ok.0 in
-    let some : 0 < length waiting = let first = ap length c.requires.2.2 in subst Some (sym c.self.view_is) (omega (arith, first)) in
-    let one : 0 < most = c.at_most_an_entry-most.ensures.some (omega (arith, some, size, items)) in
+    let some : 0 < length waiting = let first = ap length c.requires.sends.2.2 in subst Some (sym c.self.view_is) (omega (arith, first)) in
+    let one : 0 < most = c.at_most_an_entry-most.ensures.some (omega (arith, some, size, items)) c.requires.some in
     let end : at ≡ most = omega (arith, test, one) in
     let long = length-take-le at waiting (omega (arith, end, within, size, items)) in
     subst P c.self.view_is (subst Q end (record {

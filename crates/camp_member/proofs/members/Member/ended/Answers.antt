@@ -14,5 +14,5 @@ returns-clause-ends g c =
 pub returns-clause-goes : goal.returns-clause-goes
 returns-clause-goes g c =
     let Legal : Membership g.row.State.Denot g.row.State-Call.Denot g.row.State-Reply.Denot → Type 0 = λ m. IsLegal (begun g.State.Object.object m.reading.first) m.reading.history in
-    refused_or_not (begun g.State.Object.object c.args.self.now.reading.first) (λ why. why ≡ Ended) Ended refl c.args.self.now c.give_up_first.new.self 1 c.give_up_first.result
+    refused_or_not (begun g.State.Object.object c.args.self.now.reading.first) (λ _ why. why ≡ Ended) Ended (λ _. refl) c.args.self.now c.give_up_first.new.self 1 c.give_up_first.result
     (subst Legal c.self.view_is c.position-position.ensures.legal) c.give_up_first.ensures.gives c.give_up_first.ensures.stays

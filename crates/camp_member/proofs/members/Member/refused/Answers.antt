@@ -9,5 +9,5 @@ use Rattle.camp_member.proofs.members.Member.refused.Goals as goal
 pub returns-clause-goes : goal.returns-clause-goes
 returns-clause-goes g c =
     let Legal : Membership g.row.State.Denot g.row.State-Call.Denot g.row.State-Reply.Denot → Type 0 = λ m. IsLegal (begun g.State.Object.object m.reading.first) m.reading.history in
-    refused_or_not (begun g.State.Object.object c.args.self.now.reading.first) (λ why. why ≡ Refused) Refused refl c.args.self.now c.give_up_first.new.self c.self.inside.sent c.give_up_first.result
+    refused_or_not (begun g.State.Object.object c.args.self.now.reading.first) (λ _ why. why ≡ Refused) Refused (λ _. refl) c.args.self.now c.give_up_first.new.self c.self.inside.sent c.give_up_first.result
     (subst Legal c.self.view_is c.position-position.ensures.legal) c.give_up_first.ensures.gives c.give_up_first.ensures.stays

@@ -5,8 +5,8 @@ use Rattle.camp_object.proofs.Replays.{begun_lawful}
 use Rattle.camp_member.specs.Inside.Settling.{AnswersFirst}
 use Rattle.camp_member.specs.Members.{Membership}
 use Rattle.camp_member.specs.Readings.{Reading}
-use Rattle.camp_member.specs.Wanting.{IsStopped}
-use Rattle.camp_member.proofs.Settling.{answers_goes, goes_through}
+use Rattle.camp_member.specs.Wanting.{IsAtRest, IsStopped}
+use Rattle.camp_member.proofs.Settling.{answers_goes, answers_no_rest, goes_through, stopped_since}
 use Rattle.camp_member.proofs.members.Member.settle.Goals as goal
 
 pub loop-preserved : goal.loop-preserved
@@ -26,10 +26,14 @@ loop-preserved g c =
     let legal = subst LegalNow (sym past.reading) (subst Legal c.self.view_is c.position-position.ensures.legal) in
     let lawful = begun_lawful object g.met.State.Object.lawful first (subst First c.self.view_is c.position-position.ensures.first) in
     record {
+      rests = λ rest. absurd (answers_no_rest (begun object first) old new (subst (λ (m : M). IsAtRest (begun object first) m) (sym (past.rests rest)) rest) step);
       stays = λ some. let none = step.none_sent in let same = ap (λ (m : M). m.sent) (past.stays some) in absurd (omega (arith, some, none, same));
       reading = step.reading ∙ past.reading;
       is_stopped = step.is_stopped ∙ past.is_stopped;
       sent = step.sent ∙ past.sent;
-      goes = goes_through (begun object first) (IsStopped start) start old new legal past.goes
-          (answers_goes (begun object first) lawful (IsStopped start) old new legal (λ why is. (is.0, sym past.is_stopped ∙ is.1)) step);
+      goes = goes_through (begun object first) (IsStopped (begun object first) start) start old new legal past.goes
+          (answers_goes (begun object first) lawful (IsStopped (begun object first) start) old new legal (stopped_since (begun object first) start old past.reading past.is_stopped) step);
     }
+
+pub returns-in_err-give_first-in-Answers-clause-rests : goal.returns-in_err-give_first-in-Answers-clause-rests
+returns-in_err-give_first-in-Answers-clause-rests g c = λ rest. c.in_err-give_first-in-Answers.ensures.stays ∙ c.loop.invariant.rests rest

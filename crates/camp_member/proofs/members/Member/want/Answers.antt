@@ -1,4 +1,4 @@
-use Rattle.std.proofs.Common.{◌≡◌, ◌<◌, sym, subst, arith}
+use Rattle.std.proofs.Common.{◌≡◌, ◌<◌, sym, ap, subst, ◌∙◌, arith}
 use Rattle.camp_object.specs.Objects.{begun}
 use Rattle.camp_member.specs.Inside.Settling.{IsRest}
 use Rattle.camp_member.specs.Members.{Membership}
@@ -26,3 +26,15 @@ returns-in-UnderWay-clause-needed g c =
     let same = c.settle.ensures.sent in
     let P : Want g.row.State-Call.Denot → Type 0 = λ want. c.args.self.now.sent ≡ 0 → IsNeeded object want c.settle.new.self in
     all_so object {P = P} (λ want none. absurd (omega (arith, some, same, none))) c.append-in-UnderWay.result
+
+pub returns-in_err-settle-clause-rests : goal.returns-in_err-settle-clause-rests
+returns-in_err-settle-clause-rests g c = λ rest. ap (λ (m : Membership g.row.State.Denot g.row.State-Call.Denot g.row.State-Reply.Denot). m.waiting) (c.settle.ensures.rests rest)
+
+pub returns-in-Nothing-clause-rests : goal.returns-in-Nothing-clause-rests
+returns-in-Nothing-clause-rests g c = λ rest. ap (λ (m : Membership g.row.State.Denot g.row.State-Call.Denot g.row.State-Reply.Denot). m.waiting) (c.settle.ensures.rests rest)
+
+pub returns-in-Waits-clause-rests : goal.returns-in-Waits-clause-rests
+returns-in-Waits-clause-rests g c = λ rest. ap (λ (m : Membership g.row.State.Denot g.row.State-Call.Denot g.row.State-Reply.Denot). m.waiting) (c.settle.ensures.rests rest)
+
+pub returns-in-Sends-clause-rests : goal.returns-in-Sends-clause-rests
+returns-in-Sends-clause-rests g c = λ rest. ap (λ (m : Membership g.row.State.Denot g.row.State-Call.Denot g.row.State-Reply.Denot). m.waiting) (c.self.view_is ∙ c.settle.ensures.rests rest)

@@ -1,0 +1,18 @@
+//! The texts of the entries of a log of repositories.
+#![tactic(auto)]
+
+mod bodies;
+mod calls;
+mod entries;
+mod faults;
+mod heads;
+mod notes;
+mod seats;
+#[cfg(test)]
+mod tests;
+mod titles;
+
+pub use calls::{noted_text, parse_noted_call};
+pub use entries::{MAX_BYTES, entry_text, parse_entry};
+pub use faults::EntryFault;
+pub use titles::{log_title_text, parse_log_title};

@@ -1,0 +1,5 @@
+pub mod FindLemmas
+pub mod FitLemmas
+pub mod KeepLemmas
+pub mod RoomLemmas
+pub mod WantLemmas

@@ -1,0 +1,3 @@
+pub mod Asking
+pub mod Inside
+pub mod Sharing

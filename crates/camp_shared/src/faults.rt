@@ -1,0 +1,46 @@
+//! Why a log was not opened, and why a text was not asked.
+ghost use Rattle.std.specs.Prelude.{◌≡◌};
+ghost use Rattle.camp_shared.specs.declared.faults.AskFault.TheVariants as asking;
+ghost use Rattle.camp_shared.specs.declared.faults.OpenFault.TheVariants as opening;
+
+use std::alloc::{AllocError, AllocFailed};
+use thiserror::Error;
+
+/// Why there is no member of a log.
+#[derive(Clone, Copy, PartialEq, Eq, Debug, Error)]
+pub enum OpenFault {
+    #[error("out of memory")]
+    Memory,
+    /// Its first entry is no title of a log of a repository.
+    #[error("no log of a repository")]
+    NoTitle,
+}
+
+/// Why a text was not asked. The member is then as it was.
+#[derive(Clone, Copy, PartialEq, Eq, Debug, Error)]
+pub enum AskFault {
+    #[error("out of memory")]
+    Memory,
+    /// It is not the canonical text of one call, after its note if it has one.
+    #[error("not one call in canonical form")]
+    NoCall,
+    /// It has more bytes than one entry has for calls.
+    #[error("a call of more than 1048516 bytes")]
+    TooLong,
+}
+
+impl From<AllocError> for OpenFault {
+    ghost from_gives = { λ _ result. result ≡ opening.Memory };
+
+    fn from(_error: AllocError) -> OpenFault {
+        OpenFault::Memory
+    }
+}
+
+impl From<AllocError> for AskFault {
+    ghost from_gives = { λ _ result. result ≡ asking.Memory };
+
+    fn from(_error: AllocError) -> AskFault {
+        AskFault::Memory
+    }
+}
