@@ -16,7 +16,7 @@ content_of lines = flat_map line lines
 abbrev pub HasFilesOf : GitTree → Files → Type 0
 HasFilesOf git files = (path : List ℕ) → git path ≡ option_map content_of (get files path)
 
--- the branch of git that a branch becomes
+-- the name in git of the branch that is exported
 abbrev pub reference_of : List ℕ → List ℕ
 reference_of branch = codes "refs/heads/" ++ branch
 
@@ -68,8 +68,8 @@ pub record FitsGit (upto : List Catch) : Type 0 where
   pub leads : LeadsTo upto files
   pub held : CanHold files
 
--- of the patches of a branch after its first catches, this is the first up to which git can't hold the tree of the
--- branch, because of the file of this path
+-- of the patches after the first `count` catches of a branch, the one of this name is the first after which git can't
+-- hold the tree of the branch, because of the file at this path
 abbrev pub IsFirstBad : List Catch → ℕ → List Patch → List ℕ → List ℕ → Type 0
 IsFirstBad branch count [] name path = ⊥
 IsFirstBad branch count (patch ∷ patches) name path =

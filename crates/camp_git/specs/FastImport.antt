@@ -56,7 +56,7 @@ abbrev pub from_text : Option ℕ → List ℕ
 from_text None = []
 from_text (Some mark) = line (codes "from :" ++ decimal mark)
 
--- a commit as a command, up to its changes: by camp, at the beginning of time
+-- the command of a commit without its changes; the committer is camp, at the beginning of 1970
 abbrev pub head_text : Commit → List ℕ
 head_text commit =
     line (codes "commit " ++ commit.reference) ++ line (codes "mark :" ++ decimal commit.mark)

@@ -7,11 +7,11 @@ use Rattle.camp_base.specs.Bytes.{path_parts}
 use Rattle.camp_base.specs.Trees.{Files}
 use Rattle.camp_git.specs.FastImport.{is_inside}
 
--- a part of a path is `.git`, in capitals or not
+-- a component of a path is `.git`, in capitals or not
 abbrev pub is_git_part : List ℕ → Bool
 is_git_part part = bytes_eq (map to_ascii_lowercase part) (codes ".git")
 
--- a path has such a part
+-- a path has a component `.git`
 abbrev pub has_git_part : List ℕ → Bool
 has_git_part path = list_any is_git_part (path_parts path)
 

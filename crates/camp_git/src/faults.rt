@@ -1,3 +1,4 @@
+//! Why a branch was not exported.
 ghost use Rattle.std.specs.Prelude.{◌≡◌};
 ghost use Rattle.camp_git.specs.declared.faults.Unexported.TheVariants as fault;
 

@@ -1,4 +1,4 @@
-//! Files that git can't hold: those with a part `.git`, and those that are folders of others too.
+//! Files that git can't hold: a component of the path is `.git`, or the path is also a folder of another file.
 ghost use Rattle.std.specs.Prelude.{◌≡◌, ◌↔◌, ◌<◌, ℕ, List, IsTrue, true, false, IfOk, MatchOption, Some, length, slice_get};
 ghost use Rattle.std.specs.Ordering.{nat_cmp};
 ghost use Rattle.std.specs.Cmp.Lexicographic.{slice_cmp};
@@ -14,8 +14,8 @@ use camp_base::{Path, Tree};
 use camp_share::SharedMap;
 use std::alloc::{AllocError, Global};
 
-/// Returns a file of a tree that git can't hold, if the tree was made from one that it holds by changes at
-/// these paths.
+/// Returns a file of the new tree that git can't hold, or `None`. The new tree was made from the old one by changes at
+/// these paths, and git can hold the old one, so only these paths are checked.
 pub(crate) fn first_unheld(
     alloc: Global,
     paths: &SharedMap<Path, ()>,

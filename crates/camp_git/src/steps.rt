@@ -19,7 +19,8 @@ pub(crate) struct Step {
     pub(crate) paths: SharedMap<Path, ()>,
 }
 
-/// Returns the index after the catches from `from` on that are of the patch before it.
+/// Returns the index at which the next patch begins: `from` plus the number of catches from there on that still belong to
+/// the patch before `from`.
 pub(crate) fn patch_end(catches: &SharedList<Shared<Catch>>, from: usize) -> usize
     requires { from ≤ length catches.now }
     ensures exact { result ≡ from + led_by (keys_of (drop from catches.now)) }

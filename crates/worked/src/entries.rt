@@ -35,7 +35,7 @@ const PLAYS: &[(&str, Play)] = &[
     ("seen", Play::Seen),
 ];
 
-/// Parses what a line asks for if it does not belong to a table of values.
+/// Parses the first word of a line that is not of a table of values: a command, a run, and so on.
 pub(crate) fn play_of(line: &[u8]) -> Option<Play> {
     if matches!(line.first(), Some(b'0'..=b'9')) {
         return Some(Play::Command);

@@ -84,8 +84,8 @@ fn lines_of(alloc: Global, input: &[u8]) -> Result<Vec<&[u8]>, AllocError> {
     Ok(lines)
 }
 
-/// Prints the lines of an entry, followed by its result. An entry that ran out of memory is tried again,
-/// except for what was asked of a book or of a head by then.
+/// Prints the lines of an entry, followed by its result. An entry that ran out of memory is tried again, without the
+/// calls of a book or of a head that were executed already.
 fn entry_text<R: Threads + Wait + Sync>(
     rt: &R,
     table: &mut Table,

@@ -43,8 +43,7 @@ pub(crate) fn allocate_before(rt: &impl Env, alloc: Global) -> io::Result<()> {
     }
 }
 
-/// Prints after the lines how many allocations are made before one is refused, at most as many as the first
-/// argument says, if there is no second one.
+/// Prints `room N` if the program has one argument: how many more allocations succeed, up to that argument.
 pub(crate) fn tell_room<W: Write>(rt: &impl Env, alloc: Global, out: &mut W) -> io::Result<()> {
     match (number_at(rt, 1)?, number_at(rt, 2)?) {
         (Some(most), None) => writeln!(out, "room {}", room(alloc, most)),
@@ -81,8 +80,8 @@ fn allocate_each(alloc: Global, count: u32) -> Result<(), AllocError> {
     Ok(())
 }
 
-/// Makes one allocation after the last line. If this one is refused, the refused number is past the table:
-/// all allocations of the table were tried.
+/// Makes one allocation after the last line. If this one is refused, the test has refused each allocation of the table
+/// already.
 pub(crate) fn allocate(alloc: Global) -> Result<(), AllocError> {
     Box::new(alloc, 0)?;
     Ok(())

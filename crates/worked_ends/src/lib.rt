@@ -16,9 +16,8 @@ pub struct Sizes {
     pub times: u32,
 }
 
-/// A limited number of calls of a reader or a writer, each of which moves up to `size` bytes and comes after
-/// a number of interrupted ones; then it fails. A flush is one of these calls; it moves nothing, and is not
-/// interrupted.
+/// The calls of a reader or a writer: `served` succeed, each of which moves up to `size` bytes after `times` interrupted
+/// calls; then all fail with `error`. A flush counts as a call; it moves nothing, and is not interrupted.
 #[derive(Clone, Copy)]
 struct Calls {
     served: u32,

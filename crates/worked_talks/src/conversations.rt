@@ -112,7 +112,8 @@ fn print_fault<W: Write>(fault: TalkFault, count: usize, out: &mut W) -> io::Res
     }
 }
 
-/// The fault of the conversation in a fault of its frames; a table has whole frames.
+/// Returns the fault of the conversation that a fault of its frames contains. The frames of a table are whole, so it
+/// always contains one.
 fn without_frames(ended: Result<(), FrameFault>) -> Result<(), TalkFault> {
     match ended {
         Ok(()) => Ok(()),

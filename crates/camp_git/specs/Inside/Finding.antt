@@ -23,11 +23,11 @@ IsBeginning tree bytes =
 abbrev pub HasInside : Files → List ℕ → Type 0
 HasInside tree path = (other : List ℕ) × (contains_key tree other ≡ true) × (is_inside path other ≡ true)
 
--- a file is a folder of a path
+-- the path of a file is a folder of another path
 abbrev pub IsAround : Files → List ℕ → List ℕ → Type 0
 IsAround tree path file = (contains_key tree file ≡ true) × (is_inside file path ≡ true)
 
--- no file is
+-- no file is a folder of the path
 abbrev pub IsNoneAround : Files → List ℕ → Type 0
 IsNoneAround tree path = (file : List ℕ) → contains_key tree file ≡ true → is_inside file path ≡ false
 
@@ -37,7 +37,7 @@ pub record IsFree (tree : Files) (path : List ℕ) : Type 0 where
   pub empty : ¬ (HasInside tree path)
   pub alone : IsNoneAround tree path
 
--- the same for a path whose file is new
+-- a path is free in the new tree if its file is new there
 abbrev pub IsFreeIfNew : Files → Files → List ℕ → Type 0
 IsFreeIfNew old new path =
     contains_key old path ≡ false → contains_key new path ≡ true → IsFree new path

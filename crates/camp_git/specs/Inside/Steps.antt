@@ -7,7 +7,7 @@ use Rattle.camp_share.specs.Maps.{map_of}
 use Rattle.camp_base.specs.Trees.{Files}
 use Rattle.camp_prim.specs.declared.labels.Key.{Key}
 
--- the number of labels before the first whose place is 1
+-- the number of labels before the first one of place 1, which is where the next patch begins
 abbrev pub led_by : List Key → ℕ
 led_by [] = zero
 led_by (key ∷ keys) = if key.place == 1 then zero else suc (led_by keys)

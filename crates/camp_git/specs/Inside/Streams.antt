@@ -12,7 +12,7 @@ use Rattle.camp_git.specs.declared.commits.Place.{Place}
 use Rattle.camp_git.specs.declared.faults.Unexported.{Unexported}
 use Rattle.camp_git.specs.declared.faults.Unexported.TheVariants.{NoBranch, Unheld, Memory, Write}
 
--- a commit was written whose changes make one tree of another, which git can hold
+-- a commit was written whose changes lead from the old tree to the new one, and git can hold the new one
 abbrev pub AddsCommit : Place → Files → Files → List ℕ → List ℕ → Type 0
 AddsCommit place old new before after =
     (changes : List FileChange) × IsWritten before (commit_at place changes) after
@@ -27,7 +27,7 @@ EndsIn Good name tree (Err Memory) = Unit {0}
 EndsIn Good name tree (Err (NoBranch missing)) = ⊥
 EndsIn Good name tree (Err (Write error)) = ⊥
 
--- the stream of a branch, or the first patch up to which git can't hold its tree
+-- the stream of a branch, or the first patch whose tree git can't hold
 abbrev pub Streams : List ℕ → List Catch → Result (Vec ℕ Global) Unexported → Type 0
 Streams name branch (Ok text) = IsExport name branch text.items
 Streams name branch (Err (Unheld patch path)) = IsUnheld branch patch path

@@ -62,8 +62,8 @@ pub(crate) fn read_numbers(words: &[u8], numbers: &mut [u32]) -> Result<(), Play
 }
 
 impl<'a> Command<'a> {
-    /// Returns the call of the command. Each `%` of its first line stands for the number of this execution,
-    /// from 1; not in `pull-listed` and `obliterate-listed`.
+    /// Returns the call of the command. Replaces each `%` of its first line by `time`, the number of this execution from
+    /// 1, except in `pull-listed` and `obliterate-listed`.
     pub(crate) fn call(self, alloc: Global, time: u32) -> Result<Call, PlayFault> {
         if let Some(branches) = self.first.strip_prefix(b"pull-listed ") {
             return listless_pull(alloc, branches);

@@ -45,7 +45,7 @@ pub(crate) enum Kind {
     /// A label; each argument after it is one more.
     Labels,
     Named,
-    /// A primitive; or a catch, if it is written as one.
+    /// A catch if the text has the form of one, else a primitive.
     NamedOrCatch,
     List,
     Contexted,
@@ -56,8 +56,8 @@ pub(crate) enum Kind {
     Numbers,
 }
 
-/// Reads the arguments of a call, of these kinds. A missing one has an empty text, and further ones are
-/// skipped; but labels are all that are there, or none.
+/// Parses the arguments of a call, of these kinds. A missing argument is parsed from an empty text, and surplus ones are
+/// ignored; `Kind::Labels` takes all that are left, or none.
 pub(crate) fn read_values(
     table: &Table,
     kinds: &[Kind],

@@ -41,8 +41,8 @@ impl Nesting {
     }
 }
 
-/// Splits a text into arguments at commas outside brackets and quotes, each followed by a blank. After a
-/// comma without a blank the rest is skipped.
+/// Splits a text into arguments at commas outside brackets and quotes. A blank has to follow each comma; otherwise the
+/// rest of the text is ignored.
 pub(crate) fn split(alloc: Global, text: &[u8]) -> Result<Vec<&[u8]>, AllocError> {
     let mut parts = Vec::new(alloc);
     let mut rest = text;
