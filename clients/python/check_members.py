@@ -14,7 +14,7 @@ import threading
 import time
 
 from camp import Repository
-from camp.logs import Outcome, open_log
+from camp.logs import AppendOutcome, open_log
 from camp.shared import CALLS, NOT_READ, NOT_TAKEN, Member, Stopped, calls_of, turn, what_if
 
 NO_REPLY = (b"stopped\n", NOT_READ, NOT_TAKEN)
@@ -34,11 +34,11 @@ class Lossy:
         fate = self.chance.random()
         if fate < self.rate / 2:
             self.lost += 1
-            return Outcome.UNKNOWN
+            return AppendOutcome.UNKNOWN
         outcome = self.log.append(tag, text)
         if fate < self.rate:
             self.lost += 1
-            return Outcome.UNKNOWN
+            return AppendOutcome.UNKNOWN
         return outcome
 
 

@@ -76,7 +76,7 @@ def shown(value):
     if isinstance(value, dict):
         return ["{}={}".format(path, joined(lines)) for path, lines in value.items()] or ["-"]
     if isinstance(value, camp.Outcome):
-        return [*shown(value.number), *shown(value.conflicts), *shown(value.tree)]
+        return [*shown(value.number), *shown(value.conflicts), *shown(value.opened), *shown(value.resolved), *shown(value.tree)]
     if isinstance(value, camp.Shown):
         return [*value.catches, *shown(value.changes)]
     return shown_list(value)

@@ -221,6 +221,23 @@ class Errors(unittest.TestCase):
             self.assertRegex(said("import camp; camp.Repository()"), "ImportError: .*libcamp.so can't be loaded")
 
 
+class Pictures(unittest.TestCase):
+    def test_a_branch_is_drawn(self):
+        with two_branches() as repository:
+            repository.pull("other", "main")
+            repository.record("main", "alone", [Add("g")])
+            with repository.view() as view:
+                for of in (repository, view):
+                    whole, unresolved, part = of.picture("main"), of.picture("main", only_open=True), of.picture("main", ["alone"])
+                    self.assertIn("main: 4 patches, 1 conflict, 1 unresolved", whole)
+                    self.assertIn("english and german: unresolved conflict", whole)
+                    self.assertEqual(["alone" in it for it in (whole, unresolved, part)], [True, False, True])
+                    self.assertNotIn("german", part)
+                self.assertRaises(camp.NoBranch, view.picture, "none")
+                self.assertRaises(camp.NoPatch, view.picture, "main", ["none"])
+                self.assertRaises(TypeError, view.picture, "main", "alone")
+
+
 class Views(unittest.TestCase):
     def test_a_conflict_is_seen_and_resolved(self):
         with two_branches() as repository, repository.view() as before:

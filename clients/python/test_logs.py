@@ -7,8 +7,8 @@ import tempfile
 import threading
 import unittest
 
-from camp import Add, Edit, NoBranch, PatchExists
-from camp.logs import TITLE, Away, Damaged, Foreign, Outcome, RememberedLog, SqliteLog, open_log
+from camp import Add, Edit, NoBranch, PatchExists, TooLarge
+from camp.logs import TITLE, AppendOutcome, Away, Damaged, Foreign, RememberedLog, SqliteLog, open_log, title_with
 from camp.shared import Shared, Stopped
 
 
@@ -23,17 +23,44 @@ class Sqlite(unittest.TestCase):
         self.folder.cleanup()
 
     def test_a_tag_is_appended_once(self):
-        self.assertIs(self.log.append("s/1", b"one"), Outcome.APPENDED)
+        self.assertIs(self.log.append("s/1", b"one"), AppendOutcome.APPENDED)
         with contextlib.closing(SqliteLog(self.path)) as other:
-            self.assertIs(other.append("s/1", b"other"), Outcome.TAKEN)
+            self.assertIs(other.append("s/1", b"other"), AppendOutcome.TAKEN)
         self.assertEqual(self.log.read(0), [TITLE, b"one"])
         self.assertEqual(self.log.length(), 2)
+
+    def test_a_text_is_asked_and_its_calls_go_to_the_log(self):
+        with Shared(self.log) as shared, contextlib.closing(SqliteLog(self.path)) as log, Shared(log) as other:
+            shared.sync()
+            text = b"# first\n record  main start group\n\tadd f\n# a comment\nedit f 1\n+done\nend\n done \nnames main\nrecord main start add g\nwhy"
+            answer = shared.ask(text).split(b"\n")
+            self.assertEqual(answer[:4], [b"ok 1", b"names 1", b"start", b"refused 6 start"])
+            self.assertIn(b">record main start add g", answer)
+            self.assertEqual((other.sync(), other.file("main", "f")), (1, [b"done"]))
+            self.assertIn(b"record main start group\nadd f\nedit f 1\n+done\nend\ndone\n", self.log.read(1)[0])
+            self.assertEqual(shared.ask(b"pull main none\n"), b"refused 4 none\n")
+            self.assertEqual(self.log.length(), 2)
+            self.assertTrue(shared.settle())
+
+    def test_a_log_has_the_limits_of_its_title(self):
+        path = os.path.join(self.folder.name, "limits.db")
+        for title, branches in ((title_with(3, 2), 2), (title_with(9, 9), 2)):
+            with contextlib.closing(open_log("sqlite:" + path, title)) as log, Shared(log) as shared:
+                shared.sync()
+                if branches > len(shared.branches()):
+                    shared.branch("other", "main")
+                    shared.record("main", "start", [Add("f"), Add("g"), Add("h")])
+                self.assertRaises(TooLarge, shared.branch, "more", "main")
+                self.assertRaises(TooLarge, shared.record, "main", "more", [Add("i")])
+        for title in (b"camp log 1 catches 0 branches 1\n", b"camp log 1 catches 16777217 branches 1\n", b"camp log 2\n"):
+            with contextlib.closing(open_log("sqlite:{}{}".format(path, len(title)), title)) as log, Shared(log) as shared:
+                self.assertRaises(Stopped, shared.sync)
 
     def test_all_read_one_order(self):
         def append(seat):
             log = SqliteLog(self.path)
             for number in range(20):
-                while log.append("{}/{}".format(seat, number), b"%d %d" % (seat, number)) is Outcome.UNKNOWN:
+                while log.append("{}/{}".format(seat, number), b"%d %d" % (seat, number)) is AppendOutcome.UNKNOWN:
                     pass
             log.close()
         threads = [threading.Thread(target=append, args=(seat,)) for seat in range(4)]
@@ -60,7 +87,7 @@ class Sqlite(unittest.TestCase):
 
     def test_a_file_that_is_full_refuses(self):
         self.log._base().execute("PRAGMA max_page_count = 1")
-        self.assertIs(self.log.append("s/1", b"x" * 100_000), Outcome.REFUSED)
+        self.assertIs(self.log.append("s/1", b"x" * 100_000), AppendOutcome.REFUSED)
         self.assertEqual(self.log.length(), 1)
 
     def test_a_file_of_another_program_is_foreign(self):

@@ -98,6 +98,12 @@ int32_t camp_view_again(camp_view *view, camp_view *other);
 /* Closes a view. One that is closed stays so. */
 void camp_view_close(camp_view *view);
 
+/* The version of the library, as "0.1.0"; the text stays. */
+const char *camp_version(void);
+
+/* What a code means, in a few words for messages; the text stays. */
+const char *camp_code_text(int32_t code);
+
 #ifdef __cplusplus
 }
 #endif

@@ -34,6 +34,15 @@ static bool view_answers(camp_view *view, const char *text) {
     return length == strlen(text) && length == camp_view_answer_length(view) && !memcmp(said, text, length);
 }
 
+/* The library says its version, and each code has words of its own. */
+static void version_and_codes(void) {
+    CHECK(strlen(camp_version()) >= 5);
+    for (int32_t code = CAMP_DONE; code <= CAMP_LIMITS; code++) {
+        CHECK(strlen(camp_code_text(code)) > 0 && strcmp(camp_code_text(code), camp_code_text(-1)));
+        CHECK(code == CAMP_DONE || strcmp(camp_code_text(code), camp_code_text(code - 1)));
+    }
+}
+
 /* Closed handles answer nothing, and may be closed again. */
 static void closed(void) {
     camp repository = CAMP_CLOSED;
@@ -194,6 +203,7 @@ static void texts(void) {
 }
 
 int main(void) {
+    version_and_codes();
     closed();
     open_handles();
     limits();

@@ -2,6 +2,13 @@
  * memory. */
 #include "camp.h"
 
+const char *camp_version(void) { return CAMP_STAND_IN; }
+
+const char *camp_code_text(int32_t code) {
+    (void)code;
+    return "";
+}
+
 static int32_t ask(size_t length) { return length ? CAMP_MEMORY : CAMP_DONE; }
 
 int32_t camp_open(camp *repository) {

@@ -17,7 +17,7 @@ where the system's loader looks. `python3 -m camp shell`, camp at a terminal, wo
 A line is bytes without its line feed. Wherever lines or texts are given, a string may stand, too: it is encoded as UTF-8.
 """
 
-from ._library import require_library
+from ._library import VERSION, require_library
 from .answers import AcceptedCall, AnnotatedLine, Conflict, Hunk, HunkSide, Outcome, Shown, Tree
 from .changes import Add, Change, Edit, Remove, Text, join_lines, split_lines
 from .diffs import Content, diff
@@ -27,7 +27,7 @@ from .questions import Questions
 from .repository import Repository, View
 from .whatif import WhatIf
 
-__version__ = "0.1.0"
+__version__ = VERSION
 
 __all__ = [
     "AcceptedCall", "Add", "AnnotatedLine", "BranchExists", "Change", "Closed", "Conflict", "Content", "Depends", "Diverged",

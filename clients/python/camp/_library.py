@@ -7,6 +7,8 @@ import os
 from typing import Any, List
 
 NAME = "libcamp.so"
+# The version of camp that this package is of, and its library has to be of.
+VERSION = "0.1.0"
 DONE, NOT_OPEN, MEMORY = 0, 1, 2
 
 
@@ -62,6 +64,11 @@ def _load() -> ctypes.CDLL:
         _declare(library, kind + "_close", [handle], None)
     for name in ("camp_look", "camp_view_again"):
         _declare(library, name, [handle, handle], ctypes.c_int32)
+    _declare(library, "camp_version", [], ctypes.c_char_p)
+    found = library.camp_version().decode("ascii", "replace")
+    if found != VERSION:
+        raise ImportError("{} is camp {}, and this package is of camp {}: run clients/build, or install the wheel of the same release"
+                          .format(library._name, found, VERSION))
     _declare(library, "camp_open", [handle], ctypes.c_int32)
     _declare(library, "camp_open_with", [handle, ctypes.c_size_t, ctypes.c_size_t], ctypes.c_int32)
     return library

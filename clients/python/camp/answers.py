@@ -49,29 +49,38 @@ class AcceptedCall(NamedTuple):
 
 
 class Outcome(NamedTuple):
-    """What a call would do: the number that it would have, and the conflicts and the files of its branch after it."""
+    """What a call would do: the number that it would have, the conflicts and the files of its branch after it, and the conflicts
+    that would become unresolved and those that would be resolved."""
     number: int
     conflicts: List[Conflict]
     tree: Tree
+    opened: List[Conflict]
+    resolved: List[Conflict]
 
 
 class Answer:
     """The lines of a response that are not read yet. Whatever is read wrongly is `Unexpected`."""
 
     def __init__(self, response: bytes):
-        self._lines: Iterator[bytes] = iter(response.split(b"\n")[:-1])
+        self._lines, self._at = response.split(b"\n"), 0
+        self._lines.pop()
 
     def next_line(self) -> bytes:
-        try:
-            return next(self._lines)
-        except StopIteration:
-            raise Unexpected("the answer ends too soon") from None
+        return self._next_lines(1)[0]
+
+    def _next_lines(self, count: int) -> List[bytes]:
+        found = self._lines[self._at:self._at + count]
+        if len(found) < count:
+            raise Unexpected("the answer ends too soon")
+        self._at += count
+        return found
 
     def next_words(self) -> List[str]:
         return self.next_line().decode("ascii", "replace").split(" ")
 
     def rest(self) -> Iterator[bytes]:
-        return self._lines
+        while self._at < len(self._lines):
+            yield self.next_line()
 
     def count(self, *words: str) -> int:
         """The number at the end of the next line, whose other words are these."""
@@ -82,7 +91,11 @@ class Answer:
 
     def signed(self, count: int, sign: bytes) -> List[bytes]:
         """So many lines, each after a sign, which is taken off."""
-        return [unsigned(self.next_line(), sign) for _ in range(count)]
+        found = self._next_lines(count)
+        for line in found:
+            if not line.startswith(sign):
+                raise Unexpected("no line after {!r}: {!r}".format(sign, line))
+        return [line[1:] for line in found]
 
 
 def number(text: str) -> int:
@@ -199,4 +212,5 @@ def read_outcome(answer: Answer) -> Outcome:
         parts[words[0]] = [answer.next_words() for _ in range(number(words[-1]))]
         words = answer.next_words()
     tree = read_tree(answer, number(words[-1]))
-    return Outcome(accepted, [read_conflict(pair) for pair in parts.get("conflicts", [])], tree)
+    conflicts, opened, resolved = ([read_conflict(pair) for pair in parts.get(word, [])] for word in ("conflicts", "opened", "resolved"))
+    return Outcome(accepted, conflicts, tree, opened, resolved)

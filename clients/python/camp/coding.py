@@ -14,6 +14,8 @@ import re
 from typing import Dict, List, NamedTuple, Optional
 
 from .answers import Tree
+from .changes import Change
+from .diffs import diff
 from .errors import Error
 
 MAX_LINE, MAX_PIECE, MAX_LINES, MAX_PATH = 4_096, 4_095, 1_000_000, 200
@@ -55,6 +57,11 @@ def plain_path(path: str) -> str:
     return path[3:] if path[:3] in (MODE, NO_END, PIECES) else path
 
 
+def places(path: bytes) -> List[str]:
+    """The paths of camp that say something of a file."""
+    return [kind + encode_path(path) for kind in ("", PIECES, NO_END, MODE)]
+
+
 def encode(files: Files) -> Tree:
     """The tree of camp for files; `Unheld` names the file that it can't hold."""
     tree: Tree = {}
@@ -71,6 +78,14 @@ def encode(files: Files) -> Tree:
         if len(tree[path]) > MAX_LINES:
             raise Unheld("{}: it has over {:,} lines".format(path, MAX_LINES))
     return tree
+
+
+def file_changes(old: Tree, files: Files, path: bytes) -> List[Change]:
+    """The changes of a tree of camp that make a file what it is among the files, with all that is said of it there."""
+    new, changes = encode({path: files[path]} if path in files else {}), []  # type: Tree, List[Change]
+    for place in places(path):
+        changes += diff(place, old.get(place), new.get(place))
+    return changes
 
 
 def decode(tree: Tree) -> Files:

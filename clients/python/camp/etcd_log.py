@@ -5,7 +5,7 @@ import json
 import threading
 from typing import Dict, List, Sequence
 
-from .logs import TIMEOUT, TITLE, Away, Damaged, Outcome
+from .logs import TIMEOUT, TITLE, AppendOutcome, Away, Damaged
 
 
 def _text(data: bytes) -> str:
@@ -16,13 +16,13 @@ class EtcdLog:
     """Entries under one prefix, a key for each tag, in the order of their revisions. Each append also writes a key that counts
     them, so an entry that was removed shows. Entries come by a watch."""
 
-    def __init__(self, endpoints: Sequence[str], prefix: str):
+    def __init__(self, endpoints: Sequence[str], prefix: str, title: bytes = TITLE):
         self.endpoints, self.prefix = list(endpoints), prefix.encode()
         self._range = {"key": _text(self.prefix + b"/entries/"), "range_end": _text(self.prefix + b"/entries0")}
         self._count = _text(self.prefix + b"/count")
         self._entries, self._revision, self._damaged, self._turn, self._closed = [], 0, None, 0, False
         self._changed = threading.Condition()
-        if self.append("log", TITLE) is Outcome.REFUSED:
+        if self.append("log", title) is AppendOutcome.REFUSED:
             raise Away("etcd refuses the title of the log")
         threading.Thread(target=self._follow, daemon=True).start()
 
@@ -50,7 +50,7 @@ class EtcdLog:
                 continue
         raise Away("no endpoint of etcd answers")
 
-    def append(self, tag: str, text: bytes) -> Outcome:
+    def append(self, tag: str, text: bytes) -> AppendOutcome:
         key = _text(self.prefix + b"/entries/" + tag.encode())
         puts = [{"request_put": {"key": one, "value": value}} for one, value in ((key, _text(text)), (self._count, ""))]
         free = {"key": key, "target": "CREATE", "result": "EQUAL", "create_revision": "0"}
@@ -58,13 +58,13 @@ class EtcdLog:
             response = self._post("kv/txn", {"compare": [free], "success": puts})
             body = response.read()
             if response.status == 200:
-                return Outcome.APPENDED if json.loads(body).get("succeeded") else Outcome.TAKEN
+                return AppendOutcome.APPENDED if json.loads(body).get("succeeded") else AppendOutcome.TAKEN
             if b"too large" in body or b"database space exceeded" in body:
-                return Outcome.UNKNOWN if self._has(key) else Outcome.REFUSED
+                return AppendOutcome.UNKNOWN if self._has(key) else AppendOutcome.REFUSED
         except (OSError, http.client.HTTPException, ValueError, Away):
             pass
         self._turn += 1
-        return Outcome.UNKNOWN
+        return AppendOutcome.UNKNOWN
 
     def _has(self, key: str) -> bool:
         return bool(self._asked("kv/range", {"key": key, "count_only": True}).get("count"))

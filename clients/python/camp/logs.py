@@ -1,7 +1,7 @@
 """Carriers of a log that many processes share: the tags are unique, the order is the engine's, nothing is ever removed.
 
-`open_log` makes one from an address. An entry is bytes, and entries are counted from 0; the first is `TITLE`, which a carrier
-writes where the log is empty. `Damaged` is raised where the engine shows that an entry was changed or removed, `Away` where no
+`open_log` makes one from an address. An entry is bytes, and entries are counted from 0; the first is the title, which a carrier
+writes where the log is empty: `TITLE`, or with limits of the repository what `title_with` makes. `Damaged` is raised where the engine shows that an entry was changed or removed, `Away` where no
 endpoint answers, `Foreign` where something else stands at the address.
 """
 
@@ -9,16 +9,30 @@ from __future__ import annotations
 
 import enum
 import os
+import re
 import sqlite3
 import threading
 import time
-from typing import List, Optional, Protocol
+from typing import Dict, List, Optional, Protocol
 
 TITLE = b"camp log 1\n"
 TIMEOUT = 0.5
 
 
-class Outcome(enum.Enum):
+def title_with(catches: int, branches: int) -> bytes:
+    """The title of a log whose repository has at most so many changes in a branch, and so many branches."""
+    return b"camp log 1 catches %d branches %d\n" % (catches, branches)
+
+
+def limits_of(title: bytes) -> Dict[str, int]:
+    """The limits that a title names, none of them if it is `TITLE`. A ValueError where it is no title."""
+    found = re.fullmatch(rb"camp log 1(?: catches ([1-9]\d{0,8}) branches ([1-9]\d{0,5}))?\n", title)
+    if not found:
+        raise ValueError("no title of a log of camp: {!r}".format(title))
+    return {"catches": int(found[1]), "branches": int(found[2])} if found[1] else {}
+
+
+class AppendOutcome(enum.Enum):
     """What is known of an append."""
     APPENDED = "appended"
     TAKEN = "the tag is in the log already"
@@ -29,7 +43,7 @@ class Outcome(enum.Enum):
 class Log(Protocol):
     """What a carrier is."""
 
-    def append(self, tag: str, text: bytes) -> Outcome:
+    def append(self, tag: str, text: bytes) -> AppendOutcome:
         """Appends an entry under a tag, once."""
 
     def read(self, index: int, wait: float = 0.0) -> List[bytes]:
@@ -42,18 +56,22 @@ class Log(Protocol):
         """Gives up what it holds."""
 
 
-def open_log(address: str) -> Log:
-    """The log at an address: `sqlite:PATH`, `etcd:HOST:PORT[,HOST:PORT ..]/PREFIX`, or `postgres:DSN` as psycopg2 has it."""
+def open_log(address: str, title: bytes = TITLE) -> Log:
+    """The log at an address: `sqlite:PATH`, `etcd:HOST:PORT[,HOST:PORT ..]/PREFIX`, or `postgres:DSN` as psycopg2 has it. A new log
+    gets the title."""
     kind, _, rest = address.partition(":")
     if kind == "sqlite" and rest:
-        return SqliteLog(rest)
+        return SqliteLog(rest, title)
     hosts, _, prefix = rest.partition("/")
     if kind == "etcd" and hosts and prefix:
         from .etcd_log import EtcdLog
-        return EtcdLog(hosts.split(","), prefix)
+        return EtcdLog(hosts.split(","), prefix, title)
     if kind == "postgres" and rest:
-        from .postgres_log import PostgresLog
-        return PostgresLog(rest)
+        try:
+            from .postgres_log import PostgresLog
+        except ImportError:
+            raise ImportError("a log in PostgreSQL needs psycopg2: `apt-get install python3-psycopg2`, or `pip install psycopg2-binary`") from None
+        return PostgresLog(rest, title=title)
     raise ValueError("no address of a log: {!r}; write sqlite:PATH, etcd:HOST:PORT[,HOST:PORT ..]/PREFIX or postgres:DSN".format(address))
 
 
@@ -76,7 +94,7 @@ class Foreign(Exception):
 class SqliteLog:
     """A table of a SQLite file, for the processes of one machine. Each entry is on the disk before it counts."""
 
-    def __init__(self, path: str):
+    def __init__(self, path: str, title: bytes = TITLE):
         self.path = os.fspath(path)
         self._local = threading.local()
         try:
@@ -88,7 +106,7 @@ class SqliteLog:
         if tables and tables != ["entries"]:
             raise Foreign("{} is a file of another program".format(self.path))
         self._once("CREATE TABLE IF NOT EXISTS entries (at INTEGER PRIMARY KEY, tag TEXT UNIQUE NOT NULL, text BLOB NOT NULL)")
-        self.append("log", TITLE)
+        self.append("log", title)
 
     def _base(self) -> sqlite3.Connection:
         if not hasattr(self._local, "base"):
@@ -101,16 +119,16 @@ class SqliteLog:
     def _once(self, sql: str, *values):
         return _patiently(lambda: self._base().execute(sql, values).fetchall())
 
-    def append(self, tag: str, text: bytes) -> Outcome:
+    def append(self, tag: str, text: bytes) -> AppendOutcome:
         try:
             self._base().execute("INSERT INTO entries SELECT coalesce(max(at) + 1, 0), ?, ? FROM entries", (tag, text))
-            return Outcome.APPENDED
+            return AppendOutcome.APPENDED
         except sqlite3.IntegrityError:
-            return Outcome.TAKEN
+            return AppendOutcome.TAKEN
         except (sqlite3.DataError, OverflowError):
-            return Outcome.REFUSED
+            return AppendOutcome.REFUSED
         except sqlite3.Error as error:
-            return Outcome.REFUSED if self._is_refused(error, tag) else Outcome.UNKNOWN
+            return AppendOutcome.REFUSED if self._is_refused(error, tag) else AppendOutcome.UNKNOWN
 
     def _is_refused(self, error: sqlite3.Error, tag: str) -> bool:
         """Whether the engine took nothing under the tag, for certain: what it wrote of it is rolled back."""
@@ -167,7 +185,7 @@ class RememberedLog:
         if found[:1] != [row[0] for row in self._base.execute("SELECT text FROM entries WHERE at = ?", (last,))]:
             raise Foreign("this log is another one than that which was read before, or it was cut")
 
-    def append(self, tag: str, text: bytes) -> Outcome:
+    def append(self, tag: str, text: bytes) -> AppendOutcome:
         if self.engine is None:
             raise Away("there is no connection")
         return self.engine.append(tag, text)

@@ -8,7 +8,7 @@ from typing import List
 import psycopg2
 from psycopg2 import errors
 
-from .logs import TIMEOUT, TITLE, Away, Damaged, Foreign, Outcome
+from .logs import TIMEOUT, TITLE, AppendOutcome, Away, Damaged, Foreign
 
 # What ends a statement without a change, for certain: the server has said so, and rolled it back.
 REFUSALS = (errors.DiskFull, errors.ProgramLimitExceeded, errors.DataException, errors.ReadOnlySqlTransaction, errors.InsufficientPrivilege)
@@ -21,7 +21,7 @@ class PostgresLog:
     """Entries are the rows of one table, numbered without a gap. An append is on the disk before anybody sees it, and wakes those
     who wait for it by a notification."""
 
-    def __init__(self, dsn: str, table: str = "camp_log"):
+    def __init__(self, dsn: str, table: str = "camp_log", title: bytes = TITLE):
         if not table.isidentifier():
             raise ValueError("the name of a table is letters, digits and _: {!r}".format(table))
         self.dsn, self.table = dsn, table
@@ -33,7 +33,7 @@ class PostgresLog:
             self._patiently(lambda cursor: self._rows(cursor, 0))
         except psycopg2.ProgrammingError:
             raise Foreign("the table {} is of another program".format(table)) from None
-        if self.append("log", TITLE) is Outcome.REFUSED:
+        if self.append("log", title) is AppendOutcome.REFUSED:
             raise Away("PostgreSQL refuses the title of the log")
 
     def _base(self):
@@ -68,19 +68,19 @@ class PostgresLog:
                 time.sleep(TIMEOUT)
         raise Away("PostgreSQL does not answer")
 
-    def append(self, tag: str, text: bytes) -> Outcome:
+    def append(self, tag: str, text: bytes) -> AppendOutcome:
         def work(cursor):
             self._locked(cursor, APPEND, tag, text)
             cursor.execute("SELECT pg_notify(%s, '')", (self.table,))
         try:
             self._transaction(work)
-            return Outcome.APPENDED
+            return AppendOutcome.APPENDED
         except errors.UniqueViolation:
-            return Outcome.TAKEN
+            return AppendOutcome.TAKEN
         except REFUSALS:
-            return Outcome.REFUSED
+            return AppendOutcome.REFUSED
         except psycopg2.Error:
-            return Outcome.UNKNOWN
+            return AppendOutcome.UNKNOWN
 
     def read(self, index: int, wait: float = 0.0) -> List[bytes]:
         end = time.monotonic() + wait

@@ -130,6 +130,12 @@ class Questions:
         listed = self._listed("graph", branch, *list_of("names", names))
         return "".join(name + "\n" for name in answers.read_names(listed))
 
+    def picture(self, branch: str, names: Iterable[str] = (), *, only_open: bool = False) -> str:
+        """A picture of a branch as DOT for Graphviz, for people: with a legend, paths, conflicts, and tooltips; of more than 250
+        patches by conflicts and files. With names as `graph`; `only_open`: unresolved conflicts and what they need."""
+        from .pictures import picture
+        return picture(self.ask, branch, [to_bytes(it).decode("utf-8", "surrogateescape") for it in list_of("names", names)], only_open)
+
     @property
     def whatif(self) -> WhatIf:
         """What calls would do: `repository.whatif.pull("ben", "main")`."""

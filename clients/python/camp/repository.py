@@ -77,14 +77,23 @@ class Repository(Calls):
 
     def __init__(self, script: Text = b"", *, catches: int = DEFAULT_CATCHES, branches: int = DEFAULT_BRANCHES) -> None:
         super().__init__()
-        if not (1 <= catches <= _MOST_CATCHES and 1 <= branches <= _MOST_BRANCHES):
-            raise ValueError("catches is 1 to 16777216, branches 1 to 65536")
-        check(LIBRARY.camp_open_with(self._handle, catches, branches), OutOfMemory("out of memory"))
+        self._open(catches, branches)
         try:
             self._load(to_bytes(script))
         except BaseException:
             self.close()
             raise
+
+    def begin_again(self, *, catches: int = DEFAULT_CATCHES, branches: int = DEFAULT_BRANCHES) -> None:
+        """Becomes a new repository with these limits: what it had is gone."""
+        with self._lock:
+            LIBRARY.camp_close(self._handle)
+            self._open(catches, branches)
+
+    def _open(self, catches: int, branches: int) -> None:
+        if not (1 <= catches <= _MOST_CATCHES and 1 <= branches <= _MOST_BRANCHES):
+            raise ValueError("catches is 1 to 16777216, branches 1 to 65536")
+        check(LIBRARY.camp_open_with(self._handle, catches, branches), OutOfMemory("out of memory"))
 
     def view(self) -> View:
         """A view of the repository as it is now. That takes a count, however large the repository is."""

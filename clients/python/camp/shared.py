@@ -19,6 +19,8 @@ library's repository, for the member that the library does not export yet."""
 from __future__ import annotations
 
 import collections
+import os
+import re
 import secrets
 import time
 from typing import Any, Deque, Dict, List, NamedTuple, Optional, Sequence, Tuple
@@ -26,13 +28,15 @@ from typing import Any, Deque, Dict, List, NamedTuple, Optional, Sequence, Tuple
 from .answers import AcceptedCall, Answer
 from .changes import Change, Text, record_command, to_bytes
 from .errors import Error, OutcomeUnknown, error_of
-from .logs import TITLE, Away, Log, Outcome
+from .logs import AppendOutcome, Away, Log, limits_of
 from .repository import Calls, Repository
 
 MAX_CALLS = 256
 MAX_BYTES = 1 << 20
 CALLS = (b"branch", b"record", b"pull", b"obliterate")
 NOTE = b"#note"
+# What ends the body of an edit, and of a group.
+ENDS = {b"edit": re.compile(rb"\nend\n"), b"group": re.compile(rb"\n[ \t]*done[ \t]*\n")}
 NOT_READ = b"the log ends before what was seen\n"
 NOT_TAKEN = b"the log refused the entry\n"
 
@@ -56,6 +60,7 @@ class Request(NamedTuple):
     at_least: int
     request: Any
     note: bytes
+    is_sure: bool
 
     def text(self) -> bytes:
         """The command as an entry has it, behind its note."""
@@ -65,19 +70,37 @@ class Request(NamedTuple):
 def calls_of(body: bytes) -> List[Tuple[bytes, bytes]]:
     """The calls of the lines of an entry, each with its note: a record of an edit goes to `end`, one of a group to `done`."""
     calls: List[Tuple[bytes, bytes]] = []
-    ends, notes = None, []
-    for line in [it + b"\n" for it in body.split(b"\n")[:-1]]:
-        if ends is not None:
-            calls[-1] = (calls[-1][0] + line, calls[-1][1])
-            ends = None if line == ends else ends
-        elif line.startswith(NOTE):
+    notes: List[bytes] = []
+    start = 0
+    while start < len(body) and (end := body.find(b"\n", start) + 1):
+        line = body[start:end]
+        if line.startswith(NOTE):
             text = line[len(NOTE):-1]
             notes.append(text[1:] if text.startswith(b" ") else text)
         else:
-            calls.append((line, b"\n".join(notes)))
-            words, notes = line.split(), []
-            ends = {b"edit": b"end\n", b"group": b"done\n"}.get(words[3] if words[:1] == [b"record"] and len(words) > 3 else b"")
+            words = line.split(None, 4)
+            last = ENDS.get(words[3] if words[:1] == [b"record"] and len(words) > 3 else b"")
+            if last:
+                found = last.search(body, end - 1)
+                end = found.end() if found else len(body)
+            calls.append((body[start:end], b"\n".join(notes)))
+            notes = []
+        start = end
     return calls
+
+
+def canonical(call: bytes) -> bytes:
+    """A call with single spaces, and without the comments of a group: what a log has of it."""
+    found, is_body = [], False
+    for line in call.split(b"\n")[:-1]:
+        words = [it for it in re.split(rb"[ \t]+", line) if it]
+        if is_body:
+            found.append(line)
+            is_body = line != b"end"
+        elif words and not words[0].startswith(b"#"):
+            found.append(b" ".join(words))
+            is_body = b"edit" in (words[0], *words[3:4])
+    return b"".join(line + b"\n" for line in found)
 
 
 def what_if(repository: Repository, call: bytes) -> bytes:
@@ -99,9 +122,10 @@ class Member:
         self.stopped: Optional[Stopped] = None
         self.notes: Dict[str, bytes] = {}
 
-    def ask(self, call: bytes, at_least: int = 0, request: Any = None, note: bytes = b"") -> None:
-        """Asks a command: a call, with its note, or a question; at a history of so many calls at least."""
-        self.queue.append(Request(call, at_least, request, note))
+    def ask(self, call: bytes, at_least: int = 0, request: Any = None, note: bytes = b"", is_sure: bool = False) -> None:
+        """Asks a command: a call, with its note, or a question; at a history of so many calls at least. A call that is sure to be
+        accepted at what was read is not tried first."""
+        self.queue.append(Request(call, at_least, request, note, is_sure))
 
     def number(self) -> int:
         """The number of the next entry under this seat."""
@@ -119,10 +143,12 @@ class Member:
         if self.under_way:
             return
         while self.queue:
-            call, at_least, request, _ = self.queue[0]
+            call, at_least, request, _, is_sure = self.queue[0]
             if at_least > self.count and not self.stopped:
                 return
-            question = call.split()[0] not in CALLS
+            question = call.split(None, 1)[0] not in CALLS
+            if is_sure and not question and not self.stopped:
+                break
             answer = self.repository.ask(call) if question else what_if(self.repository, call)
             if not question and answer.startswith(b"ok"):
                 if not self.stopped:
@@ -133,7 +159,7 @@ class Member:
         room = MAX_BYTES - 100
         while self.queue and len(self.under_way) < MAX_CALLS and not self.stopped:
             first, length = self.queue[0], len(self.queue[0].text())
-            if first.call.split()[0] not in CALLS or first.at_least > self.count or (self.under_way and length > room):
+            if first.call.split(None, 1)[0] not in CALLS or first.at_least > self.count or (self.under_way and length > room):
                 break
             self.under_way.append(self.queue.popleft())
             room -= length
@@ -144,7 +170,9 @@ class Member:
             return
         assert index == self.index
         if index == 0:
-            if text != TITLE:
+            try:
+                self.repository.begin_again(**limits_of(text))
+            except ValueError:
                 self._stop("no title of a log of camp")
             self.index = 1
             return
@@ -152,7 +180,7 @@ class Member:
         words, calls = head.split(b" "), calls_of(body)
         if len(words) != 3 or words[0] != b"entry" or not words[2].isdigit() or not 1 <= len(calls) <= MAX_CALLS:
             self._stop("a foreign entry")
-        if any(call.split()[:1] not in [[word] for word in CALLS] for call, _ in calls):
+        if any(call.split(None, 1)[:1] not in [[word] for word in CALLS] for call, _ in calls):
             self._stop("a foreign entry")
         seat, number = words[1].decode("ascii", "replace"), int(words[2])
         last = self.numbers.get(seat, 0)
@@ -182,7 +210,7 @@ class Member:
         if answer.startswith(b"ok"):
             self.count += 1
             if note and call.startswith(b"record"):
-                self.notes[call.split()[2].decode("ascii", "replace")] = note
+                self.notes[call.split(None, 3)[2].decode("ascii", "replace")] = note
 
     def execute(self, call: bytes, note: bytes = b"") -> bytes:
         """Executes a call that no log has, and returns its answer."""
@@ -212,7 +240,7 @@ def turn(member: Member, log: Log, wait: float = 0.2) -> bool:
     if want[0] == "nothing":
         return False
     try:
-        if want[0] == "append" and log.append(want[1], want[2]) is Outcome.REFUSED:
+        if want[0] == "append" and log.append(want[1], want[2]) is AppendOutcome.REFUSED:
             member.refused()
             return True
         if want[0] == "read":
@@ -229,13 +257,16 @@ def turn(member: Member, log: Log, wait: float = 0.2) -> bool:
 class Shared(Calls):
     """A repository that is shared over a log. Questions are answered at what was read: `sync` reads all that the log has. A
     method that writes returns once its entry was read back, and raises `OutcomeUnknown` where the log does not answer
-    for `patience` seconds: the call may have taken place, or may yet.
+    for `patience` seconds (those that CAMP_PATIENCE says, or 5): the call may have taken place, or may yet.
 
     Notes are texts kept by the name of a patch."""
 
-    def __init__(self, log: Log, seat: Optional[str] = None, patience: float = 5.0) -> None:
+    def __init__(self, log: Log, seat: Optional[str] = None, patience: Optional[float] = None) -> None:
         super().__init__()
-        self._log, self._patience, self._member = log, patience, Member(seat)
+        self._log, self._member = log, Member(seat)
+        self._patience = float(os.environ.get("CAMP_PATIENCE", 5.0)) if patience is None else patience
+        # How many calls were asked of the member: each has its number, since an answer may come after nobody waits for it.
+        self._asked = 0
         self._handle, self._lock = self._member.repository._handle, self._member.repository._lock
 
     @property
@@ -266,23 +297,45 @@ class Shared(Calls):
                 raise Away("the log says that it has more, and does not send it")
         return self._member.count
 
-    def write_all(self, calls: Sequence[Tuple[bytes, bytes]]) -> List[bytes]:
+    def ask(self, text: Text) -> bytes:
+        """Runs the commands of a text: a call that would be accepted is written to the log, and all others are answered at what was
+        read. Lines of faults count from the first of the commands that are answered together."""
+        answers, here, whole = b"", b"", to_bytes(text)
+        for call, _ in calls_of(whole if whole.endswith(b"\n") else whole + b"\n"):
+            if call.split(None, 1)[:1] in [[word] for word in CALLS] and what_if(self._member.repository, call).startswith(b"ok"):
+                answers += self._member.repository.ask(here) if here else b""
+                answers, here = answers + self._answer(canonical(call)), b""
+            else:
+                here += call
+        return answers + (self._member.repository.ask(here) if here else b"")
+
+    def write_all(self, calls: Sequence[Tuple[bytes, bytes]], are_sure: bool = False) -> List[bytes]:
         """Asks calls, each a command and its note, in as few entries as they fit in, and returns the answer of each; a refusal is
-        an answer as any other, and those after it are asked all the same."""
-        member = self._member
-        for at, (call, note) in enumerate(calls):
-            member.ask(call, 0, at, note)
+        an answer as any other, and those after it are asked all the same. Calls that are sure to be accepted, as far as was read,
+        are not tried before they are written."""
+        member, first = self._member, self._asked
+        self._asked += len(calls)
+        for at, (call, note) in enumerate(calls, first):
+            member.ask(call, 0, at, note, are_sure)
         answers: Dict[int, bytes] = {}
         end = time.monotonic() + self._patience
         while len(answers) < len(calls):
             turn(member, self._log)
             while member.answers:
                 request, answer, _ = member.answers.popleft()
-                answers[request] = answer
+                if request >= first:
+                    answers[request] = answer
                 end = time.monotonic() + self._patience
             if time.monotonic() > end:
                 raise OutcomeUnknown("the log does not answer")
-        return [answers[at] for at in range(len(calls))]
+        return [answers[at] for at in range(first, first + len(calls))]
+
+    def settle(self) -> bool:
+        """Asks again what is under way and nobody waits for, and returns whether nothing is left of it."""
+        end = time.monotonic() + self._patience
+        while self._member.under_way and time.monotonic() < end:
+            turn(self._member, self._log)
+        return not self._member.under_way
 
     def execute_here(self, calls: Sequence[Tuple[bytes, bytes]]) -> List[bytes]:
         """Executes calls here alone, as if the log had them next, and returns their answers. From then on this object shows what
@@ -300,12 +353,16 @@ class Shared(Calls):
         return self._member.repository.history()
 
     def _write(self, text: bytes, note: bytes = b"") -> int:
-        (answer,) = self.write_all([(text, note)])
-        words = Answer(answer).next_words()
-        if answer == NOT_TAKEN:
-            raise LogRefused("the log refuses the entry: its disk or its space is full, or the entry is too large")
-        if words == ["stopped"] and self._member.stopped:
-            raise self._member.stopped
+        words = Answer(self._answer(text, note)).next_words()
         if words[0] != "ok":
             raise error_of(words)
         return int(words[1])
+
+    def _answer(self, call: bytes, note: bytes = b"") -> bytes:
+        """The answer of a call where it stands in the log."""
+        (answer,) = self.write_all([(call, note)])
+        if answer == NOT_TAKEN:
+            raise LogRefused("the log refuses the entry: its disk or its space is full, or the entry is too large")
+        if answer == b"stopped\n" and self._member.stopped:
+            raise self._member.stopped
+        return answer

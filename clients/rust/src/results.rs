@@ -76,6 +76,10 @@ pub struct Outcome {
     pub number: u64,
     /// The conflicts of its branch after it.
     pub conflicts: Vec<Conflict>,
+    /// Those that are unresolved after it, and not before.
+    pub opened: Vec<Conflict>,
+    /// Those that are unresolved before it, and not after.
+    pub resolved: Vec<Conflict>,
     /// The files of its branch after it.
     pub tree: Tree,
 }
@@ -88,15 +92,19 @@ impl Outcome {
             [b"ok", accepted] => number(accepted)?,
             _ => return None,
         };
-        let mut conflicts = Vec::new();
+        let (mut conflicts, mut opened, mut resolved) = (Vec::new(), Vec::new(), Vec::new());
         loop {
             match lines.words()?.as_slice() {
                 [b"conflicts", count] => conflicts = Conflict::read_some(number(count)?, lines)?,
+                [b"opened", count] => opened = Conflict::read_some(number(count)?, lines)?,
+                [b"resolved", count] => resolved = Conflict::read_some(number(count)?, lines)?,
                 [b"tree", count] => {
                     let tree = Tree::read(number(count)?, lines)?;
                     return Some(Outcome {
                         number: accepted,
                         conflicts,
+                        opened,
+                        resolved,
                         tree,
                     });
                 }

@@ -193,6 +193,8 @@ fn outcome(outcome: Outcome) -> Shown {
     [
         number(outcome.number),
         conflicts(&outcome.conflicts),
+        conflicts(&outcome.opened),
+        conflicts(&outcome.resolved),
         tree(&outcome.tree),
     ]
     .concat()

@@ -32,7 +32,7 @@ class Backend(Protocol):
 
     def ask(self, request: bytes) -> bytes:
         """The answers to a request, which is a small conversation of its own: whole commands, each line with its end.
-        Raises `Ended` if there is no answer and will be none."""
+        Raises `Ended` if there is no answer and will be none, and `NotDone` where there is none to this."""
 
     def close(self) -> None:
         """Ends it. What was accepted and is kept stays."""
@@ -40,6 +40,10 @@ class Backend(Protocol):
 
 class Ended(Exception):
     """The backend has ended or could not begin; the text says why."""
+
+
+class NotDone(Exception):
+    """The backend did not do what it was asked, and the conversation goes on; the text says why, and what to do."""
 
 
 class Program:

@@ -4,7 +4,7 @@ from __future__ import annotations
 
 import difflib
 import re
-from typing import Dict, Iterable, List, NamedTuple, Optional, Sequence
+from typing import BinaryIO, Dict, Iterable, List, NamedTuple, Optional, Sequence
 
 # The words of each command of the language and of each question, by kind. `NAME ..` are names of patches to the end.
 SHAPES: Dict[str, Sequence[str]] = {
@@ -34,7 +34,7 @@ SHAPES: Dict[str, Sequence[str]] = {
     "help": ("TOPIC",),
 }
 # The words of the conversation at a terminal alone.
-OWN: Dict[str, Sequence[str]] = {"save": ("FILE",), "read": ("FILE",), "quit": (), "exit": (), "?": ("TOPIC",)}
+OWN: Dict[str, Sequence[str]] = {"save": ("FILE",), "read": ("FILE",), "picture": ("FILE", "BRANCH", "NAME .."), "quit": (), "exit": (), "?": ("TOPIC",)}
 CHANGES = ("add", "remove", "edit", "group")
 ENDINGS = ("end", "done", "cancel")
 # Characters of a line that are said again in words about it.
@@ -74,6 +74,18 @@ def begins_body(words: Sequence[str]) -> Optional[str]:
     return None
 
 
+def next_command(source: BinaryIO) -> bytes:
+    """The lines of the next command: those of an edit go to `end`, those of a group to `done`."""
+    text = source.readline()
+    text += b"\n" if text and not text.endswith(b"\n") else b""
+    end = {"edit": [b"end"], "group": [b"done"]}.get(begins_body(words_of(text.rstrip(b"\n"))) or "")
+    while end:
+        line = source.readline()
+        text += line if line.endswith(b"\n") else line + b"\n" * bool(line)
+        end = None if not line or line.split() == end else end
+    return text
+
+
 def is_command(word: str) -> bool:
     return word in SHAPES or word in OWN
 
@@ -81,6 +93,12 @@ def is_command(word: str) -> bool:
 def is_name(word: str) -> bool:
     """Whether a branch or a patch may have this name."""
     return bool(NAME.match(word))
+
+
+def wrong_name(words: Iterable[str]) -> str:
+    """What is said of the first of some words that is no name; nothing where all are."""
+    form = "{} is no name: a name has 1 to 40 of a to z, 0 to 9 and -, and begins with no -"
+    return next((form.format(it) for it in words if not is_name(it)), "")
 
 
 def nearest(word: str, choices: Iterable[str]) -> Optional[str]:

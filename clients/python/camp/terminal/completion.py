@@ -35,7 +35,7 @@ class Completion:
         elif body:
             choices = IN_GROUP if not words else self._paths(body.first) if len(words) == 1 else ()
         else:
-            if words and words[0] in FILES:
+            if words and (words[0] in FILES or words in (["picture"], [".picture"])):
                 choices = files(word) if words[0] != "open" else [*self._list("branches"), *files(word)]
             else:
                 choices = self._choices(words)
@@ -47,6 +47,8 @@ class Completion:
             return sorted({*SHAPES, *(OWN if not words else ())} - {"?"})
         if words[0] == "whatif":
             return self._choices(words[1:])
+        if words[0] == "picture":
+            return self._list("branches") if len(words) == 2 else ["open", *self._list("names", words[2])]
         shape = SHAPES.get(words[0], ())
         at = len(words) - 1
         kind = shape[at] if at < len(shape) else shape[-1] if shape and shape[-1].endswith("..") else ""

@@ -4,6 +4,8 @@ from __future__ import annotations
 
 import os
 import shlex
+import shutil
+import subprocess
 import tempfile
 from typing import List
 
@@ -17,14 +19,23 @@ class BadFile(Exception):
 
 def named_file(rest: str, command: str) -> str:
     """The file that a command names: one word, in quotation marks if it has blanks; ~ is the home folder."""
-    try:
-        words = shlex.split(rest)
-    except ValueError:
-        raise BadFile("a quotation mark is not closed") from None
+    words = words_of_file(rest)
     if len(words) != 1 or not words[0]:
         raise BadFile('{} FILE names one file; write one with blanks as "a file"'.format(command))
+    return path_of(words[0])
+
+
+def words_of_file(rest: str) -> List[str]:
+    """The words behind a command, some of which may be in quotation marks."""
+    try:
+        return shlex.split(rest)
+    except ValueError:
+        raise BadFile("a quotation mark is not closed") from None
+
+
+def path_of(word: str) -> str:
     # A line is UTF-8, whatever the names of files are.
-    return os.path.expanduser(os.fsdecode(words[0].encode("utf-8", "surrogateescape")))
+    return os.path.expanduser(os.fsdecode(word.encode("utf-8", "surrogateescape")))
 
 
 def check_target(path: str) -> None:
@@ -33,6 +44,22 @@ def check_target(path: str) -> None:
         raise BadFile("{} is no regular file; nothing is saved".format(path))
     if is_store(path):
         raise BadFile("{} is a store; nothing is saved".format(path))
+
+
+def drawn(dot: str, path: str) -> bytes:
+    """A picture in DOT as a file whose name ends so: as it is, or as Graphviz draws it."""
+    kind = os.path.splitext(path)[1]
+    if kind in (".dot", ".gv"):
+        return dot.encode("utf-8")
+    if kind not in (".svg", ".png", ".pdf"):
+        raise BadFile("{} is no name of a picture: it ends in .svg, .png, .pdf or .dot".format(path))
+    program = shutil.which("dot")
+    if not program:
+        raise BadFile("Graphviz's program dot is not on the PATH: install it, or write {}.dot".format(path[: -len(kind)]))
+    done = subprocess.run([program, "-T" + kind[1:]], input=dot.encode("utf-8"), stdout=subprocess.PIPE, stderr=subprocess.PIPE, check=False)
+    if done.returncode:
+        raise BadFile("dot can't draw it: {}".format(done.stderr.decode(errors="backslashreplace").strip()))
+    return done.stdout
 
 
 def is_store(path: str) -> bool:

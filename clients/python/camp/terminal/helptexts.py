@@ -15,6 +15,7 @@ GROUPS: Sequence[Tuple[str, Sequence[str]]] = (
 # The lines of a group that are not the program's.
 OWN_LINES: Dict[str, Sequence[str]] = {
     "change": ("end: ends the body of an edit", "done: ends a group", "cancel: leaves a record that is not ended"),
+    "ask": ("picture FILE BRANCH [open | NAME ..]: write a picture of patches, what they need and their conflicts",),
     "keep": ("save FILE: write the history to a file of commands", "read FILE: run the commands of a file",
              "open FILE: go on with the repository that is kept in FILE; a new file is made"),
     "talk": ("quit: end; Ctrl-D does the same", "Ctrl-C: cancel the line or the record; twice at an empty prompt: end"),
@@ -38,6 +39,10 @@ TOPICS: Dict[str, Sequence[str]] = {
     "read": ("read FILE: run the commands of FILE; it stops at the first that is not accepted.", *FILE_WORDS),
     "open": ("open FILE: go on with the repository that FILE keeps, or with a new one that FILE keeps from then on.",
              "A word that can be the name of a branch is one: write ./work for a file of the name work.", *FILE_WORDS),
+    "picture": ("picture FILE BRANCH: draw the patches of BRANCH, an arrow to what each needs, and conflicts",
+                "picture FILE BRANCH open: unresolved conflicts alone, and what their patches need",
+                "picture FILE BRANCH NAME ..: these patches, what they need and what needs them",
+                "FILE ends in .svg, .png or .pdf, which Graphviz's dot writes, or in .dot, which is its input.", *FILE_WORDS[:1]),
 }
 TOPICS["exit"] = TOPICS["quit"]
 TOPICS["add"] = TOPICS["remove"] = TOPICS["group"]

@@ -1,13 +1,16 @@
-"""save, read and open: the commands that reach files."""
+"""save, read, open and picture: the commands that reach files."""
 
 from __future__ import annotations
 
 import os
 from typing import Callable, Sequence
 
-from . import interrupts
+from .. import pictures
+from ..errors import Error
+from . import helptexts, interrupts
 from .backend import Backend, Ended
-from .files import BadFile, check_target, lines_of, named_file, write_whole
+from .commands import wrong_name
+from .files import BadFile, check_target, drawn, lines_of, named_file, path_of, words_of_file, write_whole
 from .progress import Progress
 from .screen import Screen, counted
 from .session import Session
@@ -23,7 +26,8 @@ class Conversation(Session):
         super().__init__(backend, screen, is_terminal)
         self._opener = opener
         for word, action in (("save", self.save), ("read", self.read), ("open", self.open)):
-            self.own[word] = self._guarded(word, action)
+            self.own[word] = self._guarded(lambda rest, word=word, action=action: action(named_file(rest, word)))
+        self.own["picture"] = self._guarded(self.picture)
 
     def save(self, path: str) -> None:
         """Writes the history as a script. A file that exists is replaced by the second save in a row."""
@@ -78,10 +82,30 @@ class Conversation(Session):
         self.use(other)
         self.screen.say("opened {}: each accepted call is kept in it".format(path))
 
-    def _guarded(self, word: str, action: Callable[[str], None]) -> Callable[[str], None]:
+    def picture(self, rest: str) -> None:
+        """Draws a branch, patches of it, or its unresolved conflicts. A file that exists is replaced by the same a second time."""
+        words = words_of_file(rest)
+        if len(words) < 2 or not words[0]:
+            raise BadFile(helptexts.OWN_LINES["ask"][0])
+        path, branch, names = path_of(words[0]), words[1], words[2:]
+        wrong = wrong_name(words[1:])
+        if wrong:
+            raise BadFile(wrong)
+        check_target(path)
+        if os.path.lexists(path) and not self.was_warned("picture " + path):
+            return self.warn("picture " + path, "{} exists: the same picture again replaces it".format(path))
+        is_open = names == ["open"] and b"open" not in (listed(self.backend.ask, "names", branch) or [])
+        try:
+            dot = pictures.picture(self.backend.ask, branch, [] if is_open else names, is_open)
+        except (Error, ValueError) as error:
+            raise BadFile(str(error)) from None
+        write_whole(path, drawn(dot, path))
+        self.screen.say("drawn in {}".format(path))
+
+    def _guarded(self, action: Callable[[str], None]) -> Callable[[str], None]:
         def run(rest: str) -> None:
             try:
-                action(named_file(rest, word))
+                action(rest)
             except BadFile as error:
                 self.fail([str(error)])
         return run

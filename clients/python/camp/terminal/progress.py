@@ -1,4 +1,5 @@
-"""How long something takes, on standard error, where that is a terminal: a line that is written anew each second."""
+"""How long something takes, on standard error: at a terminal a line that is written anew each second, elsewhere a line for each
+second, if that is wanted."""
 
 from __future__ import annotations
 
@@ -10,7 +11,10 @@ PAUSE = 1.0
 
 
 class Progress:
-    """One line, which is gone when the work is done. Work that takes less than a second shows none."""
+    """At a terminal one line, which is gone when the work is done. Work that takes less than a second shows none."""
+
+    # Whether it is shown where standard error is no terminal, too.
+    is_wanted = False
 
     def __init__(self) -> None:
         self._is_terminal = sys.stderr.isatty()
@@ -24,10 +28,14 @@ class Progress:
     def tick(self, of: str = "") -> None:
         """Shows how long it takes, and what is done, if a second has passed since the last time."""
         now = time.monotonic()
-        if self._is_terminal and now - self._last >= PAUSE:
-            text = "working: {:.0f} s{}".format(now - self._started, of)
+        if now - self._last < PAUSE:
+            return
+        self._last, text = now, "working: {:.0f} s{}".format(now - self._started, of)
+        if self._is_terminal:
             self._write(text.ljust(self._width))
-            self._last, self._width = now, len(text)
+            self._width = len(text)
+        elif Progress.is_wanted:
+            print(text, file=sys.stderr, flush=True)
 
     def end(self) -> None:
         """Takes the line away."""

@@ -8,22 +8,34 @@ from typing import Optional, Sequence
 
 from ..errors import Unexpected
 from . import interrupts
-from .backend import Ended, Program, open_store
+from .backend import Backend, Ended, NotDone, Program, open_store
 from .completion import Completion
 from .keyboard import EndOfInput, Interrupted, Keyboard, Lines, Pipe
+from .loading import explained
 from .own import Conversation
-from .screen import ALARM, counted, standard_screen
+from .screen import ALARM, complain, counted, standard_screen
 
 FAILED, INTERRUPTED, UNREAD = 3, 130, 141
 
 
-def run(store: Optional[str], loads: Sequence[str]) -> int:
-    """Holds a conversation with a repository, which a store keeps if one is named. Returns the exit status."""
+def open_backend(store: Optional[str], loads: Sequence[str], log: Optional[str]) -> Backend:
+    """What answers: the repository of a log or of a store, or a new one."""
+    if log is not None:
+        from .shared_log import SharedLog
+        return SharedLog(log)
     options = ["--load", *loads] if loads else []
     try:
-        backend = Program(options) if store is None else open_store(store, options)
+        return Program(options) if store is None else open_store(store, options)
     except Ended as error:
-        print("camp: {}".format(error), file=sys.stderr)
+        raise Ended(explained(str(error))) from error
+
+
+def run(store: Optional[str], loads: Sequence[str], log: Optional[str] = None) -> int:
+    """Holds a conversation with a repository, which a store or a log keeps if one is named. Returns the exit status."""
+    try:
+        backend = open_backend(store, loads, log)
+    except Ended as error:
+        complain(str(error))
         return FAILED
     except KeyboardInterrupt:
         return INTERRUPTED
@@ -77,8 +89,12 @@ def step(session: Conversation, lines: Lines) -> None:
     except Ended as error:
         session.is_over, session.status = True, FAILED
         say_ended(session, str(error))
+    except NotDone as error:
+        session.say_news()
+        session.fail([str(error)])
     except Unexpected as error:
         session.fail(["camp_shell is of another version: it answered {}".format(error)])
+    session.say_news()
 
 
 def say_ended(session: Conversation, why: str) -> None:

@@ -83,6 +83,12 @@ def escape_of(letter: str) -> str:
     return "\\x{:02x}".format(code) if code < 256 else "\\u{:04x}".format(code)
 
 
+def complain(text: str) -> None:
+    """Says on standard error why a command ends."""
+    shown = [visible(it.encode(errors="surrogateescape")) for it in text.split("\n")]
+    print("camp: {}".format("\n".join(shown)), file=sys.stderr)
+
+
 def counted(count: int, what: str) -> str:
     """A number of things, in words."""
     return "1 {}".format(what) if count == 1 else "{} {}s".format(count, what)

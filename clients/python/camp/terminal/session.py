@@ -6,12 +6,12 @@ import os
 from typing import Callable, Dict, List, Optional, Sequence
 
 from . import helptexts
-from .backend import Backend
+from .backend import Backend, NotDone
 from .bodies import Body
 from .causes import NONE_YET, Cause, split_cause
 from .commands import CHANGES, SHAPES, begins_body, call_of, is_command, is_name, nearest, no_command, no_sign, words_of
 from .screen import ALARM, HEAD, PLAIN, Screen, counted
-from .unresolved import Line, Watch, listed
+from .unresolved import Line, Watch, foresee, listed
 
 MAIN_PROMPT, BODY_PROMPT = "camp> ", "....> "
 LEFT_OUT = "The line is left out, and the body goes on."
@@ -198,8 +198,13 @@ class Session:
         self.pending = text
         if call and call.branch not in self._changed:
             self.watch.before(call)
-        answer, why = split_cause(self.backend.ask(text + b"why\n"))
+        try:
+            answer, why = split_cause(self.backend.ask(text + b"why\n"))
+        except NotDone:
+            self.pending = b""
+            raise
         self.pending = b""
+        self.say_news()
         if why:
             if call:
                 self.watch.forget(call)
@@ -217,6 +222,11 @@ class Session:
         if words[0] == "whatif":
             self._foresee(answer, words[1:])
 
+    def say_news(self) -> None:
+        """Says what the backend has learnt, if it learns anything from others."""
+        for line in getattr(self.backend, "news", list)():
+            self.screen.say(line, indent="  ")
+
     def end_reading(self) -> None:
         """Goes on with what is typed."""
         self.reading, self.body, self._skipped_kind = None, None, ""
@@ -233,9 +243,9 @@ class Session:
 
     def _foresee(self, answer: bytes, words: Sequence[str]) -> None:
         """Says what the answer of `whatif` means for conflicts, or why it is a refusal."""
-        call, first = call_of(words), answer.split(b"\n")[1].decode("utf-8", "replace")
-        if call and first.startswith("ok "):
-            self._say_changes(self.watch.foresee(call, answer))
+        first = answer.split(b"\n")[1].decode("utf-8", "replace")
+        if call_of(words) and first.startswith("ok "):
+            self._say_changes(foresee(answer))
         elif first.startswith("refused "):
             meaning = listed(self.backend.ask, "help", *first.split(" ")[:2]) or []
             self.screen.say_all(Cause(first, [it.decode("utf-8", "replace") for it in meaning]).in_words())

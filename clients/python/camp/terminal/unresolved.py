@@ -51,17 +51,6 @@ class Watch:
         after = self._known[branch] = self._pairs(branch)
         return self._differences(branch, before, after)
 
-    def foresee(self, call: Call, answer: bytes) -> List[Line]:
-        """What the answer of `whatif` to an accepted call says that would change. What it says of unresolved pairs counts, if it
-        says that; else the pairs in conflict."""
-        parts = parts_of(answer)
-        now = NO_PAIRS if call.kind == "branch" else self._pairs(call.branch)
-        is_known = "open" in parts
-        after, before = (parts["open"], now.unresolved) if is_known else (parts.get("conflicts", frozenset()), now.in_conflict)
-        began = "{} and {} would be in conflict" + (", unresolved" if is_known else "")
-        ended = "{} and {} would be resolved" if is_known else "{} and {} would no longer be in conflict"
-        return capped(after - before, began, ALARM) + capped(before - after, ended, GOOD)
-
     def forget(self, call: Call) -> None:
         """Forgets the branch that a call was to make, if it was not accepted: it may exist."""
         if call.kind == "branch":
@@ -91,6 +80,13 @@ class Watch:
         if len(ended) > MOST_PAIRS:
             found.append(("and resolves {} pairs more".format(len(ended) - MOST_PAIRS), PLAIN))
         return found
+
+
+def foresee(answer: bytes) -> List[Line]:
+    """What the answer of `whatif` to an accepted call says that would change."""
+    parts = parts_of(answer)
+    opened, resolved = (parts.get(word, frozenset()) for word in ("opened", "resolved"))
+    return capped(opened, "{} and {} would be in conflict, unresolved", ALARM) + capped(resolved, "{} and {} would be resolved", GOOD)
 
 
 def capped(pairs: FrozenSet[Pair], words: str, style: str) -> List[Line]:

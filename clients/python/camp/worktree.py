@@ -1,0 +1,200 @@
+"""A folder with the files of a branch: what stands there now, and how it is brought from one tree to another.
+
+Files are those of `camp.coding`. What stands in `.camp` or `.git`, and what `.campignore` lists, is no part of them."""
+
+from __future__ import annotations
+
+import os
+import shutil
+import stat
+from fnmatch import fnmatchcase
+from typing import Dict, Iterator, List, Optional, Set
+
+from .coding import EXECUTABLE, LINK, PLAIN, SUBMODULE, File, Files
+from .errors import Error
+
+OWN = b".camp"
+# Names that are never files of a tree: what stands there is of the program that keeps the folder, or of git.
+RESERVED = (OWN, b".git")
+
+
+class InTheWay(Error):
+    """The folder can't have such files as it is: a name that is not allowed, or something that would be lost."""
+
+
+class Unusable(Error):
+    """A file can't be read, or new ones can't be written: rights, or a full disk."""
+
+
+def text(path: bytes) -> str:
+    """A path as it is shown: what is no text is escaped."""
+    shown = path.decode("utf-8", "backslashreplace")
+    return "".join(c if c.isprintable() else "\\x%02x" % ord(c) for c in shown)
+
+
+class Ignored:
+    """The patterns of `.campignore`, one on a line: `*.o` is any file or folder of such a name, `build/` a folder, `docs/*.pdf`
+    a path from the top. A line that begins with `#` is a comment."""
+
+    def __init__(self, top: bytes) -> None:
+        try:
+            with open(os.path.join(top, b".campignore"), "rb") as file:
+                lines = [line.strip() for line in file.read().split(b"\n")]
+        except FileNotFoundError:
+            lines = []
+        self.patterns = [line for line in lines if line and not line.startswith(b"#")]
+
+    def has(self, path: bytes, is_folder: bool) -> bool:
+        """Whether a pattern is for this path."""
+        for pattern in self.patterns:
+            bare = pattern.strip(b"/")
+            subject = path if b"/" in pattern.rstrip(b"/") else os.path.basename(path)
+            if fnmatchcase(os.fsdecode(subject), os.fsdecode(bare)) and (is_folder or not pattern.endswith(b"/")):
+                return True
+        return False
+
+
+def read_file(top: bytes, path: bytes) -> Optional[File]:
+    """A file as it is; None where there is none."""
+    place = os.path.join(top, path)
+    try:
+        mode = os.lstat(place).st_mode
+        if stat.S_ISLNK(mode):
+            return File(LINK, os.readlink(place))
+        if not stat.S_ISREG(mode):
+            return None
+        with open(place, "rb") as file:
+            return File(EXECUTABLE if mode & stat.S_IXUSR else PLAIN, file.read())
+    except (FileNotFoundError, NotADirectoryError):
+        return None
+    except PermissionError:
+        raise Unusable("{} can't be read: chmod u+r it, or list it in .campignore".format(text(path))) from None
+
+
+def scan(top: bytes, base: Files) -> Files:
+    """The files of the working tree; those that are ignored count where the base has them."""
+    ignored, folders = Ignored(top), {path[:at] for path in base for at, byte in enumerate(path) if byte == 0x2F}
+    found = {path: file for path, file in base.items() if file.mode == SUBMODULE}
+    for path in _walk(top, b"", ignored, folders):
+        if path in base or not ignored.has(path, False):
+            file = read_file(top, path)
+            if file is not None:
+                found[path] = file
+    return found
+
+
+def _walk(top: bytes, folder: bytes, ignored: Ignored, folders: Set[bytes]) -> Iterator[bytes]:
+    with os.scandir(os.path.join(top, folder)) as entries:
+        for entry in entries:
+            path = os.path.join(folder, entry.name)
+            if entry.name.lower() in RESERVED:
+                continue
+            if not entry.is_dir(follow_symlinks=False):
+                yield path
+            elif path in folders or not ignored.has(path, True):
+                yield from _walk(top, path, ignored, folders)
+
+
+def changed(before: Files, after: Files) -> List[bytes]:
+    """The paths whose files differ."""
+    return sorted(path for path in before.keys() | after.keys() if before.get(path) != after.get(path))
+
+
+def check_names(files: Files) -> None:
+    """`InTheWay` where a working tree can't have files of these names."""
+    for path, file in sorted(files.items()):
+        parts = path.split(b"/")
+        if file.mode == LINK and (not file.content or b"\0" in file.content):
+            raise InTheWay("{}: a symbolic link can't lead there".format(text(path)))
+        if any(part in (b"", b".", b"..") or part.lower() in RESERVED or b"\0" in part or len(part) > 255 for part in parts):
+            raise InTheWay("{}: a working tree can't have a file of this name".format(text(path)))
+        for at in range(1, len(parts)):
+            if b"/".join(parts[:at]) in files:
+                raise InTheWay("{} is a file and a folder: a working tree can't have both".format(text(b"/".join(parts[:at]))))
+
+
+class Update:
+    """A way from one tree to another: all new files are written aside first, so a full disk leaves the working tree as it was."""
+
+    def __init__(self, top: bytes, before: Files, after: Files, paths: Optional[List[bytes]] = None) -> None:
+        self.top, self.before, self.after = top, before, after
+        self.paths = changed(before, after) if paths is None else paths
+        self.stage = os.path.join(top, OWN, b"stage")
+        check_names(after)
+        self._check_ways()
+        try:
+            self._write_aside()
+        except OSError as error:
+            shutil.rmtree(self.stage, ignore_errors=True)
+            advice = "make room, and try again; nothing has changed"
+            raise Unusable("the new files can't be written: {}: {}".format(error.strerror, advice)) from None
+
+    def _check_ways(self) -> None:
+        """What stands in the way of a new file is not written over."""
+        for path in self.paths:
+            parts = path.split(b"/")
+            ways = [b"/".join(parts[:at]) for at in range(1, len(parts) + 1)] if path in self.after else []
+            for way in ways:
+                place = os.path.join(self.top, way)
+                is_well = way in self.before or not os.path.lexists(place) or (os.path.isdir(place) and not os.path.islink(place))
+                if way == path and os.path.isdir(place) and not os.path.islink(place) and any(os.scandir(place)):
+                    is_well = any(it.startswith(way + b"/") for it in self.before)
+                if not is_well:
+                    raise InTheWay("{} is in the way: move it elsewhere, and try again; nothing has changed".format(text(way)))
+
+    def _write_aside(self) -> None:
+        shutil.rmtree(self.stage, ignore_errors=True)
+        os.makedirs(self.stage)
+        for number, path in enumerate(self.paths):
+            place, file = os.path.join(self.stage, b"%d" % number), self.after.get(path)
+            if file is None or file.mode == SUBMODULE:
+                continue
+            if file.mode == LINK:
+                os.symlink(file.content, place)
+                continue
+            with open(place, "xb") as opened:
+                opened.write(file.content)
+            if file.mode == EXECUTABLE:
+                os.chmod(place, os.stat(place).st_mode | 0o111)
+
+    def install(self) -> None:
+        """Moves the new files to their places, and takes the old ones away."""
+        for path in sorted((it for it in self.paths if it not in self.after or self._is_folder(it)), reverse=True):
+            self._remove(path)
+        for number, path in enumerate(self.paths):
+            place = os.path.join(self.stage, b"%d" % number)
+            if path in self.after and os.path.lexists(place):
+                os.makedirs(os.path.dirname(os.path.join(self.top, path)), exist_ok=True)
+                os.replace(place, os.path.join(self.top, path))
+        shutil.rmtree(self.stage, ignore_errors=True)
+
+    def _is_folder(self, path: bytes) -> bool:
+        place = os.path.join(self.top, path)
+        return os.path.isdir(place) and not os.path.islink(place)
+
+    def _remove(self, path: bytes) -> None:
+        """Removes a file, and the folders that it leaves empty."""
+        place = os.path.join(self.top, path)
+        if os.path.lexists(place) and not self._is_folder(path):
+            os.unlink(place)
+        folder = place if self._is_folder(path) else os.path.dirname(place)
+        while folder != self.top and os.path.isdir(folder) and not any(os.scandir(folder)):
+            os.rmdir(folder)
+            folder = os.path.dirname(folder)
+
+
+def finish(top: bytes, before: Files, after: Files, is_record: bool) -> Dict[bytes, bytes]:
+    """Ends an update that was interrupted: files that are as before become those after. What was changed since is left where it
+    was recorded, else moved aside; the answer has these, and where they are now."""
+    moved: Dict[bytes, bytes] = {}
+    old = {path: read_file(top, path) for path in changed(before, after)}
+    todo = [path for path, file in old.items() if file != after.get(path)]
+    others = [path for path in todo if old[path] != before.get(path)]
+    if is_record:
+        return moved
+    for path in others:
+        if old[path] is not None:
+            moved[path] = path + b".saved"
+            os.replace(os.path.join(top, path), os.path.join(top, moved[path]))
+    Update(top, before, after, todo).install()
+    return moved
