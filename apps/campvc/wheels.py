@@ -18,11 +18,12 @@ Provides-Extra: web
 Requires-Dist: aiohttp; extra == "web"
 Requires-Dist: jinja2; extra == "web"
 """
+WHEEL = "Wheel-Version: 1.0\nGenerator: campvc\nRoot-Is-Purelib: true\nTag: py3-none-any\n"
 
 
 def build_wheel(wheel_directory, config_settings=None, metadata_directory=None):
     name = f"campvc-{VERSION}-py3-none-any.whl"
-    texts = {ABOUT + "METADATA": METADATA, ABOUT + "WHEEL": "Wheel-Version: 1.0\nGenerator: campvc\nRoot-Is-Purelib: true\nTag: py3-none-any\n",
+    texts = {ABOUT + "METADATA": METADATA, ABOUT + "WHEEL": WHEEL,
              ABOUT + "entry_points.txt": "[console_scripts]\ncampvc = campvc.__main__:main\n"}
     for folder, _, files in os.walk(os.path.join(HERE, "campvc")):
         for file in files:

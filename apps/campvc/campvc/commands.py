@@ -7,19 +7,21 @@ import contextlib
 import os
 import secrets
 import shutil
-from typing import Iterable, List, Optional
+from typing import Collection, List, Optional
 
-from camp import Change, NoBranch
+from camp import Change, NoBranch, sides
 from camp.changes import command, record_command
-from camp.coding import decode, encode_path
+from camp.coding import decode, encode_path, file_changes, file_name
+from camp.diffs import in_patches
+from camp.notes import Note, patch_name, slug
+from camp.worktree import changed, text
 
-from . import Failure, notes, show, worktree
-from .conflicts import by_file, check_marks, decisions, marked_files, remember_marked
-from .copy import Copy, reading, uninterrupted, writing
-from .patches import file_changes, groups, select
-from .show import counted, emit, listed
+from . import Failure, show
+from .conflicts import check_marks, marked_files, remember_marked
+from .copy import Copy, reading, writing
+from .patches import default_author, new_note, select
+from .show import counted, emit
 from .state import State
-from .worktree import text
 
 Words = argparse.Namespace
 
@@ -34,34 +36,27 @@ def new_copy(folder: bytes, address: str, name: Optional[str], branch: str, must
         raise Failure("there is no log {}: `campvc init --log {}` makes one".format(path, address), 128)
     if must_exist and os.path.isdir(top) and os.listdir(top):
         raise Failure("{} is not empty: name a new folder, `campvc clone LOG FOLDER`".format(text(top)), 128)
-    author = notes.default_author()
-    name = name or os.environ.get("CAMPVC_COPY") or "{}-{}".format(notes.slug(author.split(" ")[0], 10), secrets.token_hex(2))
-    if notes.slug(name, 12) != name:
+    author = default_author()
+    name = name or os.environ.get("CAMPVC_COPY") or "{}-{}".format(slug(author.split(" ")[0], 10), secrets.token_hex(2))
+    if slug(name, 12) != name:
         raise Failure("{} is no name of a copy: take up to 12 of a to z, 0 to 9 and `-`".format(name), 128)
     is_new = not os.path.isdir(top)
     os.makedirs(os.path.join(top, b".camp"))
     try:
-        state = State(top)
-        with state.transaction():
-            for key, value in (("log", address), ("branch", branch), ("author", author), ("copy", name)):
-                state.set(key, value)
+        State(top).update(log=address, branch=branch, author=author, copy=name)
         with contextlib.chdir(top), writing() as copy:
-            first_steps(copy, branch)
+            if copy.away:
+                raise Failure("the log {} does not answer: {}; start it, or correct the address".format(address, copy.away), 128)
+            emit("copy {} of branch {}, on the log {}".format(copy.name, branch, copy.address))
     except BaseException:
         shutil.rmtree(top if is_new else os.path.join(top, b".camp"), ignore_errors=True)
         raise
 
 
-def first_steps(copy: Copy, branch: str) -> None:
-    """Looks at what a new copy was given."""
-    if copy.away:
-        raise Failure("the log {} does not answer: {}; start it, or correct the address".format(copy.address, copy.away), 128)
-    emit("copy {} of branch {}, on the log {}".format(copy.name, branch, copy.address))
-
-
 def init(words: Words) -> int:
     top = os.path.abspath(os.fsencode(words.folder))
-    new_copy(top, absolute(words.log) or "sqlite:{}".format(os.fsdecode(os.path.join(top, b".camp", b"log.db"))), words.copy, "main", False)
+    own_log = "sqlite:{}".format(os.fsdecode(os.path.join(top, b".camp", b"log.db")))
+    new_copy(top, absolute(words.log) or own_log, words.copy, "main", False)
     return 0
 
 
@@ -88,18 +83,19 @@ def status(words: Words) -> int:
     with reading() as copy:
         emit("on branch {} (copy {})".format(copy.branch, copy.name))
         here, there = copy.shared.missing(copy.own, copy.branch), copy.shared.missing(copy.branch, copy.own)
-        for count, what in ((counted(len(copy.state.waiting()), "call"), "wait for the log: `campvc sync` sends them"),
-                            (counted(len(there), "patch"), "of {} not here: `campvc sync` takes over".format(copy.branch)),
-                            (counted(len(here), "patch"), "here not in {}: taken out there, or not accepted; see `campvc sync`".format(copy.branch))):
-            if not count.startswith("0 "):
-                emit("  {} {}".format(count, what))
-        base = copy.state.base()
-        if base != copy.own_files():
+        if copy.waiting():
+            emit("  {} wait for the log: `campvc sync` sends them".format(counted(len(copy.waiting()), "call")))
+        if there:
+            emit("  {} of {} not here: `campvc sync` takes over".format(counted(len(there), "patch"), copy.branch))
+        if here:
+            problem = "  {} here not in {}: taken out there, or not accepted; see `campvc sync`"
+            emit(problem.format(counted(len(here), "patch"), copy.branch))
+        base, files = copy.state.base(), copy.scan()
+        if copy.is_interrupted():
             emit("  a command was interrupted: `campvc sync` finishes it")
-        for path, pairs in copy.unresolved_files(copy.own).items():
+        for path, pairs in copy.unresolved().items():
             emit("  conflict in {}: {}".format(text(path), "; ".join("{} and {}".format(*pair) for pair in pairs)), show.RED)
-        files = copy.scan()
-        for path in worktree.changed(base, files):
+        for path in changed(base, files):
             kind = "new" if path not in base else "removed" if path not in files else "changed"
             emit("  {:8} {}".format(kind, text(path)), show.GREEN)
         if files == base:
@@ -107,7 +103,7 @@ def status(words: Words) -> int:
     return 0
 
 
-def chosen(copy: Copy, paths: List[str], found: List[bytes], known: Iterable[bytes]) -> List[bytes]:
+def chosen(copy: Copy, paths: List[str], found: List[bytes], known: Collection[bytes]) -> List[bytes]:
     """Those of some files that stand at or below some paths, or all; a path has to be one of what is known."""
     if not paths:
         return found
@@ -126,46 +122,43 @@ def chosen(copy: Copy, paths: List[str], found: List[bytes], known: Iterable[byt
 def diff_command(words: Words) -> int:
     with reading() as copy:
         base, files = copy.state.base(), copy.scan()
-        show.print_diff(base, files, chosen(copy, words.paths, worktree.changed(base, files), {**files, **base}))
+        show.print_diff(base, files, chosen(copy, words.paths, changed(base, files), {**files, **base}))
     return 0
 
 
 def record(words: Words) -> int:
     with writing() as copy:
-        base, files = copy.state.base(), copy.scan()
-        in_conflict = {path: places for path, places in by_file(copy).items() if path in marked_files(copy)}
-        paths = chosen(copy, words.paths, sorted({*worktree.changed(base, files), *in_conflict}), {**files, **base, **in_conflict})
+        base, files, marked = copy.state.base(), copy.scan(), marked_files(copy)
+        found = {path: pairs for path, pairs in sides.unresolved(copy.shared, copy.own).items() if file_name(path) in marked}
+        in_conflict = {file_name(path) for path in found}
+        paths = chosen(copy, words.paths, sorted({*changed(base, files), *in_conflict}), {*files, *base, *in_conflict})
         for path in paths:
-            if path in files and path in marked_files(copy):
-                check_marks(text(path), files[path].content)
-        old = copy.shared.tree(copy.own)
+            if path in files and path in marked:
+                check_marks(path, files[path].content)
+        old = copy.own_tree(paths)
         changes = [file_changes(old, files, path) for path in paths]
         changes = select(changes) if words.interactive else changes
-        all_changes = [it for some in changes for it in some]
-        changes.append(decisions(copy, old, [place for path in paths for place in in_conflict.get(path, [])], all_changes))
+        decided, all_changes = [path for path in found if file_name(path) in paths], [it for some in changes for it in some]
+        changes.append(sides.decisions(copy.shared, copy.own, decided, found, all_changes))
         if not any(changes):
             emit("nothing to record")
             return 1
-        note = notes.new_note(words.message if words.message is not None else show.ask("What is it for? "), copy.state.get("author"))
+        message = words.message if words.message is not None else show.ask("What is it for? ")
         before = set(copy.shared.open(copy.own))
-        record_changes(copy, groups(changes), note)
-        remember_marked(copy, [path for path in marked_files(copy) if path not in paths])
+        record_changes(copy, in_patches(changes), new_note(message, copy.state.get("author")), paths)
+        remember_marked(copy, [path for path in marked if path not in paths])
         for pair in sorted(before - set(copy.shared.open(copy.own))):
             emit("resolves the conflict of {} and {}".format(*pair))
-        show.tell(copy)
     return 0
 
 
-def record_changes(copy: Copy, parts: List[List[Change]], note: notes.Note) -> None:
-    """Records patches and publishes them."""
-    name = notes.patch_name(note, [it for part in parts for it in part], copy.name)
+def record_changes(copy: Copy, parts: List[List[Change]], note: Note, paths: List[bytes]) -> None:
+    """Records patches of these files, and publishes them."""
+    name = patch_name(note, [it for part in parts for it in part], copy.name)
     names = ["{}-{}".format(name, at + 1) for at in range(len(parts) - 1)] + [name]
     others = set(copy.shared.open(copy.branch))
-    with uninterrupted():
-        copy.state.set("doing", "record")
-        copy.ask_all([(record_command(copy.own, one, part), note.text()) for one, part in zip(names, parts)])
-        copy.state.set_base(copy.own_files())
-        copy.publish(names)
+    copy.record([(record_command(copy.own, one, part), note.text()) for one, part in zip(names, parts)], paths)
+    copy.publish(names)
     emit("recorded {}{}".format(name, " in {} patches".format(len(names)) if len(names) > 1 else ""))
     if any(set(pair) & set(names) for pair in set(copy.shared.open(copy.branch)) - others):
         emit("in {} it is in conflict with what others recorded: `campvc sync` takes that over".format(copy.branch))
@@ -173,21 +166,19 @@ def record_changes(copy: Copy, parts: List[List[Change]], note: notes.Note) -> N
 
 def log(words: Words) -> int:
     with reading() as copy:
-        show.print_log(copy, words.branch or copy.own, with_graph=words.graph)
+        (show.print_graph if words.graph else show.print_log)(copy, words.branch or copy.own)
     return 0
 
 
 def show_command(words: Words) -> int:
     with reading() as copy:
         name = copy.name_of(words.patch)
-        show.print_patch(copy, name, states=show.states_of(copy, copy.own))
-        in_conflict = any(name in pair for pair in copy.shared.conflicts(copy.own))
+        state = show.states_of(copy, copy.own).get(name, "")
+        show.print_patch(copy, name, state)
         for title, names in (("needs", copy.shared.needs(copy.own, [name])), ("holds", copy.shared.held(copy.own, [name]))):
-            others = [it for it in names if it != name]
-            emit("{:7} {}".format(title, listed(others) or "no other patch"))
-        emit("\nits side, as changes of what is there now:" if in_conflict else "")
-        for line, colour in show.change_lines(copy.shared.side(copy.own, name) if in_conflict else copy.shared.show(copy.own, name).changes):
-            emit(line, colour)
+            emit("{:7} {}".format(title, ", ".join(it for it in names if it != name) or "no other patch"))
+        emit("\nits side, as changes of what is there now:" if state else "")
+        show.print_changes(copy.shared.side(copy.own, name) if state else copy.shared.show(copy.own, name).changes)
     return 0
 
 
@@ -200,7 +191,8 @@ def annotate(words: Words) -> int:
         width = max([len(line.name) for line in lines] or [0])
         for line in lines:
             note = copy.note(line.name)
-            emit("{:{}} {:10.10} {:10} ".format(line.name, width, note.who, note.date[:10]).encode("utf-8", "surrogateescape") + line.line)
+            head = "{:{}} {:10.10} {:10} ".format(line.name, width, note.who, note.date[:10])
+            emit(head.encode("utf-8", "surrogateescape") + line.line)
     return 0
 
 
@@ -216,11 +208,10 @@ def branches(words: Words) -> int:
 
 def branch(words: Words) -> int:
     with writing() as copy:
-        if notes.slug(words.name, 38 - len(copy.name)) != words.name:
+        if slug(words.name, 38 - len(copy.name)) != words.name:
             raise Failure("{} is no name of a branch: take up to {} of a to z, 0 to 9 and `-`".format(words.name, 38 - len(copy.name)))
         copy.ask("branch", words.name, copy.own)
         emit("branch {} is as {} is here; `campvc switch {}` works on it".format(words.name, copy.branch, words.name))
-        show.tell(copy)
     return 0
 
 
@@ -230,52 +221,45 @@ def switch(words: Words) -> int:
         if words.name not in copy.shared.branches():
             raise NoBranch(words.name)
         copy.check_clean("switch")
-        with uninterrupted():
-            if own not in copy.shared.branches():
-                copy.ask("branch", own, words.name)
-            update = worktree.Update(copy.top, copy.state.base(), decode(copy.shared.tree(own)))
-            copy.state.set("doing", "update")
-            copy.state.set("branch", words.name)
-            update.install()
-            copy.state.set_base(update.after)
+        is_new = own not in copy.shared.branches()
+        calls = [(command("branch", own, words.name), b"")] if is_new else []
+        copy.bring(calls, decode(copy.shared.tree(words.name if is_new else own)), words.name)
         lacks = copy.shared.missing(copy.branch, copy.own)
-        emit("on branch {}{}".format(copy.branch, "; {} of it not here: `campvc sync` takes over".format(counted(len(lacks), "patch")) if lacks else ""))
-        show.tell(copy)
+        more = "; {} of it not here: `campvc sync` takes over".format(counted(len(lacks), "patch")) if lacks else ""
+        emit("on branch {}{}".format(copy.branch, more))
     return 0
 
 
 def take(copy: Copy, branch: str, names: List[str], yes: bool, publish: bool = True) -> int:
     """Pulls patches into this copy, with all that they need; says which, and what is in conflict then."""
-    listed_names = copy.shared.along(branch, copy.own, names)
-    more = [name for name in listed_names if name not in names]
+    listed = copy.along(branch, copy.own, names)
+    more = [name for name in listed if name not in names]
     emit("from {}:".format(branch))
-    show.print_names(copy, listed_names)
+    show.print_names(copy, listed)
     if more and not show.agreed("{} of these come along, since the others need them. Pull all?".format(len(more)), yes):
         raise Failure("nothing is pulled")
-    before = copy.unresolved_files(copy.own)
-    outcome = copy.shared.whatif.pull(branch, copy.own, listed_names)
-    copy.bring([(command("pull", branch, copy.own, *listed_names), b"")], decode(outcome.tree))
+    before = copy.unresolved()
+    outcome = copy.shared.whatif.pull(branch, copy.own, listed)
+    copy.bring([(command("pull", branch, copy.own, *listed), b"")], decode(outcome.tree))
     if publish:
-        copy.publish(listed_names)
-    now = {path: [pair for pair in pairs if pair not in before.get(path, [])] for path, pairs in copy.unresolved_files(copy.own).items()}
-    for path, pairs in now.items():
-        for pair in pairs:
-            emit("conflict in {}: {} and {}".format(text(path), *pair), show.RED)
-    if any(now.values()):
+        copy.publish(listed)
+    new = [(path, pair) for path, pairs in copy.unresolved().items() for pair in pairs if pair not in before.get(path, [])]
+    for path, pair in new:
+        emit("conflict in {}: {} and {}".format(text(path), *pair), show.RED)
+    if new:
         emit("neither side of a conflict has an effect until it is decided: `campvc resolve` shows the sides in the files")
-    return 1 if any(now.values()) else 0
+    return 1 if new else 0
 
 
 def pull(words: Words) -> int:
     with writing() as copy:
         copy.check_clean("pull")
-        names = [copy.name_of(it, words.branch) for it in words.patches] or copy.shared.missing(words.branch, copy.own)
-        if not copy.shared.missing(words.branch, copy.own) or not copy.shared.along(words.branch, copy.own, names):
+        missing = copy.shared.missing(words.branch, copy.own)
+        names = [copy.name_of(it, words.branch) for it in words.patches] or missing
+        if not set(names) & set(missing):
             emit("nothing to pull: all of it is here")
             return 1
-        status = take(copy, words.branch, names, words.yes)
-        show.tell(copy)
-    return status
+        return take(copy, words.branch, names, words.yes)
 
 
 def sync(words: Words) -> int:
@@ -288,10 +272,10 @@ def sync(words: Words) -> int:
         if lacks and words.publish:
             copy.publish(lacks)
         elif lacks:
-            emit("{} lacks what is here; `campvc obliterate` takes it out here too, `campvc sync --publish` puts it there:".format(copy.branch))
+            advice = "`campvc obliterate` takes it out here too, `campvc sync --publish` puts it there:"
+            emit("{} lacks what is here; {}".format(copy.branch, advice))
             show.print_names(copy, lacks)
         emit("in step with {}".format(copy.branch) if not copy.away else "{} is as it was read last".format(copy.branch))
-        show.tell(copy)
     return 1 if copy.away else status
 
 
@@ -315,21 +299,17 @@ def take_out(words: Words, patches: List[str], keeps_files: bool) -> int:
         there = [name for name in held if name in copy.shared.names(copy.branch)]
         others = [name for name in copy.shared.held(copy.branch, there) if name not in held]
         if others:
-            raise Failure("in {} patches of others need this: {}; `campvc sync`, and name them too".format(copy.branch, listed(others)))
+            problem = "in {} patches of others need this: {}; `campvc sync`, and name them too"
+            raise Failure(problem.format(copy.branch, ", ".join(others)))
         emit("to be taken out:")
         show.print_names(copy, held)
         if (len(held) > len(names) or not patches) and not show.agreed("All of these go. Go on?", words.yes):
             raise Failure("nothing is taken out")
-        outcome = copy.shared.whatif.obliterate(copy.own, held)
         calls = [(command("obliterate", branch, *some), b"") for branch, some in ((copy.own, held), (copy.branch, there)) if some]
         if keeps_files:
-            with uninterrupted():
-                copy.state.set("doing", "record")
-                copy.ask_all(calls)
-                copy.state.set_base(copy.own_files())
+            copy.record(calls)
         else:
-            copy.bring(calls, decode(outcome.tree))
-        show.tell(copy)
+            copy.bring(calls, decode(copy.shared.whatif.obliterate(copy.own, held).tree))
     return 0
 
 
@@ -337,5 +317,6 @@ def web(words: Words) -> int:
     try:
         from .web import serve
     except ImportError as error:
-        raise Failure("the page needs {}: apt-get install python3-aiohttp python3-jinja2, and run campvc with /usr/bin/python3".format(error.name), 128) from None
+        advice = "apt-get install python3-aiohttp python3-jinja2, and run campvc with /usr/bin/python3"
+        raise Failure("the page needs {}: {}".format(error.name, advice), 128) from None
     return serve(words.port, words.host)

@@ -10,21 +10,26 @@ import contextlib
 import os
 import signal
 import sqlite3
-from typing import Dict, Iterator, List, Optional, Sequence, Tuple
+from typing import Dict, Iterator, List, Sequence
 
-from camp import Conflict, NoBranch, OutcomeUnknown
+from camp import Conflict, NoBranch, sides, worktree
 from camp.changes import command
-from camp.coding import Files, decode, file_name
+from camp.coding import Files, decode, places
 from camp.errors import error_of
-from camp.logs import Away, Damaged, Foreign, Log, RememberedLog, open_log
-from camp.shared import NOT_TAKEN, Shared, Stopped
+from camp.logs import Away, Damaged, Foreign, Log, open_log, title_with
+from camp.notes import Note, read_note
+from camp.offline import Calls, Offline
+from camp.shared import NOT_TAKEN, Stopped
 
-from . import Failure, worktree
-from .notes import Note, read_note
-from .state import Calls, State, locked
+from . import Failure, show
+from .state import State, locked
 
+# What a repository on a new log holds at most: changes in a branch, and branches, of which each copy has one.
+CATCHES, BRANCHES = 1_000_000, 16_384
 # Refusals of a call that waited which say that it was done already: the branch or the patch is there, or is gone.
 DONE_ALREADY = ("5", "6", "7", "8")
+# What a command is doing, as `recover` of the next one finds it.
+UPDATE, RECORD, NOTHING = "update", "record", "nothing"
 
 
 def find_top() -> bytes:
@@ -50,16 +55,16 @@ def uninterrupted() -> Iterator[None]:
         raise KeyboardInterrupt
 
 
-class Copy:
-    """A working copy. `away` says why the log can't be asked now, if it can't."""
+class Copy(Offline):
+    """A working copy: its repository, which goes on where the log is away, and its folder."""
 
     def __init__(self, top: bytes) -> None:
-        self.top, self.state, self.away, self.warnings = top, State(top), "not asked", []  # type: bytes, State, str, List[str]
-        self.shared: Shared = None
-        self.log: RememberedLog = None
+        self.top, self.state, self.warnings = top, State(top), []  # type: bytes, State, List[str]
         self.name, self.address = self.state.get("copy"), self.state.get("log")
         if not self.name:
-            raise Failure("{} is not complete: its making was interrupted; remove it, and try again".format(worktree.text(os.path.join(top, b".camp"))), 128)
+            folder = worktree.text(os.path.join(top, b".camp"))
+            raise Failure("{} is not complete: its making was interrupted; remove it, and try again".format(folder), 128)
+        super().__init__(os.path.join(os.fsdecode(top), ".camp", "seen.db"))
 
     @property
     def branch(self) -> str:
@@ -74,67 +79,13 @@ class Copy:
     def own_of(self, branch: str) -> str:
         return "{}--{}".format(branch, self.name)
 
-    def open(self, engine: Optional[Log] = None) -> Copy:
-        """Reads what is known, and from an engine what is new. Without one, what waits is executed here."""
-        self.log = RememberedLog(os.path.join(os.fsdecode(self.top), ".camp", "seen.db"), engine)
-        self.shared = Shared(self.log)
-        self.shared.sync()
-        if engine is None:
-            self.shared.execute_here(self.state.waiting())
-        return self
-
-    def complete(self) -> Copy:
-        """Itself, unless its making was interrupted."""
-        if self.own not in self.shared.branches():
-            raise Failure("this copy is not complete: `campvc sync` completes it", 128)
-        return self
-
-    def version(self) -> Tuple[int, Calls]:
-        """A value that changes when another command changes what is shown."""
-        return self.log.known(), self.state.waiting()
-
-    def close(self) -> None:
-        for one in (self.shared, self.log):
-            if one is not None:
-                one.close()
-
-    def connect(self) -> None:
-        """Asks the log for what is new, and for all that waits."""
-        try:
-            self.open(connection(self.address, bool(self.state.get("doing"))))
-            self.away = ""
-            self._send(self.state.waiting())
-        except (Away, OutcomeUnknown) as error:
-            self.go_offline(str(error))
-
-    def go_offline(self, why: str) -> None:
-        self.close()
-        self.away = why
-        self.open()
-
-    def _send(self, waiting: Calls) -> None:
-        """Asks what waited, and says what is refused for good. What was done already is refused as such."""
-        if not waiting:
-            return
-        for (call, _), answer in zip(waiting, self.shared.write_all(waiting)):
-            words = answer.decode("ascii", "replace").split()
-            if words[0] != "ok" and words[1] not in DONE_ALREADY:
+    def synchronise(self) -> None:
+        """Asks the log for what is new and for all that waits, and says what is refused for good."""
+        for call, answer in self.connect(lambda: connection(self.address, bool(self.state.get("doing")))):
+            self.state.set("doing", UPDATE)
+            if answer.split()[1].decode() not in DONE_ALREADY:
                 first = call.split(b"\n")[0].decode()
                 self.warnings.append("the log refuses what waited for it, `{}`: {}".format(first, error_in(answer)))
-        with self.state.transaction():
-            self.state.db.execute("DELETE FROM waiting")
-
-    def write(self, calls: Calls) -> List[bytes]:
-        """Asks calls, and returns their answers. Where the log is away they are executed here, and wait for it."""
-        if not self.away:
-            try:
-                return self.shared.write_all(calls)
-            except OutcomeUnknown as error:
-                self.go_offline(str(error))
-        answers = self.shared.execute_here(calls)
-        with self.state.transaction():
-            self.state.wait([call for call, answer in zip(calls, answers) if answer.startswith(b"ok")])
-        return answers
 
     def ask(self, *words: str) -> None:
         """Asks one call of one line; a refusal is raised."""
@@ -146,13 +97,19 @@ class Copy:
             if not answer.startswith(b"ok"):
                 raise error_in(answer)
 
+    def along(self, origin: str, to: str, names: Sequence[str]) -> List[str]:
+        """What a pull of these patches lists. The library is asked only where something else is missing, too."""
+        missing = self.shared.missing(origin, to)
+        return missing if set(missing) <= set(names) else self.shared.along(origin, to, names)
+
     def publish(self, names: Sequence[str]) -> None:
         """Pulls patches of the own branch into the one that all share. Where that is refused they stay here."""
-        listed = self.shared.along(self.own, self.branch, names) if names else []
+        listed = self.along(self.own, self.branch, names) if names else []
         if listed:
             (answer,) = self.write([(command("pull", self.own, self.branch, *listed), b"")])
             if not answer.startswith(b"ok"):
-                self.warnings.append("{} does not take {}: {}; it stays in this copy".format(self.branch, ", ".join(names), error_in(answer)))
+                problem = "{} does not take {}: {}; it stays in this copy"
+                self.warnings.append(problem.format(self.branch, ", ".join(names), error_in(answer)))
 
     def own_files(self) -> Files:
         """The files of the own branch; none where it is not made yet."""
@@ -161,19 +118,33 @@ class Copy:
         except NoBranch:
             return {}
 
+    def own_tree(self, paths: Sequence[bytes]) -> Dict[str, List[bytes]]:
+        """What the own branch has of some files, as a tree of camp."""
+        found = {place: self.shared.file(self.own, place) for path in paths for place in places(path)}
+        return {place: lines for place, lines in found.items() if lines is not None}
+
     def recover(self) -> None:
         """Ends what an interrupted command began: makes the own branch, and brings the working tree to it."""
         if self.own not in self.shared.branches():
             self.ask("branch", self.own, self.branch)
         elif not self.state.get("doing"):
             raise Failure("there is a copy {} on this log already: name this one with --copy".format(self.name))
+        elif self.state.get("doing") == NOTHING:
+            return
         base, own = self.state.base(), self.own_files()
-        if base != own:
-            with uninterrupted():
-                moved = worktree.finish(self.top, base, own, self.state.get("doing") == "record")
-                self.state.set_base(own)
-            self.warnings.append("a command that was interrupted is finished now")
-            self.warnings += ["{} was changed meanwhile: what you had there is in {}".format(*map(worktree.text, it)) for it in moved.items()]
+        with uninterrupted():
+            if base != own:
+                moved = worktree.finish(self.top, base, own, self.state.get("doing") == RECORD)
+                if self.state.get("doing"):
+                    self.warnings.append("a command that was interrupted is finished now")
+                for path, place in moved.items():
+                    self.warnings.append("{} was changed meanwhile: what you had there is in {}".format(
+                        worktree.text(path), worktree.text(place)))
+            self.state.update(own, doing=NOTHING)
+
+    def is_interrupted(self) -> bool:
+        """Whether a command was interrupted, and left the working tree behind the own branch."""
+        return self.state.get("doing") != NOTHING and self.state.base() != self.own_files()
 
     def scan(self) -> Files:
         """The files as they are in the working tree."""
@@ -184,20 +155,34 @@ class Copy:
         dirty = worktree.changed(self.state.base(), self.scan())
         if dirty:
             names = "".join("\n    {}".format(worktree.text(path)) for path in dirty[:10]) + "\n    .." * (len(dirty) > 10)
-            raise Failure("{}: the working tree has changes that are not recorded; `campvc record` them, or take them back, and try again:{}"
-                          .format(what, names))
+            raise Failure("{}: the working tree has changes that are not recorded; `campvc record` them, or take them back, "
+                          "and try again:{}".format(what, names))
 
-    def bring(self, calls: Calls, files: Files) -> None:
-        """Asks calls that lead to these files in the own branch, and brings the working tree there. Whatever fails before the calls
-        are accepted leaves it as it was."""
+    def bring(self, calls: Calls, files: Files, branch: str = "") -> None:
+        """Asks calls that lead to these files in the own branch, of the branch to work on from now on if one is named, and brings the
+        working tree there. Whatever fails before the calls are accepted leaves it as it was."""
         update = worktree.Update(self.top, self.state.base(), files)
         with uninterrupted():
-            self.state.set("doing", "update")
+            self.state.set("doing", UPDATE)
+            expected = self.shared.accepted + len(calls)
             self.ask_all(calls)
-            if self.own_files() != files:
+            self.state.set("branch", branch or self.branch)
+            if self.shared.accepted != expected:
+                # Calls of others came between: they may have changed what these lead to.
                 update = worktree.Update(self.top, self.state.base(), self.own_files())
             update.install()
-            self.state.set_base(update.after)
+            self.state.update(update.after, doing=NOTHING)
+
+    def record(self, calls: Calls, paths: Sequence[bytes] | None = None) -> None:
+        """Asks calls that change these files of the own branch, or any, and leaves the working tree as it is."""
+        with uninterrupted():
+            self.state.set("doing", RECORD)
+            self.ask_all(calls)
+            if paths is None:
+                self.state.update(self.own_files(), doing=NOTHING)
+            else:
+                others = {path: file for path, file in self.state.base().items() if path not in paths}
+                self.state.update({**others, **decode(self.own_tree(paths))}, doing=NOTHING)
 
     def note(self, name: str) -> Note:
         return read_note(self.shared.notes.get(name, b""))
@@ -211,24 +196,9 @@ class Copy:
             raise Failure(several if found else "there is no patch {} here: `campvc log` lists them".format(word))
         return found[0]
 
-    def unresolved(self, branch: str) -> Dict[str, List[Conflict]]:
-        """The unresolved conflicts, by the paths of camp that both sides would change."""
-        found: Dict[str, List[Conflict]] = {}
-        pairs = self.shared.open(branch)
-        paths = {name: {change.path for change in self.shared.side(branch, name)} for pair in pairs for name in pair}
-        for pair in pairs:
-            left, right = paths[pair.left], paths[pair.right]
-            for path in sorted(left & right or left | right):
-                found.setdefault(path, []).append(pair)
-        return found
-
-    def unresolved_files(self, branch: str) -> Dict[bytes, List[Conflict]]:
-        """The unresolved conflicts, by the files that they are about."""
-        found: Dict[bytes, List[Conflict]] = {}
-        for path, pairs in self.unresolved(branch).items():
-            known = found.setdefault(file_name(path), [])
-            known += [pair for pair in pairs if pair not in known]
-        return dict(sorted(found.items()))
+    def unresolved(self) -> Dict[bytes, List[Conflict]]:
+        """The unresolved conflicts of the own branch, by the files that they are about."""
+        return sides.by_file(sides.unresolved(self.shared, self.own))
 
 
 def error_in(answer: bytes) -> Exception:
@@ -244,7 +214,7 @@ def connection(address: str, is_known: bool) -> Log:
     if kind == "sqlite" and is_known and not os.path.exists(path):
         raise Away("there is no file {}".format(path))
     try:
-        return open_log(address)
+        return open_log(address, title_with(CATCHES, BRANCHES))
     except ValueError as error:
         raise Failure(str(error), 128) from None
     except sqlite3.OperationalError as error:
@@ -259,26 +229,32 @@ def named_troubles(address: str) -> Iterator[None]:
     except Foreign as error:
         raise Failure("the log {}: {}; correct the address, or ask who keeps it".format(address, error), 128) from None
     except (Damaged, Stopped) as error:
-        raise Failure("the log {} can't be read further: {}; ask who keeps it to put back what stood there".format(address, error), 128) from None
+        advice = "ask who keeps it to put back what stood there"
+        raise Failure("the log {} can't be read further: {}; {}".format(address, error, advice), 128) from None
 
 
 @contextlib.contextmanager
 def reading() -> Iterator[Copy]:
     """The working copy as it is known, for commands that change nothing."""
-    with contextlib.closing(Copy(find_top())) as copy, named_troubles(copy.address):
-        yield copy.open().complete()
+    with Copy(find_top()) as copy, named_troubles(copy.address):
+        copy.open()
+        if copy.own not in copy.shared.branches():
+            raise Failure("this copy is not complete: `campvc sync` completes it", 128)
+        yield copy
 
 
 @contextlib.contextmanager
 def writing(address: str = "") -> Iterator[Copy]:
-    """The working copy, locked, with all that the log has if it is there; the log is at another address from now on, if one is given."""
+    """The working copy, locked, with all that the log has if it is there; the log is at another address from now on, if one is given.
+    At the end its warnings are printed."""
     top = find_top()
-    with locked(top), contextlib.closing(Copy(top)) as copy:
+    with locked(top), Copy(top) as copy:
         copy.address = address or copy.address
         with named_troubles(copy.address):
-            copy.connect()
-        copy.state.set("log", copy.address)
-        with named_troubles(copy.address):
+            copy.synchronise()
+            if copy.address != copy.state.get("log"):
+                copy.state.set("log", copy.address)
+                copy.state.set("doing", copy.state.get("doing") and UPDATE)
             copy.recover()
-            copy.state.set("doing", "update")
             yield copy
+        show.tell(copy)

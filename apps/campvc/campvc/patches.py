@@ -1,55 +1,57 @@
-"""Patches made of what changed in files: the changes of each, which of them somebody wants, and how many go into a patch."""
+"""What goes into a patch: the changes that somebody wants, asked for one by one, and the note of who made it, when and why."""
 
 from __future__ import annotations
 
-from typing import List
+import getpass
+import os
+import time
+from datetime import datetime, timezone
+from typing import Iterator, List
 
-from camp import Change, Edit, Tree, diff
-from camp.coding import MODE, NO_END, PIECES, Files, encode, encode_path
+from camp import Change, Edit
+from camp.notes import Note
 
 from . import Failure, show
 
-MAX_CHANGES = 64
+QUESTION = "record this change? ({} of {}) [y, n, a: all that are left, d: done, q: nothing at all] "
 
 
-def file_changes(old: Tree, files: Files, path: bytes) -> List[Change]:
-    """The changes of a tree of camp that make a file what it is among the files, with all that is said of it there."""
-    new, changes = encode({path: files[path]} if path in files else {}), []  # type: Tree, List[Change]
-    for kind in ("", PIECES, NO_END, MODE):
-        place = kind + encode_path(path)
-        changes += diff(place, old.get(place), new.get(place))
-    return changes
+def select(files: List[List[Change]]) -> List[List[Change]]:
+    """Those of the changes of each file that somebody wants. A file that is new or goes is asked for at once, else each hunk."""
+    units = [[[it] for it in reversed(some)] if all(isinstance(it, Edit) for it in some) else [some] for some in files if some]
+    answers = ask_for([unit for some in units for unit in some])
+    return [[change for unit in reversed([it for it in some if next(answers)]) for change in unit] for some in units]
 
 
-def groups(changes: List[List[Change]]) -> List[List[Change]]:
-    """Changes as patches of at most 64; those of one file stay together where they can."""
-    found: List[List[Change]] = [[]]
-    for some in changes:
-        if len(found[-1]) + len(some) > MAX_CHANGES and found[-1]:
-            found.append([])
-        found[-1] += some
-        while len(found[-1]) > MAX_CHANGES:
-            found[-1:] = [found[-1][:MAX_CHANGES], found[-1][MAX_CHANGES:]]
-    return [it for it in found if it]
+def ask_for(units: List[List[Change]]) -> Iterator[bool]:
+    """Whether each unit is wanted."""
+    rest = ""
+    for number, unit in enumerate(units, 1):
+        answer = rest
+        if not rest:
+            show.print_changes(unit)
+        while answer not in ("y", "n", "a", "d"):
+            answer = show.ask(QUESTION.format(number, len(units))) or "q"
+            if answer == "q":
+                raise Failure("nothing is recorded")
+        rest = {"a": "a", "d": "d"}.get(answer, "")
+        yield answer in ("y", "a")
 
 
-def select(changes: List[List[Change]]) -> List[List[Change]]:
-    """The changes that somebody wants, asked for one by one: a file that is new or goes is one, else each hunk."""
-    units = [[[it] for it in reversed(some)] if all(isinstance(it, Edit) for it in some) else [some] for some in changes if some]
-    total, at, found, rest = sum(map(len, units)), 0, [], ""
-    for some in units:
-        wanted: List[Change] = []
-        for unit in some:
-            at += 1
-            if not rest:
-                for line, colour in show.change_lines(unit):
-                    show.emit(line, colour)
-            answer = rest
-            while answer not in ("y", "n", "a", "d"):
-                answer = show.ask("record this change? ({} of {}) [y, n, a: all that are left, d: done, q: nothing at all] ".format(at, total)) or "q"
-                if answer == "q":
-                    raise Failure("nothing is recorded")
-            rest = {"a": "a", "d": "d"}.get(answer, "")
-            wanted = [*unit, *wanted] if answer in ("y", "a") else wanted
-        found.append(wanted)
-    return found
+def new_note(message: str, author: str) -> Note:
+    """A note of now. CAMPVC_AUTHOR and CAMPVC_DATE say another author and time."""
+    now = datetime.fromtimestamp(int(time.time()), timezone.utc).astimezone().isoformat()
+    message = "\n".join(line.rstrip() for line in message.strip().split("\n"))
+    if not message:
+        raise Failure("the message is empty: say what this patch is for, with -m TEXT")
+    return Note(os.environ.get("CAMPVC_AUTHOR", author), os.environ.get("CAMPVC_DATE", now), message)
+
+
+def default_author() -> str:
+    """The author that git knows, or the user of this machine."""
+    if os.environ.get("CAMPVC_AUTHOR"):
+        return os.environ["CAMPVC_AUTHOR"]
+    try:
+        return "{} <{}@{}>".format(getpass.getuser(), getpass.getuser(), os.uname().nodename)
+    except (KeyError, OSError):
+        return "somebody <somebody@localhost>"

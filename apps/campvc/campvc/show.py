@@ -2,20 +2,21 @@
 
 from __future__ import annotations
 
-import difflib
 import re
 import sys
-from typing import Dict, Iterable, Iterator, List, Optional, Tuple
+from typing import TYPE_CHECKING, Dict, Iterable, List
 
-from camp import Add, Change, Edit, Remove
-from camp.coding import EXECUTABLE, LINK, MODE, NO_END, PIECES, PLAIN, SUBMODULE, File, Files, file_name
+from camp import Change
+from camp.coding import Files
+from camp.described import Kind, change_lines, unified
+from camp.lanes import joints, lanes
+from camp.pictures import listed, read_needs
 
-from .copy import Copy
-from .notes import Note
-from .worktree import changed, text
+if TYPE_CHECKING:
+    from .copy import Copy
 
 RED, GREEN, YELLOW, CYAN, BOLD = "31", "32", "33", "36", "1"
-KINDS = {PLAIN: "file", EXECUTABLE: "executable file", LINK: "symbolic link", SUBMODULE: "submodule"}
+COLOURS = {Kind.FILE: BOLD, Kind.PLACE: CYAN, Kind.OLD: RED, Kind.NEW: GREEN, Kind.OTHER: ""}
 
 
 def emit(line: bytes | str = b"", colour: str = "") -> None:
@@ -47,20 +48,15 @@ def counted(count: int, what: str) -> str:
     return "{} {}{}".format(count, what, "" if count == 1 else "es" if what.endswith("ch") else "s")
 
 
-def listed(names: Iterable[str]) -> str:
-    return ", ".join(names)
-
-
-def print_patch(copy: Copy, name: str, graph: str = "", states: Optional[Dict[str, str]] = None) -> None:
+def print_patch(copy: Copy, name: str, state: str = "") -> None:
     """A patch with its note."""
     note = copy.note(name)
-    emit("{}patch {}".format(graph and graph + " ", name), YELLOW)
-    bar = graph.replace("*", "|") + " " if graph else ""
-    for field, value in (("author", note.author), ("date", note.date), ("state", (states or {}).get(name, ""))):
+    emit("patch {}".format(name), YELLOW)
+    for field, value in (("author", note.author), ("date", note.date), ("state", state)):
         if value:
-            emit("{}{:7} {}".format(bar, field, value))
+            emit("{:7} {}".format(field, value))
     for line in ["", *("    " + it for it in note.message.split("\n")), ""] if note.message else [""]:
-        emit((bar + line).rstrip())
+        emit(line.rstrip())
 
 
 def states_of(copy: Copy, branch: str) -> Dict[str, str]:
@@ -69,117 +65,47 @@ def states_of(copy: Copy, branch: str) -> Dict[str, str]:
     for pair in copy.shared.conflicts(branch):
         for name, other in ((pair.left, pair.right), (pair.right, pair.left)):
             found.setdefault(name, []).append(other + ("" if pair in is_open else " (resolved)"))
-    return {name: "in conflict with " + listed(others) for name, others in found.items()}
+    return {name: "in conflict with " + ", ".join(others) for name, others in found.items()}
 
 
 def needs_of(copy: Copy, branch: str) -> Dict[str, List[str]]:
-    """The patches of a branch, each with those that it needs directly."""
-    needs: Dict[str, List[str]] = {name: [] for name in copy.shared.names(branch)}
-    for name, need, attributes in re.findall(r'^ *"([^"]*)" -> "([^"]*)"(.*);$', copy.shared.graph(branch), re.M):
-        if "dir=none" not in attributes:
-            needs[name].append(need)
-    return needs
+    """The patches of a branch, each with those that it needs directly. This asks for the whole graph: it takes long where they are many."""
+    return read_needs(listed(copy.shared.ask, "graph", branch))
 
 
-Row = Tuple[str, int, List[str], List[str], bool]
-
-
-def lanes(needs: Dict[str, List[str]]) -> Iterator[Row]:
-    """The patches, the last one first, each with its lane, and what each lane waits for before it and after it."""
-    waiting: List[str] = []
-    for name in reversed(list(needs)):
-        before = waiting if name in waiting else [*waiting, name]
-        at = before.index(name)
-        after = before[:at] + [it for it in reversed(needs[name]) if it not in before] + before[at + 1:]
-        yield name, at, before, after, name in waiting
-        waiting = after
-
-
-def joints(row: Row, needs: List[str]) -> str:
-    """The line between a row and the next one: where each lane goes."""
-    _, at, before, after, _ = row
-    moves = [(lane, after.index(name)) for lane, name in enumerate(before) if lane != at] + [(at, after.index(name)) for name in needs]
-    cells = [" "] * (2 * max([1, len(before), len(after)]))
-    for start, end in moves:
-        low, high = sorted((2 * start, 2 * end))
-        if start == end:
-            cells[2 * start] = "|"
-        else:
-            cells[low + 2:high] = ["_" if it == " " else it for it in cells[low + 2:high]]
-            cells[low + 1] = "/" if end < start else "\\"
-    return "".join(cells).rstrip()
-
-
-def print_log(copy: Copy, branch: str, only: Optional[List[str]] = None, with_graph: bool = False) -> None:
-    """The patches of a branch, the last one first; with a graph in the order of what they need."""
+def print_log(copy: Copy, branch: str) -> None:
+    """The patches of a branch, the last one first."""
     states = states_of(copy, branch)
-    if not with_graph:
-        for name in reversed(copy.shared.names(branch) if only is None else only):
-            print_patch(copy, name, states=states)
-        return
-    needs = needs_of(copy, branch)
+    for name in reversed(copy.shared.names(branch)):
+        print_patch(copy, name, states.get(name, ""))
+
+
+def print_graph(copy: Copy, branch: str) -> None:
+    """The patches of a branch, the last one first, with lanes to what they need."""
+    states, needs = states_of(copy, branch), needs_of(copy, branch)
     for row in lanes(needs):
-        name, at, before, _, _ = row
-        note, state = copy.note(name), states.get(name, "")
-        marks = " ".join("*" if lane == at else "|" for lane in range(len(before)))
-        emit("{} {}  {}{}".format(marks, name, note.title, note.who and " ({})".format(note.who)) + (state and "  [{}]".format(state)))
-        between = joints(row, needs[name])
+        marks = " ".join("*" if lane == row.lane else "|" for lane in range(len(row.before)))
+        state = "  [{}]".format(states[row.name]) if row.name in states else ""
+        emit("{} {}{}".format(marks, note_line(copy, row.name), state))
+        between = joints(row, needs[row.name])
         if set(between) - {"|", " "}:
             emit(between)
 
 
-def change_lines(changes: List[Change]) -> Iterator[Tuple[bytes, str]]:
-    """The lines of changes, each with its colour. What is said of a mode or an end is said in words, unless the file goes."""
-    gone = {change.path for change in changes if isinstance(change, Remove)}
-    for change in changes:
-        if change.path[:3] in (MODE, NO_END, PIECES) and change.path[3:] in gone:
-            continue
-        name = file_name(change.path)
-        shown, kind = text(name), change.path[:3]
-        if kind in (MODE, NO_END, PIECES, "%e/"):
-            yield from _attribute_lines(change, shown, kind)
-        elif isinstance(change, Edit):
-            yield "{} line {}".format(shown, change.line).encode(), CYAN
-            yield from ((b"-" + line, RED) for line in change.old)
-            yield from ((b"+" + line, GREEN) for line in change.new)
-        else:
-            yield "{}: {} file".format(shown, "new" if isinstance(change, Add) else "removed").encode(), CYAN
+def print_changes(changes: Iterable[Change]) -> None:
+    for line, kind in change_lines(list(changes)):
+        emit(line, COLOURS[kind])
 
 
-def _attribute_lines(change: Change, shown: str, kind: str) -> Iterator[Tuple[bytes, str]]:
-    if kind == NO_END and not isinstance(change, Edit):
-        yield "{}: the last line ends {} a line feed".format(shown, "without" if isinstance(change, Add) else "with").encode(), CYAN
-    if kind == MODE and isinstance(change, Edit):
-        modes = [KINDS.get(b"".join(side).decode("ascii", "replace"), "file") for side in (change.old, change.new)]
-        if modes[0] != modes[1]:
-            yield "{}: {} becomes {}".format(shown, *modes).encode(), CYAN
-
-
-def print_diff(before: Files, after: Files, paths: Optional[List[bytes]] = None) -> None:
+def print_diff(before: Files, after: Files, paths: List[bytes]) -> None:
     """How files differ, as `patch` reads it."""
-    for path in changed(before, after) if paths is None else paths:
-        old, new = before.get(path), after.get(path)
-        emit("diff {}".format(text(path)), BOLD)
-        if old and new and old.mode != new.mode:
-            emit("{} becomes {}".format(KINDS[old.mode], KINDS[new.mode]))
-        elif not (old and new):
-            emit("{} {}".format("new" if new else "removed", KINDS[(new or old).mode]))
-        if b"\0" in (old.content if old else b"") + (new.content if new else b""):
-            emit("binary files differ")
-            continue
-        names = [b"a/" + path if old else b"/dev/null", b"b/" + path if new else b"/dev/null"]
-        for line in difflib.diff_bytes(difflib.unified_diff, _lines(old), _lines(new), *names, lineterm=b"\n"):
-            bare = line.removesuffix(b"\n")
-            emit(bare, {b"+": GREEN, b"-": RED, b"@": CYAN}.get(bare[:1], "") if bare[:3] not in (b"+++", b"---") else BOLD)
-            if not line.endswith(b"\n"):
-                emit("\\ No newline at end of file")
+    for line, kind in unified(before, after, paths):
+        emit(line, COLOURS[kind])
 
 
-def _lines(file: Optional[File]) -> List[bytes]:
-    return file.content.split(b"\n") and [it for it in re.split(rb"(?<=\n)", file.content) if it] if file else []
-
-
-def note_line(name: str, note: Note) -> str:
+def note_line(copy: Copy, name: str) -> str:
+    """A patch with its title and author."""
+    note = copy.note(name)
     return "{}  {}{}".format(name, note.title, note.who and " ({})".format(note.who))
 
 
@@ -191,10 +117,10 @@ def tell(copy: Copy) -> None:
         warn("the log is away ({}): what you do here waits, and `campvc sync` sends it".format(copy.away))
 
 
-def print_names(copy: Copy, names: List[str]) -> None:
+def print_names(copy: Copy, names: Iterable[str]) -> None:
     """Patches with their titles."""
     for name in names:
-        emit("    " + note_line(name, copy.note(name)))
+        emit("    " + note_line(copy, name))
 
 
 def agreed(question: str, yes: bool) -> bool:

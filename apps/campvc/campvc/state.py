@@ -1,5 +1,4 @@
-"""What a working copy keeps beside its files, in `.camp/state.db`: what waits for the log, the tree that its files were last brought
-to, and settings."""
+"""What a working copy keeps beside its files, in `.camp/state.db`: the tree that its files were last brought to, and settings."""
 
 from __future__ import annotations
 
@@ -8,21 +7,18 @@ import fcntl
 import os
 import sqlite3
 import time
-from typing import Iterator, List, Tuple
+from typing import Iterator
 
 from camp.coding import File, Files
+from camp.worktree import changed
 
 from . import Failure
-from .worktree import changed
 
 TABLES = """
 CREATE TABLE IF NOT EXISTS settings (key TEXT PRIMARY KEY, value TEXT NOT NULL);
-CREATE TABLE IF NOT EXISTS waiting (at INTEGER PRIMARY KEY, call BLOB NOT NULL, note BLOB NOT NULL);
 CREATE TABLE IF NOT EXISTS base (path BLOB PRIMARY KEY, mode TEXT NOT NULL, content BLOB NOT NULL);
 """
 PATIENCE = 10.0
-
-Calls = List[Tuple[bytes, bytes]]
 
 
 class State:
@@ -30,49 +26,31 @@ class State:
 
     def __init__(self, top: bytes) -> None:
         self.path = os.path.join(top, b".camp", b"state.db")
-        self.db = sqlite3.connect(os.fsdecode(self.path), timeout=PATIENCE, isolation_level=None, check_same_thread=False)
+        self.db = sqlite3.connect(os.fsdecode(self.path), timeout=PATIENCE, isolation_level="IMMEDIATE", check_same_thread=False)
         self.db.execute("PRAGMA journal_mode = WAL")
         self.db.executescript(TABLES)
-
-    @contextlib.contextmanager
-    def transaction(self) -> Iterator[None]:
-        """All that is written inside, or nothing."""
-        if self.db.in_transaction:
-            yield
-            return
-        self.db.execute("BEGIN IMMEDIATE")
-        try:
-            yield
-            self.db.execute("COMMIT")
-        except BaseException:
-            if self.db.in_transaction:
-                self.db.execute("ROLLBACK")
-            raise
 
     def get(self, key: str, default: str = "") -> str:
         row = self.db.execute("SELECT value FROM settings WHERE key = ?", (key,)).fetchone()
         return row[0] if row else default
 
     def set(self, key: str, value: str) -> None:
-        self.db.execute("INSERT OR REPLACE INTO settings VALUES (?, ?)", (key, value))
+        self.update(**{key: value})
 
-    def waiting(self) -> Calls:
-        return [(row[0], row[1]) for row in self.db.execute("SELECT call, note FROM waiting ORDER BY at")]
-
-    def wait(self, calls: Calls) -> None:
-        self.db.executemany("INSERT INTO waiting (call, note) VALUES (?, ?)", calls)
+    def update(self, files: Files | None = None, **settings: str) -> None:
+        """Writes settings, and the files that the working tree was brought to; all of this or nothing."""
+        with self.db:
+            self.db.executemany("INSERT OR REPLACE INTO settings VALUES (?, ?)", settings.items())
+            base = {} if files is None else self.base()
+            for path in changed(base, files or {}):
+                if files and path in files:
+                    self.db.execute("INSERT OR REPLACE INTO base VALUES (?, ?, ?)", (path, *files[path]))
+                else:
+                    self.db.execute("DELETE FROM base WHERE path = ?", (path,))
 
     def base(self) -> Files:
         """The files that the working tree was last brought to."""
         return {row[0]: File(row[1], row[2]) for row in self.db.execute("SELECT path, mode, content FROM base")}
-
-    def set_base(self, files: Files) -> None:
-        with self.transaction():
-            for path in changed(self.base(), files):
-                if path in files:
-                    self.db.execute("INSERT OR REPLACE INTO base VALUES (?, ?, ?)", (path, *files[path]))
-                else:
-                    self.db.execute("DELETE FROM base WHERE path = ?", (path,))
 
 
 @contextlib.contextmanager

@@ -9,27 +9,33 @@ import hmac
 import os
 import re
 import secrets
+import shutil
+import subprocess
+import sys
 from itertools import groupby
 from typing import Any, Dict, List, Tuple
 
 import jinja2
 from aiohttp import web
 
-from camp import Edit, Fault, Hunk, NoBranch, NoPatch
+from camp import Edit, Fault, Hunk, NoBranch, NoPatch, sides
 from camp.coding import decode_path, encode_path, file_name
+from camp.described import change_lines
+from camp.lanes import Row, lanes
+from camp.worktree import text
 
 from . import Failure, show
-from .conflicts import hunks_of
 from .copy import Copy, find_top
-from .worktree import text
 
 LOOPBACK = ("127.0.0.1", "::1", "localhost")
-PAGE, CONTEXT, LANE = 100, 3, 14
+# Patches on a page, and those of a branch up to which its graph is asked for; lines around a conflict, and the width of a lane.
+PAGE, MOST_WITH_GRAPH, CONTEXT, LANE = 100, 250, 3, 14
 HEADERS = {
-    "Content-Security-Policy": "default-src 'none'; style-src 'self'; img-src data:; base-uri 'none'; form-action 'none'; frame-ancestors 'none'",
+    "Content-Security-Policy": "default-src 'none'; style-src 'self'; img-src data:; base-uri 'none'; form-action 'none'; "
+                               "frame-ancestors 'none'",
     "X-Content-Type-Options": "nosniff", "Referrer-Policy": "no-referrer", "Cache-Control": "no-store",
 }
-HERE = os.path.dirname(os.path.abspath(__file__))
+TEMPLATES = os.path.join(os.path.dirname(os.path.abspath(__file__)), "templates")
 
 
 def readable(line: bytes | str) -> str:
@@ -38,20 +44,27 @@ def readable(line: bytes | str) -> str:
     return "".join(c if c.isprintable() or c == "\t" else c.encode("unicode_escape", "replace").decode() for c in found)
 
 
+def opened(top: bytes) -> Copy:
+    copy = Copy(top)
+    copy.open()
+    return copy
+
+
 class Page:
     """The views of a working copy. Each request looks whether other commands have changed it."""
 
     def __init__(self, top: bytes, token: str) -> None:
-        self.top, self.token, self.copy = top, token, Copy(top).open()
+        self.top, self.token, self.copy = top, token, opened(top)
         self.version = self.copy.version()
-        self.templates = jinja2.Environment(loader=jinja2.FileSystemLoader(os.path.join(HERE, "templates")), autoescape=True, trim_blocks=True, lstrip_blocks=True)
+        loader = jinja2.FileSystemLoader(TEMPLATES)
+        self.templates = jinja2.Environment(loader=loader, autoescape=True, trim_blocks=True, lstrip_blocks=True)
         self.templates.filters["readable"] = readable
 
     def application(self) -> web.Application:
         app = web.Application(middlewares=[self.guard])
-        app.add_routes([
-            web.get("/", self.branches), web.get("/style.css", self.style), web.get("/b/{branch}", self.branch), web.get("/b/{branch}/conflicts", self.conflicts),
-            web.get("/b/{branch}/file", self.file), web.get("/b/{branch}/patch/{name}", self.patch)])
+        views = {"": self.branch, "/conflicts": self.conflicts, "/picture": self.picture, "/file": self.file, "/patch/{name}": self.patch}
+        app.add_routes([web.get("/b/{branch}" + path, view) for path, view in views.items()])
+        app.add_routes([web.get("/", self.branches), web.get("/style.css", self.style)])
         return app
 
     @web.middleware
@@ -87,7 +100,7 @@ class Page:
         """The working copy as it is now."""
         if self.copy.version() != self.version:
             self.copy.close()
-            self.copy = Copy(self.top).open()
+            self.copy = opened(self.top)
             self.version = self.copy.version()
         return self.copy
 
@@ -96,7 +109,7 @@ class Page:
         return web.Response(text=found, status=status, content_type="text/html")
 
     async def style(self, request: web.Request) -> web.StreamResponse:
-        return web.FileResponse(os.path.join(HERE, "templates", "style.css"))
+        return web.FileResponse(os.path.join(TEMPLATES, "style.css"))
 
     async def branches(self, request: web.Request) -> web.Response:
         copy, rows = self.now(), []
@@ -106,24 +119,47 @@ class Page:
         return self.render("branches.html", rows=sorted(rows, key=lambda row: row[4]))
 
     async def branch(self, request: web.Request) -> web.Response:
-        copy, branch = self.now(), request.match_info["branch"]
-        needs, states, first = show.needs_of(copy, branch), show.states_of(copy, branch), max(0, int(request.query.get("from", "0")))
-        rows = list(show.lanes(needs))
+        """The newest patches, and older ones page by page; of a branch of many patches without lanes, and its files if asked for."""
+        copy, branch, first = self.now(), request.match_info["branch"], max(0, int(request.query.get("from", "0")))
+        names, states = copy.shared.names(branch), show.states_of(copy, branch)
+        is_large = len(names) > MOST_WITH_GRAPH
+        needs = {} if is_large else show.needs_of(copy, branch)
+        rows = [Row(name, 0, [], [], False) for name in reversed(names)] if is_large else list(lanes(needs))
         shown = rows[first:first + PAGE]
-        width = max([len(row[2]) for row in shown] + [len(row[3]) for row in shown] + [1])
+        width = max([1, *(len(some) for row in shown for some in (row.before, row.after))])
         step = min(LANE, 168 / width)
-        patches = [(row[0], copy.note(row[0]), needs[row[0]], states.get(row[0], ""), lines_of(row, needs[row[0]], step)) for row in shown]
-        files = [(text(file_name(path)), path) for path in copy.shared.tree(branch) if decode_path(path) is not None]
-        return self.render("branch.html", branch=branch, patches=patches, files=files, width=step * width, unresolved=len(copy.shared.open(branch)),
-                           later=max(0, first - PAGE) if first else None, earlier=first + PAGE if first + PAGE < len(rows) else None)
+        patches = [(row.name, copy.note(row.name), needs.get(row.name), states.get(row.name, ""), drawn(row, needs, step)) for row in shown]
+        paths = copy.shared.tree(branch) if not is_large or "files" in request.query else None
+        files = paths and [(text(file_name(path)), path) for path in paths if decode_path(path) is not None]
+        return self.render(
+            "branch.html", branch=branch, patches=patches, files=files, width=step * width, unresolved=len(copy.shared.open(branch)),
+            later=max(0, first - PAGE) if first else None, earlier=first + PAGE if first + PAGE < len(rows) else None,
+            is_large=is_large)
+
+    async def picture(self, request: web.Request) -> web.Response:
+        """The patches in unresolved conflicts and what they need; as DOT where Graphviz is not installed."""
+        source, dot = self.now().shared.picture(request.match_info["branch"], only_open=True), shutil.which("dot")
+        if not dot:
+            return web.Response(text=source)
+        done = subprocess.run([dot, "-Tsvg"], input=source.encode(), stdout=subprocess.PIPE, check=True)
+        return web.Response(body=done.stdout, content_type="image/svg+xml")
 
     async def patch(self, request: web.Request) -> web.Response:
+        """A patch. What it needs is looked up in the graph of its branch; where that is large, as all that it needs, if asked for."""
         copy, branch, name = self.now(), request.match_info["branch"], request.match_info["name"]
-        direct, held = show.needs_of(copy, branch).get(name, []), [it for it in copy.shared.held(branch, [name]) if it != name]
-        pairs = [(other, pair in copy.shared.open(branch)) for pair in copy.shared.conflicts(branch) if name in pair for other in pair if other != name]
+        held, unresolved = [it for it in copy.shared.held(branch, [name]) if it != name], copy.shared.open(branch)
+        needs = None
+        if len(copy.shared.names(branch)) <= MOST_WITH_GRAPH:
+            needs = show.needs_of(copy, branch)[name]
+        elif "needs" in request.query:
+            needs = [it for it in copy.shared.needs(branch, [name]) if it != name]
+        conflicts = [pair for pair in copy.shared.conflicts(branch) if name in pair]
+        pairs = [(other, pair in unresolved) for pair in conflicts for other in pair if other != name]
         changes = copy.shared.side(branch, name) if pairs else copy.shared.show(branch, name).changes
-        files = [(text(file_name(path)), encode_path(file_name(path)), list(some)) for path, some in groupby(changes, lambda change: change.path)]
-        return self.render("patch.html", branch=branch, name=name, note=copy.note(name), needs=direct, held=held, pairs=pairs, files=files, words=words_of)
+        files = [(text(file_name(path)), encode_path(file_name(path)), list(some))
+                 for path, some in groupby(changes, lambda change: change.path)]
+        return self.render("patch.html", branch=branch, name=name, note=copy.note(name), needs=needs, held=held, pairs=pairs,
+                           files=files, words=words_of)
 
     async def file(self, request: web.Request) -> web.Response:
         copy, branch, path = self.now(), request.match_info["branch"], request.query.get("path", "")
@@ -139,39 +175,36 @@ class Page:
 
     async def conflicts(self, request: web.Request) -> web.Response:
         copy, branch = self.now(), request.match_info["branch"]
-        files = [(text(file_name(path)), encode_path(file_name(path)), pairs, places(hunks_of(copy, path, branch))) for path, pairs in copy.unresolved(branch).items()]
+        files = [(text(file_name(path)), encode_path(file_name(path)), pairs, places(sides.hunks(copy.shared, branch, path, pairs)))
+                 for path, pairs in sides.unresolved(copy.shared, branch).items()]
         return self.render("conflicts.html", branch=branch, files=files)
 
 
-Line = Tuple[float, float, float, float]
-
-
-def lines_of(row: show.Row, needs: List[str], step: float) -> Dict[str, Any]:
+def drawn(row: Row, needs: Dict[str, List[str]], step: float) -> Dict[str, Any]:
     """The lines of a row of the graph, in a box 100 high: from the lanes above to those below, and where its dot is."""
-    name, at, before, after, is_needed = row
-    x = {name: step * (lane + 0.5) for lane, name in enumerate(after)}
-    lines: List[Line] = [(step * (lane + 0.5), 0, x[it], 100) for lane, it in enumerate(before) if it != name]
-    own = step * (at + 0.5)
-    lines += [(own, 50, x[it], 100) for it in needs] + [(own, 0, own, 50)] * is_needed
+    x = {name: step * (lane + 0.5) for lane, name in enumerate(row.after)}
+    own = step * (row.lane + 0.5)
+    lines = [(step * (lane + 0.5), 0, x[it], 100) for lane, it in enumerate(row.before) if it != row.name]
+    lines += [(own, 50, x[it], 100) for it in needs.get(row.name, [])] + [(own, 0, own, 50)] * row.is_needed
     return {"lines": lines, "dot": own}
 
 
 def words_of(change: Any) -> str:
     """What a change does, in words."""
-    shown = [line.decode() for line, _ in show.change_lines([change])]
+    shown = [line.decode() for line, _ in change_lines([change])]
     return shown[0] if shown and not (isinstance(change, Edit) and " line " in shown[0]) else ""
 
 
-def places(hunks: List[bytes | Hunk]) -> List[Tuple[int, List[bytes], Hunk, List[bytes]]]:
+def places(hunks: sides.Hunks) -> List[Tuple[int, List[bytes], Hunk, List[bytes]]]:
     """The places of a conflict: the number of its line, and a few lines around it."""
     found, at = [], 1
     for number, hunk in enumerate(hunks):
         if isinstance(hunk, bytes):
             at += 1
             continue
-        around = [[it for it in some if isinstance(it, bytes)] for some in (hunks[max(0, number - CONTEXT):number], hunks[number + 1:number + 1 + CONTEXT])]
+        before, after = hunks[max(0, number - CONTEXT):number], hunks[number + 1:number + 1 + CONTEXT]
         if hunk.sides:
-            found.append((at, around[0], hunk, around[1]))
+            found.append((at, [it for it in before if isinstance(it, bytes)], hunk, [it for it in after if isinstance(it, bytes)]))
         at += len(hunk.lines)
     return found
 
@@ -183,12 +216,13 @@ def serve(port: int, host: str) -> int:
 
     def tell(line: str) -> None:
         if "Running on" in line:
-            show.emit("http://{}:{}/{}".format("[{}]".format(host) if ":" in host else host, port, "?token=" + token if token else ""))
+            show.emit("http://{}:{}/{}".format("[{}]".format(host) if ":" in host else host, port, token and "?token=" + token))
             show.emit("Ctrl-C ends")
-            show.sys.stdout.flush()
+            sys.stdout.flush()
 
     try:
         web.run_app(page.application(), host=host, port=port, print=tell, access_log=None)
     except OSError as error:
-        raise Failure("port {} of {} can't be served: {}; take another one with --port".format(port, host, error.strerror), 128) from None
+        problem = "port {} of {} can't be served: {}; take another one with --port"
+        raise Failure(problem.format(port, host, error.strerror), 128) from None
     return 0
