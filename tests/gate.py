@@ -18,10 +18,13 @@ from tests.harness import programs
 from tests.harness.crates import below, uses_of
 from tests.harness.paths import TOP, read, write_text
 
-# A test that takes so many times the seconds that it says, and so many seconds at least, counts as hanging.
-PATIENCE, LEAST = 20, 1800
+# A test counts as hanging where it takes so many times the seconds that it says, and so many seconds at least, and then uses no
+# processor for a minute: beside proofs it gets little of one. After four times as long it is ended in any case.
+PATIENCE, LEAST, MINUTE, IN_ANY_CASE = 20, 1800, 60, 4
 # Seconds without a line after which the progress is printed.
 QUIET = 50
+# So many of the last lines of each part that failed are printed once more at the end.
+LAST_LINES = 40
 # What `rt ci` prints of a crate that is proved, and at its end.
 PROVED = re.compile(r"^rt: ([a-z_]+) (?:proved|is kept)")
 COUNTS = re.compile(r"^(\d+) passed, (\d+) failed$", re.M)
@@ -33,6 +36,8 @@ class Progress:
     def __init__(self, total):
         self.started, self.last, self.lock, self.tree = time.time(), time.time(), threading.Lock(), None
         self.running, self.passed, self.failed, self.left = {}, 0, 0, total
+        # What failed, and what it wrote.
+        self.failures = []
         # The seconds of each part, and the processor seconds of each process that proves a crate.
         self.seconds, self.proving, self.proved = {}, {}, set()
         threading.Thread(target=self.watch, daemon=True).start()
@@ -70,7 +75,9 @@ class Progress:
             self.passed, self.failed, self.left = self.passed + passed, self.failed + failed, self.left - 1
 
     def finish(self):
-        """Prints the last line. What was not run has failed."""
+        """Prints once more what failed, then the last line. What was not run has failed."""
+        for title, text in self.failures:
+            self.tell("\n".join([f"FAILED: {title}", *text.splitlines()[-LAST_LINES:]]))
         failed = self.failed + self.left
         print(f"{self.passed} passed, {failed} failed", flush=True)
         return 1 if failed else 0
@@ -100,7 +107,7 @@ def run_one(test, progress, words=(), niceness=0, title=None):
         with contextlib.suppress(OSError):
             write_text(f"/proc/{ran.pid}/autogroup", str(niceness))
         try:
-            ran.wait(timeout=max(LEAST, PATIENCE * test.seconds))
+            await_end(ran, max(LEAST, PATIENCE * test.seconds))
         except subprocess.TimeoutExpired:
             progress.tell(f"{title}: it hangs, and is ended")
         finally:
@@ -108,8 +115,34 @@ def run_one(test, progress, words=(), niceness=0, title=None):
         output.seek(0)
         text = output.read().decode(errors="replace").rstrip()
     is_well = ran.returncode == 0
+    if not is_well:
+        progress.failures.append((title, text))
     progress.end(title, is_well, not is_well)
     progress.tell(f"{text}\n{title}: {'passed' if is_well else 'FAILED'}, {progress.left} parts left")
+
+
+def await_end(ran, limit):
+    """Waits for the end of a test; `TimeoutExpired` where it hangs."""
+    with contextlib.suppress(subprocess.TimeoutExpired):
+        return ran.wait(timeout=limit)
+    last = time.time() + (IN_ANY_CASE - 1) * limit
+    while time.time() < last:
+        used = processor_seconds(ran.pid)
+        with contextlib.suppress(subprocess.TimeoutExpired):
+            return ran.wait(timeout=MINUTE)
+        if processor_seconds(ran.pid) < used + 1:
+            break
+    raise subprocess.TimeoutExpired(ran.args, limit)
+
+
+def processor_seconds(session):
+    """The processor seconds that the processes of a session have used, with those of its processes that have ended."""
+    found = 0
+    for process in os.listdir("/proc"):
+        with contextlib.suppress(OSError, IndexError):
+            fields = read(f"/proc/{process}/stat").rpartition(b")")[2].split()
+            found += sum(map(int, fields[11:15])) if int(fields[3]) == session else 0
+    return found / os.sysconf("SC_CLK_TCK")
 
 
 def run_tests(tests):
@@ -155,7 +188,7 @@ def run_all():
             progress.proved.update(uses)
         start_ready()
         for *_, title in waiting:
-            progress.tell(f"{title}: not run, since a crate that it needs is not proved")
+            progress.failures.append((title, "not run, since a crate that it needs is not proved"))
         pool.shutdown()
         if is_proved:
             keep_products(progress)
@@ -175,10 +208,11 @@ def prove(progress, when_proved):
     """Runs `rt ci` on the tree, prints its lines, and takes over its counts. Whether it passed."""
     progress.begin("rt ci")
     ran = programs.start(["rt", "ci"], cwd=progress.tree, stdin=subprocess.DEVNULL, stderr=subprocess.STDOUT)
-    counts = (0, 1)
+    counts, lines = (0, 1), []
     for line in ran.stdout:
         text = line.decode(errors="replace").rstrip()
         progress.tell(text)
+        lines.append(text)
         proved, found = PROVED.match(text), COUNTS.match(text)
         if proved:
             progress.proved.add(proved[1])
@@ -186,5 +220,7 @@ def prove(progress, when_proved):
         counts = tuple(map(int, found.groups())) if found else counts
     status = ran.wait()
     passed, failed = counts
+    if status:
+        progress.failures.append(("rt ci", "\n".join(lines)))
     progress.end("rt ci", passed, max(failed, 1) if status else failed)
     return status == 0

@@ -22,7 +22,7 @@ CHECK = f"{TOP}/clients/python/check_members.py"
 # Members that are wrong in one way each, which the check has to find.
 PLANTED = ("new-tag", "early", "stale", "skips", "twice")
 # A wrong member is not always wrong where it is seen, less so on a busy machine, so it gets so many runs at most.
-RUNS = 12
+RUNS = 40
 # Who runs a server in place of root, which PostgreSQL refuses.
 NOBODY = 65534
 

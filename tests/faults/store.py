@@ -166,7 +166,7 @@ def refused(store):
     refuse(store, store.folder, "camp_shell: " + store.folder)
     refuse(store, store.path("none/store"), "No such file")
     other = store.path("text")
-    for content in (b"hello\n", b"record main a add f\n", b"SQLite format 3\0", b"~" + b"x" * 100, b"=0000000d 992e69d3c8bc1bf2\ncamp store 2\n~", encode([b"camp store 2\n"])):
+    for content in (b"hello\n", b"record main a add f\n", b"SQLite format 3\0", b"~" + b"x" * 80, b"~" + b"x" * 100, b"=0000000d 992e69d3c8bc1bf2\ncamp store 2\n~", encode([b"camp store 2\n"])):
         write(other, content)
         refuse(store, other, NO_STORE)
         store.expect("the file", read(other), content)

@@ -5,13 +5,13 @@ A log is FILE-wal, as SQLite has it beside a database.
 Words: logs, databases name parts; none: both.
 """
 
-import hashlib
 import os
 import sys
 import tempfile
 
 from tests.harness import programs
 from tests.harness.paths import read, write
+from tests.harness.store import TITLE, calls, encode
 
 try:
     import sqlite3
@@ -19,8 +19,8 @@ except ImportError:
     sqlite3 = None
 
 SECONDS, GATE = 5, "after camp_shell"
-CALL = b"record main p9 add f9\n"
-STORE = [b"camp store 1\n", b"record main p0 add f0\n", b"record main p1 add f1\n"]
+(CALL,) = calls(1, 9)
+STORE = [TITLE, *calls(2)]
 # Another process has a database open: it has written to it, says so, and goes on where a line comes.
 HOLDER = """
 import sqlite3, sys
@@ -48,15 +48,6 @@ def run(report, words):
             parts[name](report, program, f"{folder}/{name}")
 
 
-def store_of(texts):
-    """The file of texts, as docs/store.md says it."""
-    digest, file = bytes(32), b""
-    for text in texts:
-        digest = hashlib.sha256(digest + text).digest()
-        file += b"=%08x %s\n%s" % (len(text), digest[:8].hex().encode(), text)
-    return file + b"~"
-
-
 def files_of(folder):
     """What each file of a folder has, but for what SQLite shares in memory."""
     return {name: read(f"{folder}/{name}") for name in sorted(os.listdir(folder)) if not name.endswith("-shm")}
@@ -64,7 +55,7 @@ def files_of(folder):
 
 def logs(report, program, folder):
     """A log beside a store, beside a file that is none, and alone."""
-    contents = {"no file": None, "an empty file": b"", "a store": store_of(STORE), "a text": b"hello\n", "a database": b"SQLite format 3\0" + bytes(84)}
+    contents = {"no file": None, "an empty file": b"", "a store": encode(STORE), "a text": b"hello\n", "a database": b"SQLite format 3\0" + bytes(84)}
     for name, content in contents.items():
         for beside in (None, b"", b"x", os.urandom(4096)):
             what = f"{name}, and {'no log' if beside is None else f'a log of {len(beside)} bytes'}"
@@ -78,7 +69,7 @@ def log_beside(report, program, folder, what, content, beside):
     put(log, beside)
     before = files_of(folder)
     done = programs.run([program, "--store", path], CALL)
-    is_store = content is None or content in (b"", store_of(STORE))
+    is_store = content is None or content in (b"", encode(STORE))
     report.expect(f"{what}: status", done.returncode, 0 if is_store else 3)
     if not is_store:
         report.expect(f"{what}: the files", files_of(folder), before)

@@ -11,6 +11,7 @@ session as FOLDER, and the address as LOG.
 
 import contextlib
 import functools
+import html
 import json
 import os
 import random
@@ -182,7 +183,10 @@ def etcd(report, folder):
     """The shared sessions over three members of etcd."""
     with servers(report, folder) as endpoints:
         if endpoints:
+            # Beside proofs the members of etcd may get little of a processor.
+            os.environ["CAMP_PATIENCE"] = "120"
             play_all(report, folder, f"etcd:{endpoints}/s{{number}}", lambda words: "shared" in words)
+            del os.environ["CAMP_PATIENCE"]
 
 
 # Mishaps.
@@ -336,6 +340,19 @@ sed -i s/bread/'rye bread'/ menu; echo 10 to 6 >hours; campvc record -m 'Rye bre
 """
 
 
+MANY = """
+import sys
+from camp import Add, Edit
+from camp.changes import command, record_command
+from camp.logs import open_log
+from camp.shared import Shared
+with Shared(open_log(sys.argv[1])) as shared:
+    shared.sync()
+    records = [record_command("large", "p%d" % at, [Add("f%d" % at)] if at % 2 else [Edit("menu", 1, [], ["line"])]) for at in range(260)]
+    shared.write_all([(call, b"") for call in [command("branch", "large", "empty-talk"), *records]])
+"""
+
+
 @contextlib.contextmanager
 def server(folder, python, *words, **more):
     """A page that is served: its address."""
@@ -345,7 +362,7 @@ def server(folder, python, *words, **more):
         yield process.stdout.readline().decode().strip()
     finally:
         os.kill(process.pid, signal.SIGINT)
-        process.communicate(timeout=60)
+        process.communicate(timeout=programs.TIMEOUT)
 
 
 def fetch(address, **headers):
@@ -353,7 +370,7 @@ def fetch(address, **headers):
     import urllib.error
     import urllib.request
     try:
-        with urllib.request.urlopen(urllib.request.Request(address, headers=headers), timeout=60) as found:
+        with urllib.request.urlopen(urllib.request.Request(address, headers=headers), timeout=programs.TIMEOUT) as found:
             return found.status, found.headers, found.read().decode()
     except urllib.error.HTTPError as error:
         return error.code, error.headers, error.read().decode()
@@ -371,6 +388,7 @@ def page(report, folder):
         views(report, address.rstrip("/"))
         call(folder, "anna", "echo later >later; campvc record -m 'Later than the page'", **how)
         report.expect("the page shows what was recorded since", "Later than the page" in fetch(f"{address}b/main")[2], True)
+        large(report, folder, python, address.rstrip("/"), how)
         look(report, folder, python, address.rstrip("/"))
     with server(folder, python, "--host", "0.0.0.0", CAMPVC_TOKEN="secret", **how) as address:
         guarded(report, address)
@@ -402,6 +420,22 @@ def views(report, address):
     report.expect("the name of another site", fetch(f"{address}/", Host="example.org")[0], 403)
 
 
+def large(report, folder, python, address, how):
+    """A branch of more than 250 patches is shown 100 at a time, without its graph; what is not asked for at first is a link."""
+    done = programs.run([python, "-c", MANY, how["LOG"]], env=environment(folder))
+    report.expect("a large branch", (done.returncode, done.stderr), (0, b""))
+    call(folder, "anna", "campvc sync", **how)
+    for path, first, links in (("", "p259", {"?from=100", "?files=all"}), ("?from=100", "p159", {"?from=0", "?from=200"}), ("?from=200", "p59", {"?from=100"})):
+        text = fetch(f"{address}/b/large{path}")[2]
+        report.expect(f"/b/large{path}: the first patch", re.findall(r"/b/large/patch/([^\"]*)", text)[0], first)
+        report.expect(f"/b/large{path}: links", links - set(re.findall(r'href="(\?[^"]*)"', text)), set())
+        report.count("pages of a large branch")
+    report.expect("files of a large branch", "/b/large/file?path=f1\"" in fetch(f"{address}/b/large?files=all")[2], True)
+    report.expect("a patch of a large branch", 'href="?needs=all"' in fetch(f"{address}/b/large/patch/p258")[2], True)
+    report.expect("what it needs", "/b/large/patch/p256\"" in fetch(f"{address}/b/large/patch/p258?needs=all")[2], True)
+    report.expect("a picture of conflicts", "rye-bread" in html.unescape(fetch(f"{address}/b/main/picture")[2]), True)
+
+
 def guarded(report, address):
     """Beyond loopback the page wants its token, which then is a cookie."""
     bare, _, query = address.replace("0.0.0.0", "127.0.0.1").partition("?")
@@ -422,7 +456,7 @@ def look(report, folder, python, address):
     rye = re.search(r"/b/main/patch/rye-bread-\w*", fetch(f"{address}/b/main")[2])[0]
     paths = ["/", "/b/main", rye, "/b/main/file?path=menu", "/b/main/file?path=a%2520%3Cb%3E%2520%22c%22.sh", "/b/main/conflicts", "/b/nowhere"]
     done = programs.run([python, f"{TOP}/tests/harness/browser.py", pictures, address, *paths], env=environment(folder))
-    report.expect("the browser", (done.returncode, done.stderr[-2000:]), (0, b""))
+    report.expect("the browser", (done.returncode, done.stderr[-400:]), (0, b""))
     for line in done.stdout.decode().splitlines():
         facts = json.loads(line)
         path, well = facts["path"], {"headings": 1, "lang": "en", "scripts": 0, "unreached": 0, "nameless": 0, "outside": []}

@@ -110,13 +110,18 @@ def man_pages(report, prefix):
     if not shutil.which("groff"):
         report.skip("groff")
         return
-    for page in ("man1/camp.1", "man1/camp_shell.1", "man7/camp-language.7"):
+    client = [sys.executable, "-m", "camp"]
+    pages = {"man1/camp.1": [[f"{prefix}/bin/camp", "-h"]], "man1/camp_shell.1": [[f"{prefix}/bin/camp_shell", "-h"]],
+             "man1/camp-python.1": [[*client, it, "-h"] for it in ("shell", "graph", "json")], "man7/camp-language.7": []}
+    for page, helps in pages.items():
         done = call(["groff", "-ww", "-man", "-Tutf8", "-P-c", "-P-b", "-P-u", f"{prefix}/share/man/{page}"])
         report.expect(f"{page}: warnings and status", (done.stderr, done.returncode), (b"", 0))
         report.expect(f"{page}: its name", b"NAME" in done.stdout and os.path.basename(page)[:-2].encode() in done.stdout, True)
         report.count("man pages")
-        if page.startswith("man1"):
-            options = re.findall(rb"(--[\w-]+)", call([f"{prefix}/bin/{os.path.basename(page)[:-2]}", "-h"]).stdout)
+        for it in helps:
+            said = call(it, env={**os.environ, "PYTHONPATH": f"{TOP}/clients/python"}).stdout
+            options = re.findall(rb"(--[\w-]+)", said)
+            report.expect(f"{page}: {it[-2]} has options", bool(options), True)
             missing = [it for it in options if it not in done.stdout.replace(b"\xe2\x80\x90", b"-").replace(b"\xe2\x88\x92", b"-")]
             report.expect(f"{page}: options that it lacks", missing, [])
 
@@ -137,6 +142,13 @@ def refusals(report, folder):
     """What can't be installed, or not there, is told, and nothing is left."""
     empty = f"{folder}/empty"
     os.mkdir(empty)
+    # A prefix where one folder can't be made is left as it is: nobody gets half of an installation.
+    os.makedirs(f"{folder}/half")
+    open(f"{folder}/half/share", "wb").close()
+    read_only = call(["./install", "--from", f"{folder}/built", f"{folder}/half"])
+    report.expect_run("./install where a file stands", read_only, b"", f"install: {folder}/half/share: Not a directory; nothing is installed\n".encode(), 1)
+    report.expect("what is in it", os.listdir(f"{folder}/half"), ["share"])
+    another_version(report, folder)
     for words, error, status in (
         (["--from", empty, f"{folder}/none"], f"install: {empty}/bin/camp does not exist: run ./build first\n", 1),
         (["/proc/camp"], "install: /proc/camp: No such file or directory; nothing is installed\n", 1),
@@ -146,6 +158,24 @@ def refusals(report, folder):
         report.expect_run(f"./install {' '.join(words)}", call(["./install", *words]), b"", error.encode(), status)
         report.count("refusals")
     report.expect("what is left", os.listdir(f"{folder}/none"), [])
+
+
+def another_version(report, folder):
+    """A library of another version is refused in words, by the package and by the system's loader."""
+    if not shutil.which("cc"):
+        return report.skip("a C compiler")
+    os.mkdir(f"{folder}/other")
+    stand_in_library(f"{folder}/other", "9.9.9")
+    environment = {**os.environ, "PYTHONPATH": f"{TOP}/clients/python", "CAMP_LIB_DIR": f"{folder}/other"}
+    said = call([sys.executable, "-c", "import camp; camp.require_library()"], env=environment).stderr.decode().splitlines()[-1]
+    wanted = f"ImportError: {folder}/other/libcamp.so is camp 9.9.9, and this package is of camp {version()}: run clients/build, or install the wheel of the same release"
+    report.expect("a library of another version", said, wanted)
+    with open(f"{folder}/other/none.c", "w", encoding="ascii") as file:
+        file.write("int nothing;\n")
+    subprocess.run(["cc", "-shared", f"{folder}/other/none.c", "-o", f"{folder}/other/libcamp.so"], check=True)
+    said = call([sys.executable, "-c", "import camp; camp.require_library()"], env=environment).stderr.decode().splitlines()[-1]
+    report.expect("a library without an export", said, f"ImportError: {folder}/other/libcamp.so has no camp_ask: it is of another version of camp; run clients/build, or set CAMP_LIB_DIR")
+    report.count("libraries of another version", 2)
 
 
 def release(report, built, folder, is_real):

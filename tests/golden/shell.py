@@ -9,7 +9,8 @@ import tempfile
 
 from tests.harness import golden, programs
 from tests.harness.conversation import ask
-from tests.harness.paths import DATA, EXAMPLES, TOP, read, read_text
+from tests.harness.paths import DATA, EXAMPLES, TOP, read, read_text, write
+from tests.harness.store import oks
 
 SECONDS, GATE = 10, "after camp_shell"
 
@@ -124,6 +125,19 @@ def loads(shell):
             with tempfile.TemporaryDirectory(prefix="loads-") as folder:
                 load(shell, lines, folder)
             shell.report.count("loads")
+    long_load(shell, programs.many(shell.program, 70_000))
+
+
+def long_load(shell, count):
+    """A file with more writing commands than a section of a script may have is loaded, and the next command has the next number.
+    A conversation of as many is answered to its end."""
+    text, wanted = b"record main p add f\nobliterate main p\n" * (count // 2), b"ok %d\n" % (count + 1)
+    with tempfile.TemporaryDirectory(prefix="loads-") as folder:
+        write(f"{folder}/calls", text)
+        done = programs.run([shell.program, "--load", f"{folder}/calls"], b"branch last main\n")
+    shell.report.expect_run(f"--load of {count} calls", done, wanted)
+    shell.expect(f"a conversation of {count} calls", text + b"branch last main\n", oks(count) + wanted)
+    shell.report.count("calls that are loaded", count)
 
 
 def load(shell, lines, folder):

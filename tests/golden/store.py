@@ -1,6 +1,6 @@
-"""A store has the documented bytes: each kind of call, frames, prompts, exports and refused words; 300,000 calls are reopened.
+"""A store has the documented bytes: each kind of call, frames, prompts, exports, limits and refused words; 300,000 calls are reopened.
 
-Words: whole, forms, long name parts.
+Words: whole, forms, limits, long name parts.
 """
 
 import os
@@ -10,13 +10,13 @@ import time
 
 from tests.harness import programs
 from tests.harness.paths import read, write
-from tests.harness.store import TITLE, Store, calls, digest_of, encode, long_script, oks
+from tests.harness.store import NO_STORE, TITLE, Store, calls, digest_of, encode, long_script, oks, title_with
 
 SECONDS, GATE = 20, "after camp_shell"
 
 
 def run(report, words):
-    parts = {"whole": whole, "forms": forms, "long": long}
+    parts = {"whole": whole, "forms": forms, "limits": limits, "long": long}
     for name in words or parts:
         with tempfile.TemporaryDirectory(prefix="store-") as folder:
             parts[name](Store(report, folder))
@@ -110,6 +110,102 @@ def refused_words(store, path):
         store.expect(f"{words}", (done.returncode, done.stderr), (3, b"camp_shell: %s: no plain file of one name\n" % words[1].encode()))
     os.remove(second)
     store.expect("files beside it", sorted(os.listdir(store.folder)), ["store", "text"])
+
+
+def limits(store):
+    """A store has the limits that it was made with: its first text says them, and it is opened with no others."""
+    few_changes(store)
+    default_limits(store)
+    many_changes(store)
+    other_titles(store)
+
+
+def allowing(catches, branches):
+    return ("--limits", f"catches={catches},branches={branches}")
+
+
+def few_changes(store):
+    """Two changes of a branch and three branches: not one more, also when the store is opened again."""
+    path, expect = store.path("few"), store.expect
+    made = [*calls(2), b"branch x main\n", b"branch y main\n"]
+    asked = made[0] + made[1] + calls(1, 2)[0] + made[2] + made[3] + b"branch z main\n"
+    expect("made", store.run(path, asked, allowing(2, 3)).stdout, b"ok 1\nok 2\nrefused 9\nok 3\nok 4\nrefused 9\n")
+    expect("its file", read(path), encode([title_with(2, 3), *made]))
+    expect("checked", store.check(path), 4)
+    more = [b"obliterate x p1\n", b"record x p2 add f2\n"]
+    asked = calls(1, 2)[0] + b"why\n" + more[0] + more[1] + b"record x p3 add f3\nbranch z main\nwhy\n"
+    of_branch = why(
+        "record main p2 add f2",
+        "BRANCH is main.",
+        "The branch has 2 changes, and the patch 1 more: 2 is the most.",
+        "Record in a branch with fewer changes, or take patches out of this one by obliterate.",
+    )
+    of_branches = why("branch z main", "FROM is main.", "There are 3 branches, and 3 is the most.", "Record in one of the branches that there are.")
+    expect("opened again", store.run(path, asked).stdout, b"refused 9\n%sok 5\nok 6\nrefused 9\nrefused 9\n%s" % (of_branch, of_branches))
+    expect("opened with the same limits", store.run(path, b"record y p3 add f3\n", allowing(2, 3)).stdout, b"refused 9\n")
+    content = encode([title_with(2, 3), *made, *more])
+    for other in ((2, 2), (3, 3), (3, 2), (4096, 256), (16_777_216, 65_536)):
+        other_limits(store, path, other, (2, 3))
+    expect("its file", read(path), content)
+
+
+def why(command, *lines):
+    """What `why` says after a command that met a limit."""
+    found = ["refused 9", ">" + command, "refused 9: a limit would be passed", *lines]
+    return "\n".join([f"why {len(found)}", *found, ""]).encode()
+
+
+def other_limits(store, path, wanted, has):
+    """A store with limits that are not the wanted ones is refused, and stays as it was."""
+    content = read(path)
+    done = store.run(path, calls(1, 9)[0], allowing(*wanted))
+    error = b"camp_shell: %s: the store has other limits: catches=%d,branches=%d\n" % (path.encode(), *has)
+    store.expect(f"{wanted} for {has}", (done.returncode, done.stdout, done.stderr), (3, b"", error))
+    store.expect(f"{wanted} for {has}: its file", read(path), content)
+    store.count("other limits")
+
+
+def default_limits(store):
+    """The title does not say the default limits, whether they are given or not."""
+    path, given = store.path("plain"), store.path("given")
+    store.expect("made", store.run(path, calls(1)[0]).stdout, b"ok 1\n")
+    store.expect("made with the default limits", store.run(given, calls(1)[0], allowing(4096, 256)).stdout, b"ok 1\n")
+    store.expect("their files", (read(path), read(given)), (encode([TITLE, *calls(1)]),) * 2)
+    store.expect("opened with the default limits", store.run(path, calls(1, 1)[0], allowing(4096, 256)).stdout, b"ok 2\n")
+    store.expect("its file", read(path), encode([TITLE, *calls(2)]))
+    for other in ((4095, 256), (4096, 255), (256, 4096), (1, 1)):
+        other_limits(store, path, other, (4096, 256))
+
+
+def many_changes(store):
+    """More changes of a branch than without given limits: 5,000, and not one more."""
+    path, load = store.path("many"), store.path("load")
+    write(load, b"".join(calls(4_999)))
+    done = store.run(path, b"".join(calls(2, 4_999)), (*allowing(5_000, 1), "--load", load))
+    store.expect("5,000 changes", done.stdout, b"ok 5000\nrefused 9\n")
+    store.expect("opened again", store.run(path, b"obliterate main p9\n" + b"".join(calls(2, 5_000))).stdout, b"ok 5001\nok 5002\nrefused 9\n")
+    store.expect("its first text", read(path)[27:].split(b"\n", 1)[0], b"camp store 1 catches 5000 branches 1")
+
+
+def other_titles(store):
+    """The longest title; and texts that are the first of no store, whose files stay as they are."""
+    path, title = store.path("titles"), title_with(16_777_216, 65_536)
+    made = b"~" + encode([title])[1:]
+    for end in (0, 1, 27, 64, len(made) - 1, len(made)):
+        write(path, made[:end])
+        store.expect(f"made up to {end}", store.run(path, calls(1)[0], allowing(16_777_216, 65_536)).stdout, b"ok 1\n")
+        store.expect(f"made up to {end}", read(path), encode([title, *calls(1)]))
+    write(path, b"~" + b"x" * 79)
+    store.expect("80 bytes without a text", store.run(path, calls(1)[0], allowing(3, 3)).stdout, b"ok 1\n")
+    store.expect("80 bytes without a text", read(path)[27:].split(b"\n", 1)[0], b"camp store 1 catches 3 branches 3")
+    rows = ("4096 branches 256", "0 branches 1", "1 branches 0", "16777217 branches 1", "1 branches 65537", "02 branches 2", "2 branches 02", "2", "2 branches", "2 branches 2 ", " 2 branches 2", "2  branches 2")
+    for text in [b"camp store 1 catches %s\n" % row.encode() for row in rows] + [b"camp store 1 branches 2 catches 2\n", b"camp store 1 catches 2 branches 2", b"camp store 1"]:
+        content = encode([text, *calls(1)])
+        for words in ((), allowing(2, 2)):
+            write(path, content)
+            done = store.run(path, calls(1, 1)[0], words)
+            store.expect(f"{text}", (done.returncode, done.stderr, read(path)), (3, f"camp_shell: {path}: {NO_STORE}\n".encode(), content))
+        store.count("other titles")
 
 
 def long(store):

@@ -33,22 +33,6 @@ def environment_of(folder, shell):
     return {"PATH": path, **client, "HOME": f"{folder}/home", "TERM": "xterm", "NO_COLOR": "1", "LC_ALL": "C.UTF-8"}
 
 
-def foresight(report):
-    """An answer of `whatif` that has the unresolved pairs is compared with those of now, and one that has not by its conflicts."""
-    sys.path.insert(0, f"{TOP}/clients/python")
-    from camp.terminal.commands import Call
-    from camp.terminal.unresolved import Watch
-
-    now = {b"conflicts main\n": b"conflicts 2\na b\nc d\n", b"open main\n": b"open 1\na b\n"}
-    rows = [(b"open 2\nc d\ne f\n", ["c and d would be in conflict, unresolved", "e and f would be in conflict, unresolved", "a and b would be resolved"])]
-    rows.append((b"", ["e and f would be in conflict"]))
-    for part, wanted in rows:
-        answer = b"whatif 8\nok 9\nconflicts 3\na b\nc d\ne f\n%btree 0\n" % part
-        lines = Watch(now.__getitem__, False).foresee(Call("pull", "main", "work"), answer)
-        report.expect(f"whatif with the part {part!r}", [line for line, _ in lines], wanted)
-        report.count("answers of whatif")
-
-
 def interrupted(report, environment, folder):
     """Ctrl-C while an answer is awaited is noted, and the second one ends with words about what is lost."""
     # A program that gets the first 60 bytes of what it is sent, and then waits for the rest of a request.
@@ -70,6 +54,29 @@ def interrupted(report, environment, folder):
     report.count("interrupted requests")
 
 
+def interrupted_reading(report, environment, folder):
+    """Ctrl-C while a file is read stops there, and says which line was read last and how many calls were accepted."""
+    # A program that takes a twentieth of a second for each request.
+    proxy = ["import os, subprocess, sys, time", "to = subprocess.Popen(['camp_shell', *sys.argv[1:]], stdin=subprocess.PIPE).stdin"]
+    proxy += ["while chunk := os.read(0, 65536):", "    time.sleep(0.05)", "    to.write(chunk)", "    to.flush()"]
+    write_text(f"{folder}/proxy", "".join(line + "\n" for line in [f"#!{sys.executable}", *proxy]))
+    os.chmod(f"{folder}/proxy", 0o755)
+    write_text(f"{folder}/calls", "".join(f"record main a{at} add f{at}\n" for at in range(4000)))
+    terminal = Terminal("CAMP_SHELL=./proxy exec python3 -m camp shell", environment, folder)
+    terminal.read_until(is_prompt)
+    os.write(terminal.end, b"read calls\r")
+    terminal.read_until(lambda shown: b"working" in shown)
+    terminal.interrupt()
+    lines = [it.rpartition("\\r")[2] for it in lines_of(terminal.read_until(is_prompt))]
+    said = next((it for it in lines if it.startswith("calls, line ")), "")
+    names = lines_of(terminal.type("names main"))[0]
+    terminal.close()
+    count = names.rpartition(" ")[2]
+    wanted = (True, f"calls, line {count}: the rest is not read; {count} calls accepted")
+    report.expect("Ctrl-C while a file is read", ("Ctrl-C again ends the conversation." in lines, said), wanted)
+    report.count("interrupted files")
+
+
 def piped(report, environment, name):
     """A conversation of examples/ without faults is answered through a pipe as by camp_shell, with words of conflicts between."""
     done = programs.run([sys.executable, "-m", "camp", "shell"], read(f"{EXAMPLES}/{name}.talk"), env=environment)
@@ -84,10 +91,10 @@ def piped(report, environment, name):
 def run(report, words):
     shell = programs.path("camp_shell")
     if not words:
-        foresight(report)
         with tempfile.TemporaryDirectory(prefix="terminal-") as folder:
             environment = environment_of(folder, shell)
             interrupted(report, environment, folder)
+            interrupted_reading(report, environment, folder)
             for name in ("questions", "conflicts"):
                 piped(report, environment, name)
     for title, transcript in cases():

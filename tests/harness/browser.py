@@ -7,6 +7,7 @@ Pictures go into FOLDER, with scripts switched off: 1,000 and 320 pixels wide.
 
 import asyncio
 import base64
+import contextlib
 import itertools
 import json
 import os
@@ -14,6 +15,8 @@ import re
 import sys
 import tempfile
 
+# Seconds after which a browser counts as hanging.
+LIMIT = 600
 FACTS = """JSON.stringify({
   title: document.title, text: document.body.innerText, headings: [...document.querySelectorAll('h1')].length, lang: document.documentElement.lang,
   scripts: document.scripts.length, width: document.documentElement.scrollWidth,
@@ -41,13 +44,13 @@ class Browser:
         number = next(self.numbers)
         self.answers[number] = asyncio.get_running_loop().create_future()
         await self.socket.send_json({"id": number, "method": method, "params": parameters})
-        found = await asyncio.wait_for(self.answers[number], 60)
+        found = await asyncio.wait_for(self.answers[number], LIMIT)
         if "error" in found:
             raise RuntimeError(f"{method}: {found['error']}")
         return found["result"]
 
     async def happens(self, method):
-        for _ in range(600):
+        for _ in range(20 * LIMIT):
             if any(it["method"] == method for it in self.events):
                 return
             await asyncio.sleep(0.05)
@@ -82,22 +85,43 @@ async def look(browser, folder, address, path):
     return {**facts, "path": path, "status": status, "outside": outside, "console": words}
 
 
+async def first_of(ask):
+    """The first answer that is not None, asked for again and again."""
+    for _ in range(10 * LIMIT):
+        found = await ask()
+        if found is not None:
+            return found
+        await asyncio.sleep(0.1)
+    raise RuntimeError("the browser does not start")
+
+
+async def port_in(profile):
+    """The port that the browser says in its folder, once the line is whole."""
+    with contextlib.suppress(OSError):
+        with open(f"{profile}/DevToolsActivePort", encoding="ascii") as file:
+            line = file.readline()
+        return line.strip() if line.endswith("\n") else None
+    return None
+
+
+async def page_at(session, port):
+    """The address of the browser's first page, once it has one."""
+    async with session.get(f"http://127.0.0.1:{port}/json") as found:
+        pages = [it["webSocketDebuggerUrl"] for it in await found.json() if it["type"] == "page"]
+    return pages[0] if pages else None
+
+
 async def main(folder, address, paths):
     import aiohttp
-    with tempfile.TemporaryDirectory(prefix="browser-") as profile:
+    # Processes of the browser may still write into its folder while it is removed.
+    with tempfile.TemporaryDirectory(prefix="browser-", ignore_cleanup_errors=True) as profile:
         flags = ["--headless", "--no-sandbox", "--disable-gpu", "--hide-scrollbars", "--no-first-run", "--disable-background-networking", "--remote-debugging-port=0"]
         process = await asyncio.create_subprocess_exec(
             "chromium", *flags, f"--user-data-dir={profile}", "about:blank", stdout=asyncio.subprocess.DEVNULL, stderr=asyncio.subprocess.DEVNULL)
         try:
-            for _ in range(600):
-                if os.path.exists(f"{profile}/DevToolsActivePort"):
-                    break
-                await asyncio.sleep(0.1)
-            with open(f"{profile}/DevToolsActivePort", encoding="ascii") as file:
-                port = file.readline().strip()
+            port = await first_of(lambda: port_in(profile))
             async with aiohttp.ClientSession() as session:
-                async with session.get(f"http://127.0.0.1:{port}/json") as found:
-                    target = [it for it in await found.json() if it["type"] == "page"][0]["webSocketDebuggerUrl"]
+                target = await first_of(lambda: page_at(session, port))
                 async with session.ws_connect(target, max_msg_size=0) as socket:
                     browser = Browser(socket)
                     listening = asyncio.create_task(browser.listen())

@@ -9,6 +9,11 @@ TITLE = b"camp store 1\n"
 NO_STORE = "no store of camp"
 
 
+def title_with(catches, branches):
+    """The first text of a store whose repository has these limits, which are not the default ones."""
+    return b"camp store 1 catches %d branches %d\n" % (catches, branches)
+
+
 def chain(texts):
     """The digest of each record: that of the one before it and its own text."""
     digest = bytes(32)

@@ -3,6 +3,7 @@ r"""Types at programs in a terminal of their own, and gives back what it shows: 
 A transcript is what a person sees. A line `$ COMMAND` is run by bash, in a terminal and one after the other. A line that begins
 with a prompt of camp is typed after it; the lines below are what is shown up to the next prompt, where a line `...` stands for any
 lines, and `...` at the end of a line for the rest of it.
+Two terminals side by side are two columns, `LEFT | RIGHT`, with their names above them; what stands higher is typed earlier.
 An escape character is `\e`, a carriage return inside a line `\r`. In typed text `<C-c>`, `<C-d>`, `<Tab>` and `<Up>` are keys. Enter follows, unless the last key is Ctrl-C or Ctrl-D.
 """
 
@@ -20,8 +21,10 @@ import time
 PROMPTS = ("camp> ", "....> ")
 KEYS = {"<C-c>": "\x03", "<C-d>": "\x04", "<Tab>": "\t", "<Up>": "\x1b[A"}
 COLUMNS = 130
+# The line that says how long something takes, written anew each second, and then taken away.
+PROGRESS = re.compile(r"(\\rworking: [^\\]*)+\\r *\\r")
 # Seconds without a prompt after which a program counts as hanging.
-TIMEOUT = 120
+TIMEOUT = 600
 # Seconds after which Ctrl-C is typed once more: Python does not see one that comes between a key and its wait for the next.
 REPEAT = 3
 
@@ -29,13 +32,13 @@ REPEAT = 3
 class Terminal:
     """A command of bash in a terminal."""
 
-    def __init__(self, command, environment, folder):
+    def __init__(self, command, environment, folder, columns=COLUMNS):
         self.process, self.end = pty.fork()
         if self.process == 0:
             with contextlib.suppress(BaseException):
                 os.chdir(folder)
                 # The width is set before anything asks for it.
-                fcntl.ioctl(0, termios.TIOCSWINSZ, struct.pack("HHHH", 40, COLUMNS, 0, 0))
+                fcntl.ioctl(0, termios.TIOCSWINSZ, struct.pack("HHHH", 40, columns, 0, 0))
                 os.execvpe("bash", ["bash", "-c", command], environment)
             os._exit(127)
 
@@ -103,8 +106,14 @@ def is_match(wanted, lines):
         return not lines
     if wanted[0] == "...":
         return any(is_match(wanted[1:], lines[at:]) for at in range(len(lines) + 1))
-    is_first = bool(lines) and (lines[0].startswith(wanted[0][:-3]) if wanted[0].endswith("...") else lines[0] == wanted[0])
-    return is_first and is_match(wanted[1:], lines[1:])
+    return bool(lines) and is_line(wanted[0], lines[0]) and is_match(wanted[1:], lines[1:])
+
+
+def is_line(wanted, line):
+    """Whether a line is the wanted one. What a slow machine shows of how long something takes counts only where it is wanted."""
+    if not wanted.startswith("\\r"):
+        line = PROGRESS.sub("", line)
+    return line.startswith(wanted[:-3]) if wanted.endswith("...") else line == wanted
 
 
 def commands_of(transcript):
@@ -140,3 +149,57 @@ def run_command(command, wanted, environment, folder):
             shown = lines_of(terminal.type(text))
     finally:
         terminal.close()
+
+
+class Column:
+    """One of several terminals side by side, whose commands run one after the other: what it has shown since a line was typed, and what
+    stands there for it."""
+
+    def __init__(self, name, environment, folder, columns):
+        self.name, self.place, self.terminal = name, (environment, folder, columns), None
+        self.shown, self.wanted, self.typed, self.differences = [], [], "", []
+
+    def take(self, cell):
+        """Types a cell that is a command or begins with a prompt; any other one is a line that has to be shown."""
+        if cell.startswith("$ "):
+            self.compare()
+            self.close()
+            self.terminal = Terminal(cell[2:], *self.place)
+            self.shown = lines_of(self.terminal.read_until(is_prompt))
+        elif is_typed(cell):
+            self.compare()
+            prompt, text = cell[: len(PROMPTS[0])], cell[len(PROMPTS[0]) :]
+            if self.prompt != prompt:
+                self.differences.append(f"{self.name}: before {cell}: the prompt is {self.prompt!r}")
+            self.shown = lines_of(self.terminal.type(text))
+        else:
+            self.wanted.append(cell)
+            return
+        self.typed, self.prompt = cell, self.shown.pop()
+
+    def compare(self):
+        if self.typed and not is_match(self.wanted, self.shown):
+            self.differences.append("\n".join([f"{self.name}: {self.typed}", *(f"- {it}" for it in self.wanted), *(f"+ {it}" for it in self.shown)]))
+        self.wanted = []
+
+    def close(self):
+        if self.terminal:
+            self.terminal.close()
+
+
+def run_together(text, environment, folder):
+    """Runs a block with two columns, and returns how they differ from what is shown."""
+    head, *rows = text.splitlines()
+    middle = head.index("|")
+    columns = [Column(it.strip(), environment, folder, middle) for it in (head[:middle], head[middle + 1 :])]
+    try:
+        for row in rows:
+            for column, cell in zip(columns, (row[:middle].rstrip(), row[middle + 2 :].rstrip())):
+                if cell:
+                    column.take(cell)
+        for it in columns:
+            it.compare()
+    finally:
+        for it in columns:
+            it.close()
+    return [text for it in columns for text in it.differences]

@@ -4,8 +4,8 @@ Words: CRATE or CRATE/src/FILE ..: the mutants of these; --find: prints tests th
 
 crates/worked/turns names lines of the bodies, with what a careless reader could have written in their place and the test that
 notices it: a table of crates/worked/stdin or of crates/worked_talks/stdin; `faults` or `answers`, the scripts of these files of
-tests/data; or `examples PART`, `shell PART` or `allocations`, a part of golden/camp or golden/shell, or golden/allocations. In a
-copy of the repository each function has a body for each of its mutants, and a switch between them. The programs are built once,
+tests/data; `examples PART`, `shell PART` or `store PART`, a part of golden/camp, golden/shell or golden/store; `strangers PART`, one
+of faults/strangers; or `allocations`, golden/allocations. In a copy of the repository each function has a body for each of its mutants, and a switch between them. The programs are built once,
 without proofs, and run with each mutant.
 """
 
@@ -31,6 +31,8 @@ SWITCH = "//! Which mutant is on.\n\npub fn is_on(mutant: i32) -> bool {\n    li
 GOLDEN = {
     "examples": ("golden/camp", "camp", "CAMP", []),
     "shell": ("golden/shell", "camp_shell", "CAMP_SHELL", []),
+    "store": ("golden/store", "camp_shell", "CAMP_SHELL", []),
+    "strangers": ("faults/strangers", "camp_shell", "CAMP_SHELL", []),
     "allocations": ("golden/allocations", "worked", "WORKED_FAILING", ["--fail-alloc", str(REFUSED)]),
 }
 # What takes so many seconds of a processor has noticed something as well; beside other work it may take so many times longer.
@@ -135,7 +137,8 @@ def make_copy(folder, mutants):
     touched = sorted({it.file.split("/")[0] for it in mutants})
     for crate in touched:
         write_text(f"{folder}/crates/{crate}/src/mutating.rt", SWITCH)
-        change(f"{folder}/crates/{crate}/src/lib.rt", lambda text: re.sub(r"^mod ", "mod mutating;\nmod ", text, count=1, flags=re.M))
+        (top,) = (it for it in ("lib", "main") if os.path.exists(f"{folder}/crates/{crate}/src/{it}.rt"))
+        change(f"{folder}/crates/{crate}/src/{top}.rt", lambda text: re.sub(r"^mod ", "mod mutating;\nmod ", text, count=1, flags=re.M))
     change(f"{folder}/crates.txt", lambda text: re.sub(rf"^({'|'.join(touched)}):", r"\1: libc", text, flags=re.M))
 
 

@@ -6,7 +6,7 @@ SECONDS, GATE = 1, "beside"
 # Files, and what stands round the version in them.
 PLACES = {
     "crates/camp_options/src/help.rt": 'VERSION: &str = "{}"',
-    "clients/python/camp/__init__.py": '__version__ = "{}"',
+    "clients/python/camp/_library.py": 'VERSION = "{}"',
     "clients/python/pyproject.toml": 'version = "{}"',
     "apps/campvc/campvc/__init__.py": '__version__ = "{}"',
     "apps/campvc/pyproject.toml": 'version = "{}"',
