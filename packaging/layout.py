@@ -67,6 +67,7 @@ def lay_out(folder, prefix, source=BUILT):
         helps[name] = helptext.help_of(f"{folder}/bin/{name}")
         write(f"{folder}/share/man/man1/{name}.1", man.program_page(name, helps[name], number))
         write(f"{folder}/share/zsh/site-functions/_{name}", completions.zsh(name, helps[name]))
+    write(f"{folder}/share/man/man1/camp-python.1", man.python_page(TOP, number))
     with open(f"{TOP}/docs/language.md", encoding="utf-8") as file:
         write(f"{folder}/share/man/man7/camp-language.7", man.language_page(file.read(), number))
     for name in PROGRAMS:

@@ -1,12 +1,16 @@
 """Man pages, made of the text of `--help` and of docs/language.md."""
 
+import argparse
 import re
+import sys
+
+from .helptext import Option
 
 ABOUT = {
     "camp": "run a script of clients over a repository of named patches",
     "camp_shell": "hold a conversation with a repository of named patches",
 }
-SEE = {"camp": "camp_shell(1), camp-language(7)", "camp_shell": "camp(1), camp-language(7), git-fast-import(1)"}
+SEE = {"camp": "camp_shell(1), camp-python(1), camp-language(7)", "camp_shell": "camp(1), camp-python(1), camp-language(7), git-fast-import(1)"}
 
 
 def escaped(text):
@@ -36,6 +40,37 @@ def program_page(name, found, version):
         f".SH SYNOPSIS\n.nf\n{escaped(found.usage)}\n.fi\n"
         ".SH OPTIONS\n" + "".join(option_text(it) for it in found.options) + ".SH DESCRIPTION\n" + verbatim(found.reference) + f".SH SEE ALSO\n{escaped(SEE[name])}\n"
     )
+
+
+def python_page(top, version):
+    """The page of `python3 -m camp`, section 1, made of its parser."""
+    sys.path.insert(0, f"{top}/clients/python")
+    from camp.__main__ import parser
+
+    found = parser()
+    (commands,) = (it for it in found._actions if isinstance(it, argparse._SubParsersAction))
+    texts = {it.dest: it.help for it in commands._choices_actions}
+    out = [f'.TH CAMP\\-PYTHON 1 "" "camp {version}" "camp"\n.SH NAME\ncamp\\-python \\- a repository of named patches at a terminal\n']
+    out.append(".SH SYNOPSIS\n" + "".join(f".B {escaped(found.prog)} {name}\n{escaped(usage_of(it))}\n.br\n" for name, it in commands.choices.items()))
+    for name, it in commands.choices.items():
+        out.append(f".SH COMMAND {name.upper()}\n{escaped(name)}: {escaped(texts[name])}.\n.PP\n{escaped(it.description)}\n")
+        out += [option_text(action_option(action)) for action in it._actions]
+    for part in found.epilog.split("\n\n"):
+        title, _, lines = part.partition(":\n")
+        out.append(f".SH {title.upper()}\n{verbatim(lines)}")
+    return "".join(out) + ".SH SEE ALSO\ncamp_shell(1), camp\\-language(7), dot(1)\n"
+
+
+def usage_of(parser):
+    """The words behind a command, without line breaks."""
+    return " ".join(parser.format_usage().split()).partition(f" {parser.prog} ")[2]
+
+
+def action_option(action):
+    """An option or a word of a command line."""
+    value = action.metavar if action.nargs != 0 else None
+    *short, long = action.option_strings or [action.metavar]
+    return Option(short[0] if short else None, long, value if action.option_strings else None, action.help)
 
 
 def language_page(markdown, version):

@@ -23,7 +23,7 @@ def digest():
     kit = subprocess.run(["rt", "version"], stdout=subprocess.PIPE, check=True).stdout
     found = hashlib.sha256(kit)
     sources = [it for part in ("src", "specs", "proofs") for it in glob.glob(f"{TOP}/crates/*/{part}/**/*.*t*", recursive=True)]
-    others = [f"{TOP}/{it}" for it in ("crates.txt", "HANDLES", "clients/build", "clients/c/include/camp.h")]
+    others = [f"{TOP}/{it}" for it in ("crates.txt", "HANDLES", "clients/build", "clients/c/texts.c", "clients/c/include/camp.h")]
     for path in sorted([*others, *sources]):
         with open(path, "rb") as file:
             found.update(repr((os.path.relpath(path, TOP), file.read())).encode())
