@@ -110,12 +110,12 @@ pub extern "C" fn camp_view_again(alloc: Global, view: &mut Handle, other: &mut 
     let Some(kept) = view.take(alloc) else {
         return CLOSED;
     };
-    let code = look_again(alloc, &kept, other);
+    let code = open_same_view(alloc, &kept, other);
     view.put(kept);
     code
 }
 
-fn look_again(alloc: Global, kept: &Kept, handle: &mut Handle) -> i32
+fn open_same_view(alloc: Global, kept: &Kept, handle: &mut Handle) -> i32
     ensures { OpensViewAgain (Some kept.now) handle.old.keeper.held result handle.new.keeper.held }
 {
     let Kept::View(view) = kept else {

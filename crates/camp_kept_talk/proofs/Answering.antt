@@ -8,7 +8,7 @@ use Rattle.camp_kept_talk.specs.Promises.{AnswersLast, Told, durable_at_least}
 use Rattle.camp_talk.specs.Answers.{Answers, Standing}
 use Rattle.camp_talk.specs.Cutting.{IsCommand, IsLeft}
 use Rattle.camp_talk.specs.Talks.{AppendsSome, Exchange, Follow, ReadsCommand}
-use Rattle.camp_talk.specs.Talks.{Holds as HoldsSo}
+use Rattle.camp_talk.specs.Talks.{Holds as HasAnswered}
 
 follow-append : (first middle last : Standing) (one two : List Exchange) → Follow first one middle → Follow middle two last → Follow first (one ++ two) last
 follow-append first middle last [] two follow more = subst (λ (s : Standing). Follow s two last) (sym follow) more
@@ -48,8 +48,8 @@ last_read b c true command reads = inl reads.1
 last_read b c false command reads = inr (reads.1, reads.2)
 
 -- successive conversations, the second of which is written later
-pub holds_trans : (a b c old now after : Option (List ℕ)) (held : List ℕ) (first middle last : Standing) → HoldsSo a b old now first middle
-    → HoldsSo b c (Some []) (Some held) middle last → Appends now after held → HoldsSo a c old after first last
+pub holds_trans : (a b c old now after : Option (List ℕ)) (held : List ℕ) (first middle last : Standing) → HasAnswered a b old now first middle
+    → HasAnswered b c (Some []) (Some held) middle last → Appends now after held → HasAnswered a c old after first last
 holds_trans a b c old now after held first middle last one two grows = record {
   said = one.said ++ two.said;
   follow = follow-append first middle last one.said two.said one.follow two.follow;
@@ -58,7 +58,7 @@ holds_trans a b c old now after held first middle last one two grows = record {
       (Appends-trans old now after _ _ one.writes (subst (Appends now after) two.writes grows));
 }
 
-pub told_of : (a b old now : Option (List ℕ)) (first last : Standing) → HoldsSo a b old now first last → Told a b old now first last
+pub told_of : (a b old now : Option (List ℕ)) (first last : Standing) → HasAnswered a b old now first last → Told a b old now first last
 told_of a b old now first last holds = record {
   said = holds.said;
   middle = last;
@@ -73,7 +73,7 @@ told_of a b old now first last holds = record {
     alone part = ap (λ (l : List Exchange). flat_map part l) (sym (append-nil holds.said))
 
 -- if more is known of what was written, no more was
-pub holds_kept : (a b old now after : Option (List ℕ)) (first last : Standing) → HoldsSo a b old now first last → Keeps now after → HoldsSo a b old after first last
+pub holds_kept : (a b old now after : Option (List ℕ)) (first last : Standing) → HasAnswered a b old now first last → Keeps now after → HasAnswered a b old after first last
 holds_kept a b old now after first last holds keeps = record {
   said = holds.said;
   follow = holds.follow;
@@ -82,12 +82,12 @@ holds_kept a b old now after first last holds keeps = record {
 }
 
 -- the commands are the same
-pub told_of_all : (a b old now : Option (List ℕ)) (first last : Standing) (holds : HoldsSo a b old now first last)
+pub told_of_all : (a b old now : Option (List ℕ)) (first last : Standing) (holds : HasAnswered a b old now first last)
     → (told_of a b old now first last holds).said ++ (told_of a b old now first last holds).more ≡ holds.said
 unfolding told_of
 told_of_all a b old now first last holds = append-nil holds.said
 
-pub holds_kept_all : (a b old now after : Option (List ℕ)) (first last : Standing) (holds : HoldsSo a b old now first last) (keeps : Keeps now after)
+pub holds_kept_all : (a b old now after : Option (List ℕ)) (first last : Standing) (holds : HasAnswered a b old now first last) (keeps : Keeps now after)
     → (holds_kept a b old now after first last holds keeps).said ≡ holds.said
 unfolding holds_kept
 holds_kept_all a b old now after first last holds keeps = refl
@@ -120,7 +120,7 @@ some_of_both old now after one two held done rest writes parts is (front, behind
 )
 
 -- and a prefix of the buffered bytes is written
-pub told_trans : (a b c old now after : Option (List ℕ)) (held : List ℕ) (first middle last : Standing) → HoldsSo a b old now first middle
+pub told_trans : (a b c old now after : Option (List ℕ)) (held : List ℕ) (first middle last : Standing) → HasAnswered a b old now first middle
     → Told b c (Some []) (Some held) middle last → AppendsSome now after held → Told a c old after first last
 told_trans a b c old now after held first middle last one two grows = record {
   said = one.said ++ two.said;
@@ -139,7 +139,7 @@ told_trans a b c old now after held first middle last one two grows = record {
         ∙ ap (λ (l : List Exchange). flat_map part l) (sym (append_assoc one.said two.said two.more))
 
 -- one more command, whose answer is buffered, perhaps in part
-pub told_more : (b c d : Option (List ℕ)) (held more : List ℕ) (middle last next : Standing) (said : Exchange) → HoldsSo b c (Some []) (Some held) middle last
+pub told_more : (b c d : Option (List ℕ)) (held more : List ℕ) (middle last next : Standing) (said : Exchange) → HasAnswered b c (Some []) (Some held) middle last
     → IsLast (OnSome c (IsAtEnd d)) said.command → Answers last said.command said.answer next → Consumes c d said.command
     → AppendsSome (Some held) (Some more) said.answer → Told b d (Some []) (Some more) middle next
 told_more b c d held more middle last next said holds kind answers reads (done, rest, parts, writes) = record {

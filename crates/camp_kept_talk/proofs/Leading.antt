@@ -7,7 +7,7 @@ use Rattle.camp_kept.specs.Keeping.{AreFirst, Holds, IsStoreOf, LeavesKept, stor
 use Rattle.camp_kept.specs.declared.faults.KeptFault.{KeptFault}
 use Rattle.camp_kept.specs.declared.kept.Kept.{Kept}
 use Rattle.camp_kept.proofs.Committing.{holds_leave}
-use Rattle.camp_kept_talk.specs.Going.{AllAreKept, Comes, ComesSettled, Goes, IsUnwritten, MayBeKept, Settles, Stays, StopsSo, StopsUnkept, StopsUnwritten, TalksKept, as_told}
+use Rattle.camp_kept_talk.specs.Going.{AllAreDurable, AfterStep, AfterFlush, BuffersAnswers, IsUnwritten, MayBeDurable, Settles, FailsBuffered, StopsWithFault, StopsNotDurable, StopsUnwritten, TalksKept, write_as_memory}
 use Rattle.camp_kept_talk.specs.Promises.{Promises, Told, durable_at_least}
 use Rattle.camp_kept_talk.specs.declared.faults.StoredFault.{StoredFault}
 use Rattle.camp_kept_talk.specs.declared.faults.StoredFault.TheVariants as fault
@@ -18,8 +18,8 @@ use Rattle.camp_store.specs.Logs.{KeepsTexts}
 use Rattle.camp_talk.specs.Accounts.{Account}
 use Rattle.camp_talk.specs.Answers.{Answers, Standing}
 use Rattle.camp_talk.specs.Entries.{Entries}
-use Rattle.camp_talk.specs.Talks.{AppendsSome, EndsSo, Exchange, ReadsWithin, Turns}
-use Rattle.camp_talk.specs.Talks.{Holds as HoldsSo}
+use Rattle.camp_talk.specs.Talks.{AppendsSome, EndsWithStep, Exchange, ReadsWithin, Turns}
+use Rattle.camp_talk.specs.Talks.{Holds as HasAnswered}
 use Rattle.camp_talk.specs.declared.faults.TalkFault.{TalkFault}
 use Rattle.camp_talk.specs.declared.faults.TalkFault.TheVariants as talk
 use Rattle.camp_talk.proofs.Firsts.{command_read}
@@ -37,7 +37,7 @@ reads_none b = record { some = []; reads = Consumes-nil b; is = tt }
 module _ {D : Type 0} (seen : D → List ℕ) (may_leave : D → List ℕ → Type 0) (durable : Stored) (a old now : Option (List ℕ)) (first : Standing) (kept : Kept D) where
   -- at first
   pub begins : (lines : ℕ) (cause : Account) → AreFirst durable kept → Holds seen may_leave durable kept
-      → Goes seen may_leave durable a a now now [] (at kept.book lines cause) (at kept.book lines cause) kept
+      → BuffersAnswers seen may_leave durable a a now now [] (at kept.book lines cause) (at kept.book lines cause) kept
   begins lines cause front holds = record {
     middle = at kept.book lines cause;
     left = a;
@@ -50,8 +50,8 @@ module _ {D : Type 0} (seen : D → List ℕ) (may_leave : D → List ℕ → Ty
     within = front;
   }
 
-  module _ (b : Option (List ℕ)) (held : List ℕ) (lines : ℕ) (cause : Account) (goes : Goes seen may_leave durable a b old now held first (at kept.book lines cause) kept) where
-    pub stays : Stays seen may_leave durable a b old now held first kept
+  module _ (b : Option (List ℕ)) (held : List ℕ) (lines : ℕ) (cause : Account) (goes : BuffersAnswers seen may_leave durable a b old now held first (at kept.book lines cause) kept) where
+    pub stays : FailsBuffered seen may_leave durable a b old now held first kept
     stays = record {
       middle = goes.middle;
       last = at kept.book lines cause;
@@ -69,13 +69,13 @@ module _ {D : Type 0} (seen : D → List ℕ) (may_leave : D → List ℕ → Ty
     }
 
     -- everything is persisted and written, and the conversation continues
-    pub settled : (new : Kept D) (after : Option (List ℕ)) (rest : List ℕ) → AllAreKept seen may_leave kept new → rest ≡ [] → Appends now after held → new.book ≡ kept.book
-        → Goes seen may_leave durable a b old after rest first (at new.book lines cause) new
+    pub settled : (new : Kept D) (after : Option (List ℕ)) (rest : List ℕ) → AllAreDurable seen may_leave kept new → rest ≡ [] → Appends now after held → new.book ≡ kept.book
+        → BuffersAnswers seen may_leave durable a b old after rest first (at new.book lines cause) new
     settled new after rest keeps none grows same = record {
       middle = at new.book lines cause;
       left = b;
       told = told_now;
-      behind = subst (λ (l : List ℕ). HoldsSo b b (Some []) (Some l) (at new.book lines cause) (at new.book lines cause)) (sym none) (begins_so b (Some []) (at new.book lines cause));
+      behind = subst (λ (l : List ℕ). HasAnswered b b (Some []) (Some l) (at new.book lines cause) (at new.book lines cause)) (sym none) (begins_so b (Some []) (at new.book lines cause));
       calls = stored_in kept;
       holds = keeps goes.calls goes.within goes.holds;
       still = part_through goes.still goes.within;
@@ -84,8 +84,8 @@ module _ {D : Type 0} (seen : D → List ℕ) (may_leave : D → List ℕ → Ty
       within = subst (λ (h : Entries). IsFrontOf (stored_in kept) (stored_of h)) (sym same) (part_self (stored_in kept));
     }
       where
-        told_now : HoldsSo a b old after first (at new.book lines cause)
-        told_now = subst (λ (h : Entries). HoldsSo a b old after first (at h lines cause)) (sym same)
+        told_now : HasAnswered a b old after first (at new.book lines cause)
+        told_now = subst (λ (h : Entries). HasAnswered a b old after first (at h lines cause)) (sym same)
             (holds_trans a goes.left b old now after held first goes.middle (at kept.book lines cause) goes.told goes.behind grows)
 
     module _ (c : Option (List ℕ)) (more : List ℕ) (new : Kept D) (same_log : new.log ≡ kept.log) (same_count : new.count ≡ kept.count) where
@@ -98,7 +98,7 @@ module _ {D : Type 0} (seen : D → List ℕ) (may_leave : D → List ℕ → Ty
 
       -- a command was answered into the buffer
       pub turned : (after : ℕ) (learnt : Account) → Turns b c (Some held) (Some more) (at kept.book lines cause) (Ok true) (at new.book after learnt)
-          → Goes seen may_leave durable a c old now more first (at new.book after learnt) new
+          → BuffersAnswers seen may_leave durable a c old now more first (at new.book after learnt) new
       turned after learnt turns = record {
         middle = goes.middle;
         left = goes.left;
@@ -113,7 +113,7 @@ module _ {D : Type 0} (seen : D → List ℕ) (may_leave : D → List ℕ → Ty
 
       -- one was answered, perhaps in part
       one_more : (said : Exchange) (next : Standing) → IsLast (OnSome b (IsAtEnd c)) said.command → Answers (at kept.book lines cause) said.command said.answer next
-          → Consumes b c said.command → AppendsSome (Some held) (Some more) said.answer → next.history ≡ new.book → Stays seen may_leave durable a c old now more first new
+          → Consumes b c said.command → AppendsSome (Some held) (Some more) said.answer → next.history ≡ new.book → FailsBuffered seen may_leave durable a c old now more first new
       one_more said next kind answers reads writes is = record {
         middle = goes.middle;
         last = next;
@@ -131,7 +131,7 @@ module _ {D : Type 0} (seen : D → List ℕ) (may_leave : D → List ℕ → Ty
       }
 
       -- none could be read
-      none_more : ReadsWithin b c → Keeps (Some held) (Some more) → new.book ≡ kept.book → Stays seen may_leave durable a c old now more first new
+      none_more : ReadsWithin b c → Keeps (Some held) (Some more) → new.book ≡ kept.book → FailsBuffered seen may_leave durable a c old now more first new
       none_more reads keeps same = record {
         middle = goes.middle;
         last = at kept.book lines cause;
@@ -148,20 +148,20 @@ module _ {D : Type 0} (seen : D → List ℕ) (may_leave : D → List ℕ → Ty
         is = sym same;
       }
 
-      pub stopped : (after : ℕ) (learnt : Account) (why : TalkFault) → Turns b c (Some held) (Some more) (at kept.book lines cause) (Err why) (at new.book after learnt) → Stays seen may_leave durable a c old now more first new
+      pub stopped : (after : ℕ) (learnt : Account) (why : TalkFault) → Turns b c (Some held) (Some more) (at kept.book lines cause) (Err why) (at new.book after learnt) → FailsBuffered seen may_leave durable a c old now more first new
       stopped after learnt talk.Memory turns = none_more turns.none turns.keeps (ap (λ (s : Standing). s.history) turns.same)
       stopped after learnt (talk.Read error) turns = none_more turns.none turns.keeps (ap (λ (s : Standing). s.history) turns.same)
       stopped after learnt talk.Internal turns = none_more (record { some = turns.none.some; reads = turns.none.reads; is = turns.none.is }) turns.keeps (ap (λ (s : Standing). s.history) turns.same)
       stopped after learnt (talk.Write error) turns =
           one_more turns.said turns.behind (last_read b c turns.whole turns.said.command turns.reads) turns.answers (command_read b c turns.whole turns.said.command turns.reads) turns.writes (sym (ap (λ (s : Standing). s.history) turns.same))
 
-      pub ended : (after : ℕ) (learnt : Account) → Turns b c (Some held) (Some more) (at kept.book lines cause) (Ok false) (at new.book after learnt) → Stays seen may_leave durable a c old now more first new
+      pub ended : (after : ℕ) (learnt : Account) → Turns b c (Some held) (Some more) (at kept.book lines cause) (Ok false) (at new.book after learnt) → FailsBuffered seen may_leave durable a c old now more first new
       ended after learnt turns =
           one_more turns.said (at new.book after learnt) (last_read b c false turns.said.command turns.reads) turns.answers turns.reads.0 (appends_some (Some held) (Some more) turns.said.answer turns.writes) refl
 
       -- and once everything is written, the conversation is one without buffering
       ends_as : (after : ℕ) (learnt : Account) (then : Option (List ℕ)) (turn : Result Bool TalkFault) → Turns b c (append_known now held) then (at kept.book lines cause) turn (at new.book after learnt)
-          → EndsSo a c old then first turn new.book
+          → EndsWithStep a c old then first turn new.book
       ends_as after learnt then turn turns = record {
         left = b;
         held = append_known now held;
@@ -173,7 +173,7 @@ module _ {D : Type 0} (seen : D → List ℕ) (may_leave : D → List ℕ → Ty
       }
 
       pub ends_so : (after : ℕ) (learnt : Account) (then : Option (List ℕ)) → Turns b c (Some held) (Some more) (at kept.book lines cause) (Ok false) (at new.book after learnt) → Appends now then more
-          → EndsSo a c old then first (Ok false) new.book
+          → EndsWithStep a c old then first (Ok false) new.book
       ends_so after learnt then turns grows = ends_as after learnt then (Ok false) (record {
         said = turns.said;
         reads = turns.reads;
@@ -182,7 +182,7 @@ module _ {D : Type 0} (seen : D → List ℕ) (may_leave : D → List ℕ → Ty
       })
 
       pub breaks_so : (after : ℕ) (learnt : Account) (then : Option (List ℕ)) (why : TalkFault) → Turns b c (Some held) (Some more) (at kept.book lines cause) (Err why) (at new.book after learnt) → Appends now then more
-          → EndsSo a c old then first (Err why) new.book
+          → EndsWithStep a c old then first (Err why) new.book
       breaks_so after learnt then talk.Memory turns grows =
           ends_as after learnt then (Err talk.Memory) (record { none = turns.none; keeps = keeps_behind now then held more turns.keeps grows; same = turns.same })
       breaks_so after learnt then (talk.Read error) turns grows =
@@ -199,18 +199,18 @@ module _ {D : Type 0} (seen : D → List ℕ) (may_leave : D → List ℕ → Ty
         writes = (turns.writes.0, turns.writes.1, turns.writes.2, appends_behind now then held more turns.writes.0 turns.writes.3 grows);
       })
 
-  module _ (come : Option (List ℕ)) (held : List ℕ) (stays : Stays seen may_leave durable a come old now held first kept) where
+  module _ (come : Option (List ℕ)) (held : List ℕ) (stays : FailsBuffered seen may_leave durable a come old now held first kept) where
     within_book : IsFrontOf stays.calls (stored_in kept)
     within_book = subst (λ (h : Entries). IsFrontOf stays.calls (stored_of h)) stays.is stays.within
 
     -- all accepted calls are durable
-    pub holds_all : (new : Kept D) → new.book ≡ kept.book → AllAreKept seen may_leave kept new → Holds seen may_leave (stored_in new) new
+    pub holds_all : (new : Kept D) → new.book ≡ kept.book → AllAreDurable seen may_leave kept new → Holds seen may_leave (stored_in new) new
     holds_all new same keeps =
         subst (λ (h : Entries). Holds seen may_leave (stored_of h) new) (sym same) (keeps stays.calls within_book stays.holds)
 
     module _ (new : Kept D) (after : Option (List ℕ)) (same : new.book ≡ kept.book) where
       -- all calls are persisted, and a prefix of the buffered answers is written
-      promised_all : AllAreKept seen may_leave kept new → AppendsSome now after held → Promises seen may_leave durable a old after first new
+      promised_all : AllAreDurable seen may_leave kept new → AppendsSome now after held → Promises seen may_leave durable a old after first new
       promised_all keeps grows =
           let all : Holds seen may_leave (stored_in kept) new = keeps stays.calls within_book stays.holds in
           record {
@@ -247,9 +247,9 @@ module _ {D : Type 0} (seen : D → List ℕ) (may_leave : D → List ℕ → Ty
       )
 
       -- and nothing is written
-      promised_some : MayBeKept seen may_leave kept new → Keeps now after → Promises seen may_leave durable a old after first new
+      promised_some : MayBeDurable seen may_leave kept new → Keeps now after → Promises seen may_leave durable a old after first new
       promised_some may keeps =
-          let told_so : HoldsSo a stays.left old after first stays.middle = holds_kept a stays.left old now after first stays.middle stays.told keeps in
+          let told_so : HasAnswered a stays.left old after first stays.middle = holds_kept a stays.left old now after first stays.middle stays.told keeps in
           let told_now : Told a stays.left old after first stays.middle = told_of a stays.left old after first stays.middle told_so in
           record {
             left = stays.left;
@@ -265,7 +265,7 @@ module _ {D : Type 0} (seen : D → List ℕ) (may_leave : D → List ℕ → Ty
       last_is = stays.is ∙ sym same
 
       -- if the writer fails
-      unwritten : AllAreKept seen may_leave kept new → AppendsSome now after held → StopsUnwritten seen may_leave a come old after first new
+      unwritten : AllAreDurable seen may_leave kept new → AppendsSome now after held → StopsUnwritten seen may_leave a come old after first new
       unwritten keeps grows = record {
         last = stays.last;
         right = stays.right;
@@ -276,8 +276,8 @@ module _ {D : Type 0} (seen : D → List ℕ) (may_leave : D → List ℕ → Ty
       }
 
       -- if the calls can't be persisted
-      unkept : (why : KeptFault) → MayBeKept seen may_leave kept new → Keeps now after → LeavesKept why kept new
-          → StopsUnkept seen may_leave durable a come old after first why new
+      unkept : (why : KeptFault) → MayBeDurable seen may_leave kept new → Keeps now after → LeavesKept why kept new
+          → StopsNotDurable seen may_leave durable a come old after first why new
       unkept why may keeps leaves = record {
         middle = stays.middle;
         last = stays.last;
@@ -303,7 +303,7 @@ module _ {D : Type 0} (seen : D → List ℕ) (may_leave : D → List ℕ → Ty
 
       -- if flushing fails
       pub stops_so : (why : StoredFault) (rest : List ℕ) → Settles seen may_leave kept held now (Err why) new rest after
-          → StopsSo seen may_leave durable a come old after first why new
+          → StopsWithFault seen may_leave durable a come old after first why new
       stops_so (fault.Kept why) rest settles = (promised_some settles.0 settles.1, unkept why settles.0 settles.1 settles.2)
       stops_so (fault.Talk why) rest settles = absurd settles
       stops_so (fault.Frame why) rest settles = absurd settles
@@ -311,8 +311,8 @@ module _ {D : Type 0} (seen : D → List ℕ) (may_leave : D → List ℕ → Ty
 
 -- whatever the result of flushing
 pub settled_first : {D : Type 0} (seen : D → List ℕ) (may_leave : D → List ℕ → Type 0) (durable : Stored) (a b old now after : Option (List ℕ)) (first : Standing) (kept new : Kept D) (held rest : List ℕ) (lines : ℕ) (cause : Account)
-    (result : Result (Unit {0}) StoredFault) → Goes seen may_leave durable a b old now held first (at kept.book lines cause) kept → Settles seen may_leave kept held now result new rest after
-    → new.book ≡ kept.book → ComesSettled seen may_leave durable a b old after rest first (at new.book lines cause) result new
+    (result : Result (Unit {0}) StoredFault) → BuffersAnswers seen may_leave durable a b old now held first (at kept.book lines cause) kept → Settles seen may_leave kept held now result new rest after
+    → new.book ≡ kept.book → AfterFlush seen may_leave durable a b old after rest first (at new.book lines cause) result new
 settled_first seen may_leave durable a b old now after first kept new held rest lines cause (Ok done) goes settles same =
     settled seen may_leave durable a old now first kept b held lines cause goes new after rest settles.0 settles.1 settles.2 same
 settled_first seen may_leave durable a b old now after first kept new held rest lines cause (Err why) goes settles same =
@@ -320,51 +320,51 @@ settled_first seen may_leave durable a b old now after first kept new held rest 
 
 -- whatever the result of a step after which everything is flushed
 module _ {D : Type 0} (seen : D → List ℕ) (may_leave : D → List ℕ → Type 0) (durable : Stored) (a b d old now : Option (List ℕ)) (first : Standing) (kept asked : Kept D) (held more : List ℕ) (lines after : ℕ) (cause learnt : Account)
-    (goes : Goes seen may_leave durable a b old now held first (at kept.book lines cause) kept) (same_log : asked.log ≡ kept.log) (same_count : asked.count ≡ kept.count)
+    (goes : BuffersAnswers seen may_leave durable a b old now held first (at kept.book lines cause) kept) (same_log : asked.log ≡ kept.log) (same_count : asked.count ≡ kept.count)
     (new : Kept D) (same : new.book ≡ asked.book) (rest : List ℕ) (then : Option (List ℕ)) where
   module _ (turns : Turns b d (Some held) (Some more) (at kept.book lines cause) (Ok false) (at asked.book after learnt)) where
-    stays_ended : Stays seen may_leave durable a d old now more first asked
+    stays_ended : FailsBuffered seen may_leave durable a d old now more first asked
     stays_ended = ended seen may_leave durable a old now first kept b held lines cause goes d more asked same_log same_count after learnt turns
 
     -- at the end of the input
     pub comes_end : (done : Unit {0}) → Settles seen may_leave asked more now (Ok done) new rest then
-        → Comes seen may_leave durable a d old then rest first (at new.book after learnt) (Ok false) new
+        → AfterStep seen may_leave durable a d old then rest first (at new.book after learnt) (Ok false) new
     comes_end done settles =
         let both = promised seen may_leave durable a old now first asked d more stays_ended new then same done rest settles in (
           both.0,
-          subst (λ (h : Entries). EndsSo a d old then first (Ok false) h) (sym same)
+          subst (λ (h : Entries). EndsWithStep a d old then first (Ok false) h) (sym same)
               (ends_so seen may_leave durable a old now first kept b held lines cause goes d more asked same_log same_count after learnt then turns settles.2),
           both.1,
         )
 
-    pub comes_end_unsettled : (why : StoredFault) → Settles seen may_leave asked more now (Err why) new rest then → StopsSo seen may_leave durable a d old then first why new
+    pub comes_end_unsettled : (why : StoredFault) → Settles seen may_leave asked more now (Err why) new rest then → StopsWithFault seen may_leave durable a d old then first why new
     comes_end_unsettled why settles = stops_so seen may_leave durable a old now first asked d more stays_ended new then same why rest settles
 
   module _ (wrong : TalkFault) (turns : Turns b d (Some held) (Some more) (at kept.book lines cause) (Err wrong) (at asked.book after learnt)) where
-    stays_stopped : Stays seen may_leave durable a d old now more first asked
+    stays_stopped : FailsBuffered seen may_leave durable a d old now more first asked
     stays_stopped = stopped seen may_leave durable a old now first kept b held lines cause goes d more asked same_log same_count after learnt wrong turns
 
     -- at a fault
-    pub comes_fault : (told : TalkFault) → told ≡ as_told wrong → (done : Unit {0}) → Settles seen may_leave asked more now (Ok done) new rest then
-        → StopsSo seen may_leave durable a d old then first (fault.Talk told) new
+    pub comes_fault : (told : TalkFault) → told ≡ write_as_memory wrong → (done : Unit {0}) → Settles seen may_leave asked more now (Ok done) new rest then
+        → StopsWithFault seen may_leave durable a d old then first (fault.Talk told) new
     comes_fault told told_is done settles =
         let both = promised seen may_leave durable a old now first asked d more stays_stopped new then same done rest settles in (
           both.0,
           record {
             why = wrong;
             told_is = told_is;
-            ends = subst (λ (h : Entries). EndsSo a d old then first (Err wrong) h) (sym same)
+            ends = subst (λ (h : Entries). EndsWithStep a d old then first (Err wrong) h) (sym same)
                 (breaks_so seen may_leave durable a old now first kept b held lines cause goes d more asked same_log same_count after learnt then wrong turns settles.2);
           },
           both.1,
         )
 
-    pub comes_unsettled : (why : StoredFault) → Settles seen may_leave asked more now (Err why) new rest then → StopsSo seen may_leave durable a d old then first why new
+    pub comes_unsettled : (why : StoredFault) → Settles seen may_leave asked more now (Err why) new rest then → StopsWithFault seen may_leave durable a d old then first why new
     comes_unsettled why settles = stops_so seen may_leave durable a old now first asked d more stays_stopped new then same why rest settles
 
 -- the rest of a commit
 pub settles_so : {D : Type 0} (seen : D → List ℕ) (may_leave : D → List ℕ → Type 0) (old new : Kept D) (held now : List ℕ) (before after : Option (List ℕ)) (result : Result (Unit {0}) StoredFault)
-    → AllAreKept seen may_leave old new
+    → AllAreDurable seen may_leave old new
     → MatchResult result (λ done. (now ≡ []) × Appends before after held) (λ why. IsUnwritten why × AppendsSome before after held)
     → Settles seen may_leave old held before result new now after
 settles_so seen may_leave old new held now before after (Ok done) keeps goes = (keeps, goes.0, goes.1)
@@ -375,7 +375,7 @@ settles_so seen may_leave old new held now before after (Err (fault.Write error)
 
 -- the fault of a turn is the fault of the conversation
 pub talk_stops : {D : Type 0} (seen : D → List ℕ) (may_leave : D → List ℕ → Type 0) (durable : Stored) (a d old now : Option (List ℕ)) (first : Standing) (kept : Kept D)
-    (result : Result (Unit {0}) StoredFault) (why : StoredFault) → IsErrAnd result (λ fault. fault ≡ why) → StopsSo seen may_leave durable a d old now first why kept
+    (result : Result (Unit {0}) StoredFault) (why : StoredFault) → IsErrAnd result (λ fault. fault ≡ why) → StopsWithFault seen may_leave durable a d old now first why kept
     → TalksKept seen may_leave durable a d old now first result kept
 talk_stops seen may_leave durable a d old now first kept (Ok done) why is stops = absurd is
-talk_stops seen may_leave durable a d old now first kept (Err fault) why is stops = subst (λ (w : StoredFault). StopsSo seen may_leave durable a d old now first w kept) (sym is) stops
+talk_stops seen may_leave durable a d old now first kept (Err fault) why is stops = subst (λ (w : StoredFault). StopsWithFault seen may_leave durable a d old now first w kept) (sym is) stops

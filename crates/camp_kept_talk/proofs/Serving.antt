@@ -6,11 +6,11 @@ use Rattle.camp_kept.specs.Accepting.{Stored, stored_of}
 use Rattle.camp_kept.specs.Keeping.{AreFirst, Holds, IsStoreOf, LeavesKept, stored_in, store_texts}
 use Rattle.camp_kept.specs.declared.faults.KeptFault.{KeptFault}
 use Rattle.camp_kept.specs.declared.kept.Kept.{Kept}
-use Rattle.camp_kept_talk.specs.Going.{AllAreKept, MayBeKept, Settles}
+use Rattle.camp_kept_talk.specs.Going.{AllAreDurable, MayBeDurable, Settles}
 use Rattle.camp_kept.proofs.Parts.{part_grows, part_self, part_through}
 use Rattle.camp_kept_talk.specs.Laws.{KeptRequestsAreServedInTurn}
 use Rattle.camp_kept_talk.specs.Promises.{durable_at_least}
-use Rattle.camp_kept_talk.specs.Serving.{KeptCounter, MayKeep, ServesHeld, ServesKept, ServesKeptAt, ServesUnkept, frame_told}
+use Rattle.camp_kept_talk.specs.Serving.{KeptCounter, MayKeep, ServesHeld, ServesKept, ServesKeptAt, ServesUnkept, frame_write_as_memory}
 use Rattle.camp_kept_talk.proofs.Stopping.{leaves_durable}
 use Rattle.camp_kept_talk.specs.declared.faults.StoredFault.{StoredFault}
 use Rattle.camp_kept_talk.specs.declared.faults.StoredFault.TheVariants as fault
@@ -43,7 +43,7 @@ module _ {D : Type 0} (seen : D → List ℕ) (may_leave : D → List ℕ → Ty
     first_asked = part_through front (part_grows old.book asked.book (serves_grow a b (Some []) (Some held) old.book came asked.book serves))
 
     module _ (new : Kept D) (same : new.book ≡ asked.book) where
-      pub all_kept : AllAreKept seen may_leave asked new → Holds seen may_leave (stored_in new) new
+      pub all_kept : AllAreDurable seen may_leave asked new → Holds seen may_leave (stored_in new) new
       all_kept keeps =
           subst (λ (h : Entries). Holds seen may_leave (stored_of h) new) (sym same) (keeps durable first_asked holds_asked)
 
@@ -53,7 +53,7 @@ module _ {D : Type 0} (seen : D → List ℕ) (may_leave : D → List ℕ → Ty
       pub unkept : ServesUnkept a b old.book new.book
       unkept = record { came = came; held = held_so }
 
-      pub may_keep : MayBeKept seen may_leave asked new → MayKeep seen may_leave durable new
+      pub may_keep : MayBeDurable seen may_leave asked new → MayKeep seen may_leave durable new
       may_keep may c leaves =
           subst (λ (h : Entries). IsStoreOf durable c ⊎ IsStoreOf (stored_of h) c) (sym same)
           (may durable first_asked holds_asked c leaves)
@@ -95,14 +95,14 @@ module _ {D : Type 0} (seen : D → List ℕ) (may_leave : D → List ℕ → Ty
 
   module _ (why : FrameFault) (serves : Serves a b (Some []) (Some held) old.book (Err why) asked.book) (new : Kept D) (same : new.book ≡ asked.book) where
     -- a request could not be served
-    pub serves_none : (told : FrameFault) → told ≡ frame_told why → AllAreKept seen may_leave asked new → ServesKept seen may_leave a b before before durable old (Err (fault.Frame told)) new
+    pub serves_none : (told : FrameFault) → told ≡ frame_write_as_memory why → AllAreDurable seen may_leave asked new → ServesKept seen may_leave a b before before durable old (Err (fault.Frame told)) new
     serves_none told told_is keeps = (
       Keeps-refl before,
       record { why = why; told_is = told_is; held = held_so (Err why) serves new same },
       all_kept (Err why) serves new same keeps,
     )
 
-    pub serves_unkept : (told : KeptFault) → MayBeKept seen may_leave asked new → LeavesKept told asked new
+    pub serves_unkept : (told : KeptFault) → MayBeDurable seen may_leave asked new → LeavesKept told asked new
         → ServesKept seen may_leave a b before before durable old (Err (fault.Kept told)) new
     serves_unkept told may leaves = (
       Keeps-refl before,

@@ -11,8 +11,8 @@ use Rattle.camp_kept_talk.specs.declared.faults.StoredFault.{StoredFault}
 use Rattle.camp_kept_talk.specs.declared.faults.StoredFault.TheVariants as fault
 use Rattle.camp_talk.specs.Answers.{Standing}
 use Rattle.camp_talk.specs.Entries.{Entries}
-use Rattle.camp_talk.specs.Talks.{AppendsSome, EndsSo, ReadsWithin}
-use Rattle.camp_talk.specs.Talks.{Holds as HoldsSo}
+use Rattle.camp_talk.specs.Talks.{AppendsSome, EndsWithStep, ReadsWithin}
+use Rattle.camp_talk.specs.Talks.{Holds as HasAnswered}
 use Rattle.camp_talk.specs.declared.faults.TalkFault.{TalkFault}
 use Rattle.camp_talk.specs.declared.faults.TalkFault.TheVariants.{Internal, Memory, Read, Write}
 
@@ -25,11 +25,11 @@ IsUnwritten (fault.Write error) = Unit {0}
 
 -- the reported fault of a step whose answer is buffered in memory: if the answer can't be buffered, it is out of
 -- memory
-abbrev pub as_told : TalkFault → TalkFault
-as_told Memory = Memory
-as_told (Read error) = Read error
-as_told (Write error) = Memory
-as_told Internal = Internal
+abbrev pub write_as_memory : TalkFault → TalkFault
+write_as_memory Memory = Memory
+write_as_memory (Read error) = Read error
+write_as_memory (Write error) = Memory
+write_as_memory Internal = Internal
 
 -- what a step writes that can't persist the calls: all answers buffered before it, or nothing
 abbrev pub WritesAllOrNone : List ℕ → Option (List ℕ) → Option (List ℕ) → StoredFault → Type 0
@@ -46,40 +46,40 @@ WritesNone before after (fault.Frame why) = Unit {0}
 WritesNone before after (fault.Write error) = Unit {0}
 
 -- commands were answered one after the other, followed by a step with a fault, which is reported like this
-pub record EndsTold (remaining rest old now : Option (List ℕ)) (first : Standing) (told : TalkFault) (history : Entries) : Type 0 where
+pub record EndsReported (remaining rest old now : Option (List ℕ)) (first : Standing) (told : TalkFault) (history : Entries) : Type 0 where
   pub why : TalkFault
-  pub told_is : told ≡ as_told why
-  pub ends : EndsSo remaining rest old now first (Err why) history
+  pub told_is : told ≡ write_as_memory why
+  pub ends : EndsWithStep remaining rest old now first (Err why) history
 
 module _ {D : Type 0} (seen : D → List ℕ) (may_leave : D → List ℕ → Type 0) where
   -- all accepted calls are durable, if some prefix of them was
-  abbrev pub AllAreKept : Kept D → Kept D → Type 0
-  AllAreKept old new = (calls : Stored) → AreFirst calls old → Holds seen may_leave calls old → Holds seen may_leave (stored_in old) new
+  abbrev pub AllAreDurable : Kept D → Kept D → Type 0
+  AllAreDurable old new = (calls : Stored) → AreFirst calls old → Holds seen may_leave calls old → Holds seen may_leave (stored_in old) new
 
   -- a crash leaves a store of those that were durable, or of all
-  abbrev pub MayBeKept : Kept D → Kept D → Type 0
-  MayBeKept old new =
+  abbrev pub MayBeDurable : Kept D → Kept D → Type 0
+  MayBeDurable old new =
       (calls : Stored) → AreFirst calls old → Holds seen may_leave calls old → (c : List ℕ) → may_leave (disk_in new) c → IsStoreOf calls c ⊎ IsStoreOf (stored_in old) c
 
   -- buffered answers are flushed to a writer. Ok: all calls are persisted, and then exactly the answers were written.
   -- Kept: nothing was written, and the repository is as the commit left it. Write: all calls are persisted, and a
   -- prefix of the answers was written.
   abbrev pub Settles : Kept D → List ℕ → Option (List ℕ) → Result (Unit {0}) StoredFault → Kept D → List ℕ → Option (List ℕ) → Type 0
-  Settles old held before (Ok done) new now after = AllAreKept old new × (now ≡ []) × Appends before after held
-  Settles old held before (Err (fault.Kept why)) new now after = MayBeKept old new × Keeps before after × LeavesKept why old new
+  Settles old held before (Ok done) new now after = AllAreDurable old new × (now ≡ []) × Appends before after held
+  Settles old held before (Err (fault.Kept why)) new now after = MayBeDurable old new × Keeps before after × LeavesKept why old new
   Settles old held before (Err (fault.Talk why)) new now after = ⊥
   Settles old held before (Err (fault.Frame why)) new now after = ⊥
-  Settles old held before (Err (fault.Write error)) new now after = AllAreKept old new × AppendsSome before after held
+  Settles old held before (Err (fault.Write error)) new now after = AllAreDurable old new × AppendsSome before after held
 
   module _ (durable : Stored) (remaining rest old now : Option (List ℕ)) (held : List ℕ) (first last : Standing) (kept : Kept D) where
     -- where these first calls were durable: commands were answered up to a place, and all calls that were accepted
     -- until then are durable; before the first answer the same calls are, at least. The answers to the commands after
     -- the place are buffered.
-    pub record Goes : Type 0 where
+    pub record BuffersAnswers : Type 0 where
       pub middle : Standing
       pub left : Option (List ℕ)
-      pub told : HoldsSo remaining left old now first middle
-      pub behind : HoldsSo left rest (Some []) (Some held) middle last
+      pub told : HasAnswered remaining left old now first middle
+      pub behind : HasAnswered left rest (Some []) (Some held) middle last
       pub calls : Stored
       pub holds : Holds seen may_leave calls kept
       pub still : IsFrontOf durable calls
@@ -88,12 +88,12 @@ module _ {D : Type 0} (seen : D → List ℕ) (may_leave : D → List ℕ → Ty
 
   -- a step has failed: the answers to the commands after the place are buffered, perhaps in part; and no more was
   -- read after them than a command has
-  pub record Stays (durable : Stored) (remaining rest old now : Option (List ℕ)) (held : List ℕ) (first : Standing) (kept : Kept D) : Type 0 where
+  pub record FailsBuffered (durable : Stored) (remaining rest old now : Option (List ℕ)) (held : List ℕ) (first : Standing) (kept : Kept D) : Type 0 where
     pub middle : Standing
     pub last : Standing
     pub left : Option (List ℕ)
     pub right : Option (List ℕ)
-    pub told : HoldsSo remaining left old now first middle
+    pub told : HasAnswered remaining left old now first middle
     pub behind : Told left right (Some []) (Some held) middle last
     pub reads : ReadsWithin right rest
     pub calls : Stored
@@ -108,12 +108,12 @@ module _ {D : Type 0} (seen : D → List ℕ) (may_leave : D → List ℕ → Ty
   -- accepted calls are those of all these commands. Whatever a crash leaves is a store of some prefix of them, the
   -- same each time, with all those up to the place, or at least those that were durable at first; or it is a store of
   -- all. Either no commit is possible any more, or that prefix is durable.
-  pub record StopsUnkept (durable : Stored) (remaining rest old now : Option (List ℕ)) (first : Standing) (why : KeptFault) (kept : Kept D) : Type 0 where
+  pub record StopsNotDurable (durable : Stored) (remaining rest old now : Option (List ℕ)) (first : Standing) (why : KeptFault) (kept : Kept D) : Type 0 where
     pub middle : Standing
     pub last : Standing
     pub left : Option (List ℕ)
     pub right : Option (List ℕ)
-    pub told : HoldsSo remaining left old now first middle
+    pub told : HasAnswered remaining left old now first middle
     pub behind : Told left right None None middle last
     pub reads : ReadsWithin right rest
     pub is : last.history ≡ kept.book
@@ -137,33 +137,33 @@ module _ {D : Type 0} (seen : D → List ℕ) (may_leave : D → List ℕ → Ty
   -- a conversation has stopped at a fault: the promise holds. Kept: the calls could not be persisted. Write: the
   -- writer failed. Talk: a step had this fault, all accepted calls are durable, and all answers were written before
   -- it.
-  abbrev pub StopsSo : Stored → (remaining rest old now : Option (List ℕ)) → Standing → StoredFault → Kept D → Type 0
-  StopsSo durable remaining rest old now first (fault.Kept why) kept =
-      Promises seen may_leave durable remaining old now first kept × StopsUnkept durable remaining rest old now first why kept
-  StopsSo durable remaining rest old now first (fault.Talk why) kept =
-      Promises seen may_leave durable remaining old now first kept × EndsTold remaining rest old now first why kept.book
+  abbrev pub StopsWithFault : Stored → (remaining rest old now : Option (List ℕ)) → Standing → StoredFault → Kept D → Type 0
+  StopsWithFault durable remaining rest old now first (fault.Kept why) kept =
+      Promises seen may_leave durable remaining old now first kept × StopsNotDurable durable remaining rest old now first why kept
+  StopsWithFault durable remaining rest old now first (fault.Talk why) kept =
+      Promises seen may_leave durable remaining old now first kept × EndsReported remaining rest old now first why kept.book
       × Holds seen may_leave (stored_in kept) kept
-  StopsSo durable remaining rest old now first (fault.Frame why) kept = ⊥
-  StopsSo durable remaining rest old now first (fault.Write error) kept =
+  StopsWithFault durable remaining rest old now first (fault.Frame why) kept = ⊥
+  StopsWithFault durable remaining rest old now first (fault.Write error) kept =
       Promises seen may_leave durable remaining old now first kept × StopsUnwritten remaining rest old now first kept
 
   -- the result of a step
-  abbrev pub Comes : Stored → (remaining rest old now : Option (List ℕ)) → List ℕ → Standing → Standing → Result Bool StoredFault → Kept D → Type 0
-  Comes durable remaining rest old now held first last (Ok true) kept = Goes durable remaining rest old now held first last kept
-  Comes durable remaining rest old now held first last (Ok false) kept =
-      Promises seen may_leave durable remaining old now first kept × EndsSo remaining rest old now first (Ok false) last.history
+  abbrev pub AfterStep : Stored → (remaining rest old now : Option (List ℕ)) → List ℕ → Standing → Standing → Result Bool StoredFault → Kept D → Type 0
+  AfterStep durable remaining rest old now held first last (Ok true) kept = BuffersAnswers durable remaining rest old now held first last kept
+  AfterStep durable remaining rest old now held first last (Ok false) kept =
+      Promises seen may_leave durable remaining old now first kept × EndsWithStep remaining rest old now first (Ok false) last.history
       × Holds seen may_leave (stored_in kept) kept
-  Comes durable remaining rest old now held first last (Err why) kept = StopsSo durable remaining rest old now first why kept
+  AfterStep durable remaining rest old now held first last (Err why) kept = StopsWithFault durable remaining rest old now first why kept
 
   -- the result of flushing
-  abbrev pub ComesSettled : Stored → (remaining rest old now : Option (List ℕ)) → List ℕ → Standing → Standing → Result (Unit {0}) StoredFault → Kept D → Type 0
-  ComesSettled durable remaining rest old now held first last (Ok done) kept = Goes durable remaining rest old now held first last kept
-  ComesSettled durable remaining rest old now held first last (Err why) kept = StopsSo durable remaining rest old now first why kept
+  abbrev pub AfterFlush : Stored → (remaining rest old now : Option (List ℕ)) → List ℕ → Standing → Standing → Result (Unit {0}) StoredFault → Kept D → Type 0
+  AfterFlush durable remaining rest old now held first last (Ok done) kept = BuffersAnswers durable remaining rest old now held first last kept
+  AfterFlush durable remaining rest old now held first last (Err why) kept = StopsWithFault durable remaining rest old now first why kept
 
   -- a conversation over a repository of which these first calls are durable, from its start: the promise holds. After
   -- Ok it was held to its end, and all accepted calls are durable.
   abbrev pub TalksKept : Stored → (remaining rest old now : Option (List ℕ)) → Standing → Result (Unit {0}) StoredFault → Kept D → Type 0
   TalksKept durable remaining rest old now first (Ok done) kept =
-      Promises seen may_leave durable remaining old now first kept × EndsSo remaining rest old now first (Ok false) kept.book
+      Promises seen may_leave durable remaining old now first kept × EndsWithStep remaining rest old now first (Ok false) kept.book
       × Holds seen may_leave (stored_in kept) kept
-  TalksKept durable remaining rest old now first (Err why) kept = StopsSo durable remaining rest old now first why kept
+  TalksKept durable remaining rest old now first (Err why) kept = StopsWithFault durable remaining rest old now first why kept

@@ -4,7 +4,7 @@ use Rattle.std.specs.Io.KnownBytes.{Keeps}
 use Rattle.camp_kept.specs.Accepting.{Stored}
 use Rattle.camp_kept.specs.Keeping.{AreFirst, Holds, IsStoreOf, stored_in, disk_in}
 use Rattle.camp_kept.specs.declared.kept.Kept.{Kept}
-use Rattle.camp_kept_talk.specs.Going.{as_told}
+use Rattle.camp_kept_talk.specs.Going.{write_as_memory}
 use Rattle.camp_kept_talk.specs.Stopping.{LeavesDurable}
 use Rattle.camp_kept_talk.specs.declared.faults.StoredFault.{StoredFault}
 use Rattle.camp_kept_talk.specs.declared.faults.StoredFault.TheVariants as fault
@@ -20,16 +20,16 @@ pub record ServesHeld (remaining rest : Option (List ℕ)) (before : Entries) (c
   pub serves : Serves remaining rest (Some []) (Some frame) before came after
 
 -- the reported fault of serving into memory: if the answer can't be stored, it is out of memory
-abbrev pub frame_told : FrameFault → FrameFault
-frame_told NoNumber = NoNumber
-frame_told TooLarge = TooLarge
-frame_told Cut = Cut
-frame_told (Talk why) = Talk (as_told why)
+abbrev pub frame_write_as_memory : FrameFault → FrameFault
+frame_write_as_memory NoNumber = NoNumber
+frame_write_as_memory TooLarge = TooLarge
+frame_write_as_memory Cut = Cut
+frame_write_as_memory (Talk why) = Talk (write_as_memory why)
 
 -- serving a request had a fault before anything was written, and it is reported like this
 pub record ServesNone (remaining rest : Option (List ℕ)) (before : Entries) (told : FrameFault) (after : Entries) : Type 0 where
   pub why : FrameFault
-  pub told_is : told ≡ frame_told why
+  pub told_is : told ≡ frame_write_as_memory why
   pub held : ServesHeld remaining rest before (Err why) after
 
 -- serving a request had this result, before its calls could not be persisted

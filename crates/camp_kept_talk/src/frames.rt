@@ -2,9 +2,9 @@
 ghost use Rattle.std.specs.Prelude.{◌≡◌, ◌-◌, ◌^◌, true, false, IfOk, MatchResult};
 ghost use Rattle.camp_kept.specs.Accepting.{Stored};
 ghost use Rattle.camp_kept.specs.Keeping.{AreFirst, Holds, disk_in, may_commit};
-ghost use Rattle.camp_kept_talk.specs.Serving.{ServesKept, frame_told};
+ghost use Rattle.camp_kept_talk.specs.Serving.{ServesKept, frame_write_as_memory};
 ghost use Rattle.camp_kept_talk.specs.Stopping.{CountsStored, StaysStopped, stopped_fault};
-ghost use Rattle.camp_talk.specs.Talks.{HasRisen};
+ghost use Rattle.camp_talk.specs.Talks.{HasGrown};
 
 use crate::StoredFault;
 use crate::settling::settle;
@@ -29,7 +29,7 @@ pub fn serve_kept<D: Disk, R: BufRead, W: Write>(
     ensures stopped { may_commit kept.old ≡ false → StaysStopped kept.old kept.new writer.old writer.new
         × MatchResult result (λ more. more ≡ false) (λ why. why ≡ stopped_fault) }
     ensures faults { CountsStored result (D.Disk.faults (disk_in kept.old)) (D.Disk.faults (disk_in kept.new)) }
-    ensures counts { IfOk result (λ more. more ≡ true → HasRisen served.old served.new) }
+    ensures counts { IfOk result (λ more. more ≡ true → HasGrown served.old served.new) }
     ensures clean { D.Disk.is_clean (disk_in kept.new) ≡ D.Disk.is_clean (disk_in kept.old) }
 {
     let mut frame = Vec::new(alloc);
@@ -49,7 +49,7 @@ pub fn serve_kept<D: Disk, R: BufRead, W: Write>(
 // Returns why a request could not be served whose answer goes to memory: if it can't be stored, out of
 // memory.
 fn without_room(why: FrameFault) -> FrameFault
-    ensures { result ≡ frame_told why }
+    ensures { result ≡ frame_write_as_memory why }
 {
     match why {
         FrameFault::Talk(TalkFault::Write(_)) => FrameFault::Talk(TalkFault::Memory),
@@ -91,7 +91,7 @@ impl<D: Disk, R: BufRead, W: Write> FramedStore<D, R, W> {
 impl<D: Disk, R: BufRead, W: Write> Dialogue for FramedStore<D, R, W> {
     type Fault = StoredFault;
 
-    ghost comes_to = { λ old result new. ((durable : Stored) → AreFirst durable old.kept → Holds D.Disk.seen D.Disk.may_leave durable old.kept
+    ghost step_relation = { λ old result new. ((durable : Stored) → AreFirst durable old.kept → Holds D.Disk.seen D.Disk.may_leave durable old.kept
         → ServesKept D.Disk.seen D.Disk.may_leave (R.remaining old.reader) (R.remaining new.reader) (W.contents old.writer) (W.contents new.writer)
         durable old.kept result new.kept)
         × (may_commit old.kept ≡ false → StaysStopped old.kept new.kept old.writer new.writer

@@ -15,4 +15,4 @@ pub use faults::StoredFault;
 pub use frames::{FramedStore, serve_kept};
 pub use laws::kept_requests_are_served_in_turn;
 pub use talks::talk_kept;
-pub use turns::{HeldBack, stored_turn};
+pub use turns::{AnswerBuffer, take_stored_step};

@@ -28,11 +28,11 @@ pub(crate) fn settle<D: Disk, W: Write>(
     ensures clean { D.Disk.is_clean (disk_in kept.new) ≡ D.Disk.is_clean (disk_in kept.old) }
 {
     kept.commit(alloc)?;
-    let_go(held, writer)
+    write_buffered(held, writer)
 }
 
 // Writes the buffered answers, and flushes them.
-fn let_go<W: Write>(held: &mut Vec<u8>, writer: &mut W) -> Result<(), StoredFault>
+fn write_buffered<W: Write>(held: &mut Vec<u8>, writer: &mut W) -> Result<(), StoredFault>
     ensures { MatchResult result
         (λ _. (held.new.items ≡ []) × Appends (W.contents writer.old) (W.contents writer.new) held.old.items)
         (λ why. IsUnwritten why × AppendsSome (W.contents writer.old) (W.contents writer.new) held.old.items) }

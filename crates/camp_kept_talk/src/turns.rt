@@ -3,11 +3,11 @@ ghost use Rattle.std.specs.Prelude.{◌≡◌, ◌⊎◌, [], true, false, IfErr
 ghost use Rattle.std.specs.Io.KnownBytes.{Appends, Keeps};
 ghost use Rattle.camp_kept.specs.Accepting.{Stored};
 ghost use Rattle.camp_kept.specs.Keeping.{disk_in, may_commit};
-ghost use Rattle.camp_kept_talk.specs.Going.{Comes, ComesSettled, Goes, WritesAllOrNone, WritesNone, as_told};
+ghost use Rattle.camp_kept_talk.specs.Going.{AfterStep, AfterFlush, BuffersAnswers, WritesAllOrNone, WritesNone, write_as_memory};
 ghost use Rattle.camp_kept_talk.specs.Stopping.{CountsStored, StaysStopped, stopped_fault};
-ghost use Rattle.camp_talk.specs.Accounts.{no_account};
+ghost use Rattle.camp_talk.specs.Accounts.{no_diagnostic};
 ghost use Rattle.camp_talk.specs.Answers.{Standing};
-ghost use Rattle.camp_talk.specs.Talks.{HasRisen, ReadsWithin};
+ghost use Rattle.camp_talk.specs.Talks.{HasGrown, ReadsWithin};
 
 use crate::StoredFault;
 use crate::settling::settle;
@@ -24,7 +24,7 @@ const MAX_ANSWERS: usize = 1 << 20;
 
 /// The buffer of a conversation.
 #[derive(Drop)]
-pub struct HeldBack {
+pub struct AnswerBuffer {
     /// The answers that are not written yet, in order.
     pub answers: Vec<u8>,
     /// The number of lines that were read.
@@ -33,14 +33,14 @@ pub struct HeldBack {
     pub cause: Account,
 }
 
-impl HeldBack {
+impl AnswerBuffer {
     /// Starts empty, before the first line.
-    pub fn new(alloc: Global) -> HeldBack
+    pub fn new(alloc: Global) -> AnswerBuffer
         ensures none { result.answers.items ≡ [] }
         ensures first { result.lines ≡ 0 }
-        ensures cause { result.cause ≡ no_account }
+        ensures cause { result.cause ≡ no_diagnostic }
     {
-        HeldBack {
+        AnswerBuffer {
             answers: Vec::new(alloc),
             lines: 0,
             cause: Account::new(alloc),
@@ -50,20 +50,20 @@ impl HeldBack {
 
 /// Takes a step: reads a command, executes it on the book, and buffers its answer. True if there may be more.
 /// If no command is ready, or much is buffered, all of it is flushed first; also at the end of the input.
-pub fn stored_turn<D: Disk, R: BufRead, W: Write>(
+pub fn take_stored_step<D: Disk, R: BufRead, W: Write>(
     alloc: Global,
     kept: &mut Kept<D>,
-    held: &mut HeldBack,
+    held: &mut AnswerBuffer,
     is_ready: bool,
     reader: &mut R,
     writer: &mut W,
 ) -> Result<bool, StoredFault>
     ensures goes { (durable : Stored) (remaining old : Option (List ℕ)) (first : Standing)
-        → Goes D.Disk.seen D.Disk.may_leave durable remaining (R.remaining reader.old) old (W.contents writer.old) held.old.answers.items first
+        → BuffersAnswers D.Disk.seen D.Disk.may_leave durable remaining (R.remaining reader.old) old (W.contents writer.old) held.old.answers.items first
         (record { history = kept.old.book; lines = held.old.lines; cause = held.old.cause }) kept.old
-        → Comes D.Disk.seen D.Disk.may_leave durable remaining (R.remaining reader.new) old (W.contents writer.new) held.new.answers.items first
+        → AfterStep D.Disk.seen D.Disk.may_leave durable remaining (R.remaining reader.new) old (W.contents writer.new) held.new.answers.items first
         (record { history = kept.new.book; lines = held.new.lines; cause = held.new.cause }) result kept.new }
-    ensures counts { IfOk result (λ more. more ≡ true → HasRisen held.old.lines held.new.lines) }
+    ensures counts { IfOk result (λ more. more ≡ true → HasGrown held.old.lines held.new.lines) }
     // It reads no more than a command has; and if the calls can't be persisted, it writes all buffered
     // answers, or nothing.
     ensures within { ReadsWithin (R.remaining reader.old) (R.remaining reader.new) }
@@ -76,22 +76,22 @@ pub fn stored_turn<D: Disk, R: BufRead, W: Write>(
     ensures faults { CountsStored result (D.Disk.faults (disk_in kept.old)) (D.Disk.faults (disk_in kept.new)) }
     ensures clean { D.Disk.is_clean (disk_in kept.new) ≡ D.Disk.is_clean (disk_in kept.old) }
 {
-    settle_first(alloc, kept, held, is_ready, writer)?;
-    turn_on(alloc, kept, held, reader, writer)
+    flush_first(alloc, kept, held, is_ready, writer)?;
+    read_and_buffer(alloc, kept, held, reader, writer)
 }
 
 // Flushes the buffered answers, if no command is ready or many are pending.
-fn settle_first<D: Disk, W: Write>(
+fn flush_first<D: Disk, W: Write>(
     alloc: Global,
     kept: &mut Kept<D>,
-    held: &mut HeldBack,
+    held: &mut AnswerBuffer,
     is_ready: bool,
     writer: &mut W,
 ) -> Result<(), StoredFault>
     ensures goes { (durable : Stored) (remaining rest old : Option (List ℕ)) (first : Standing)
-        → Goes D.Disk.seen D.Disk.may_leave durable remaining rest old (W.contents writer.old) held.old.answers.items first
+        → BuffersAnswers D.Disk.seen D.Disk.may_leave durable remaining rest old (W.contents writer.old) held.old.answers.items first
         (record { history = kept.old.book; lines = held.old.lines; cause = held.old.cause }) kept.old
-        → ComesSettled D.Disk.seen D.Disk.may_leave durable remaining rest old (W.contents writer.new) held.new.answers.items first
+        → AfterFlush D.Disk.seen D.Disk.may_leave durable remaining rest old (W.contents writer.new) held.new.answers.items first
         (record { history = kept.new.book; lines = held.new.lines; cause = held.new.cause }) result kept.new }
     ensures lines { held.new.lines ≡ held.old.lines }
     ensures whole { MatchResult result
@@ -109,7 +109,7 @@ fn settle_first<D: Disk, W: Write>(
 }
 
 // True if the buffered answers may wait: a command is ready, and not many are pending.
-fn may_wait<D: Disk>(kept: &Kept<D>, held: &HeldBack, is_ready: bool) -> bool
+fn may_wait<D: Disk>(kept: &Kept<D>, held: &AnswerBuffer, is_ready: bool) -> bool
     ensures { is_ready ≡ false → result ≡ false }
 {
     is_ready && kept.waiting() < MAX_CALLS && held.answers.len() < MAX_ANSWERS
@@ -117,19 +117,19 @@ fn may_wait<D: Disk>(kept: &Kept<D>, held: &HeldBack, is_ready: bool) -> bool
 
 // Reads a command and executes it. At the end of the input everything is flushed.
 #[tactic(auto, using(crate::proofs::Writing::turns_within))]
-fn turn_on<D: Disk, R: BufRead, W: Write>(
+fn read_and_buffer<D: Disk, R: BufRead, W: Write>(
     alloc: Global,
     kept: &mut Kept<D>,
-    held: &mut HeldBack,
+    held: &mut AnswerBuffer,
     reader: &mut R,
     writer: &mut W,
 ) -> Result<bool, StoredFault>
     ensures goes { (durable : Stored) (remaining old : Option (List ℕ)) (first : Standing)
-        → Goes D.Disk.seen D.Disk.may_leave durable remaining (R.remaining reader.old) old (W.contents writer.old) held.old.answers.items first
+        → BuffersAnswers D.Disk.seen D.Disk.may_leave durable remaining (R.remaining reader.old) old (W.contents writer.old) held.old.answers.items first
         (record { history = kept.old.book; lines = held.old.lines; cause = held.old.cause }) kept.old
-        → Comes D.Disk.seen D.Disk.may_leave durable remaining (R.remaining reader.new) old (W.contents writer.new) held.new.answers.items first
+        → AfterStep D.Disk.seen D.Disk.may_leave durable remaining (R.remaining reader.new) old (W.contents writer.new) held.new.answers.items first
         (record { history = kept.new.book; lines = held.new.lines; cause = held.new.cause }) result kept.new }
-    ensures counts { IfOk result (λ more. more ≡ true → HasRisen held.old.lines held.new.lines) }
+    ensures counts { IfOk result (λ more. more ≡ true → HasGrown held.old.lines held.new.lines) }
     ensures within { ReadsWithin (R.remaining reader.old) (R.remaining reader.new) }
     ensures none { IfErr result (WritesNone (W.contents writer.old) (W.contents writer.new)) }
     ensures unwritten { IfOk result (λ more. more ≡ true → W.contents writer.new ≡ W.contents writer.old) }
@@ -161,7 +161,7 @@ fn turn_on<D: Disk, R: BufRead, W: Write>(
 
 // Returns why a step failed whose answer is buffered: if it can't be buffered, out of memory.
 fn without_room(why: TalkFault) -> TalkFault
-    ensures { result ≡ as_told why }
+    ensures { result ≡ write_as_memory why }
 {
     match why {
         TalkFault::Write(_) => TalkFault::Memory,

@@ -39,7 +39,7 @@ impl<R: BufRead, W: Write> Prompted<R, W> {
 impl<R: BufRead, W: Write> Dialogue for Prompted<R, W> {
     type Fault = TalkFault;
 
-    ghost comes_to = { λ _ _ _. Unit {0} };
+    ghost step_relation = { λ _ _ _. Unit {0} };
 
     ghost left = { λ it. 2 ^ 64 - it.lines };
 

@@ -68,7 +68,7 @@ impl Stop<'_> {
                     3,
                 )
             }
-            Stop::Talk(fault) | Stop::Frame(FrameFault::Talk(fault)) => tell_talk(rt, fault),
+            Stop::Talk(fault) | Stop::Frame(FrameFault::Talk(fault)) => report_talk_fault(rt, fault),
             Stop::Frame(fault) => tell_fault(rt, PROGRAM, fault, fault.status()),
             Stop::NoName(branch) => {
                 tell_fault(rt, PROGRAM, &format_args!("refused 4 {branch}"), 1)
@@ -80,7 +80,7 @@ impl Stop<'_> {
 }
 
 // Returns why a conversation could not continue, and the error of its reader or its writer.
-fn tell_talk<R: Print + Eprint>(rt: &R, fault: &TalkFault) -> u8 {
+fn report_talk_fault<R: Print + Eprint>(rt: &R, fault: &TalkFault) -> u8 {
     match fault {
         TalkFault::Write(error) => tell_unwritten(rt, PROGRAM, error),
         TalkFault::Read(error) => tell_fault(

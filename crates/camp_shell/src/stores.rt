@@ -6,7 +6,7 @@ use crate::stops::Stop;
 use crate::words::{Form, Wish};
 use crate::{buffered, export_branch, form_at, load_file};
 use camp_kept_talk::{
-    Disk, FramedStore, HeldBack, Kept, KeptFault, StoredFault, inspect, stored_turn, talk_kept,
+    Disk, FramedStore, AnswerBuffer, Kept, KeptFault, StoredFault, inspect, take_stored_step, talk_kept,
 };
 use camp_talk::{Dialogue, Limits, TalkFault, talk};
 use sqlite_std_file::{File, OpenError, Unknown, open};
@@ -61,7 +61,7 @@ fn talk_at_prompts(rt: &HostRuntime, kept: Kept<File>) -> Result<(), StoredFault
     talk(&mut PromptedStore {
         alloc: rt.alloc(),
         kept,
-        held: HeldBack::new(rt.alloc()),
+        held: AnswerBuffer::new(rt.alloc()),
         reader: Prompting::new(rt.alloc(), reader, rt.stdout()),
         writer: rt.stdout(),
     })
@@ -77,7 +77,7 @@ fn talk_in_frames(rt: &HostRuntime, kept: Kept<File>) -> Result<(), StoredFault>
 struct PromptedStore<D: Disk, R, W> {
     alloc: Global,
     kept: Kept<D>,
-    held: HeldBack,
+    held: AnswerBuffer,
     reader: Prompting<R, W>,
     writer: W,
 }
@@ -85,13 +85,13 @@ struct PromptedStore<D: Disk, R, W> {
 impl<D: Disk, R: BufRead, W: Write> Dialogue for PromptedStore<D, R, W> {
     type Fault = StoredFault;
 
-    ghost comes_to = { λ _ _ _. Unit {0} };
+    ghost step_relation = { λ _ _ _. Unit {0} };
 
     ghost left = { λ it. 2 ^ 64 - it.held.lines };
 
     fn turn(&mut self) -> Result<bool, StoredFault> {
         self.reader.begin();
-        stored_turn(
+        take_stored_step(
             self.alloc,
             &mut self.kept,
             &mut self.held,

@@ -1,5 +1,5 @@
 -- The canonical text of a call is a command for exactly this call, and no other command is a prefix of it.
-use Rattle.camp_talk.proofs.Words.{◌≡◌, ℕ, ◌+◌, ◌≤◌, Bool, true, false, cond, ◌==◌, List, [], ◌∷◌, ◌++◌, length, length-append, map, drop, codes, Ok, refl, sym, ap, subst, ◌∙◌, arith, append_assoc, append-nil, map-append, length-map, ⊎_elim, cases_Bool, flat_map, onto_first, lines-feed, lines-other, Call, lines_of, words_of, begins_with, begins_edit, script_of_lines, IsCommand, IsLeft, TakesAll, as_read, bytes_eq, call_part, lines_in, script_in, taken, wants, asked_by, asked_of, first_of}
+use Rattle.camp_talk.proofs.Words.{◌≡◌, ℕ, ◌+◌, ◌≤◌, Bool, true, false, cond, ◌==◌, List, [], ◌∷◌, ◌++◌, length, length-append, map, drop, codes, Ok, refl, sym, ap, subst, ◌∙◌, arith, append_assoc, append-nil, map-append, length-map, ⊎_elim, cases_Bool, flat_map, onto_first, lines-feed, lines-other, Call, lines_of, words_of, begins_with, begins_edit, script_of_lines, IsCommand, IsLeft, TakesAll, as_read, bytes_eq, call_part, lines_in, script_in, taken, wants, parsed_command, parsed_lines, first_of}
 use Rattle.std.specs.List.{AllByRecursion, join_with_byte}
 use Rattle.std.proofs.lemmas.List.Concat.{flat_map-cons}
 use Rattle.camp_call.specs.declared.calls.Call.TheVariants as call
@@ -15,7 +15,7 @@ use Rattle.camp_script.proofs.CanonicalLines.{words_of-joined}
 use Rattle.camp_script.proofs.CommandCuts.{first_takes_by_words, nothing_wanted, wanted_words}
 use Rattle.camp_script.proofs.CalledLines.{body_lines, change_lines, ends_called, first_words_of, head_are, lines_behind, lines_called, record_rest, record_words, regrouped_lines, text_reads, words_called}
 use Rattle.camp_talk.proofs.LineReads.{as_read_short}
-use Rattle.camp_talk.specs.Asking.{asked_with}
+use Rattle.camp_talk.specs.Asking.{parsed_words}
 use Rattle.camp_talk.specs.Laws.{IsReadWhole}
 use Rattle.camp_talk.specs.declared.questions.Asked.TheVariants as asked
 
@@ -93,7 +93,7 @@ foresees : (c : Call) → begins_with (codes "whatif") (first_words_of c) ≡ fa
 foresees (call.Record branch name (change ∷ [])) = refl
 foresees other = refl
 
-asks : (c : Call) → asked_with (first_words_of c) (Ok ((c ∷ []) ∷ [])) ≡ Ok (asked.Call c)
+asks : (c : Call) → parsed_words (first_words_of c) (Ok ((c ∷ []) ∷ [])) ≡ Ok (asked.Call c)
 asks (call.Record branch name (change ∷ [])) = refl
 asks other = refl
 
@@ -137,11 +137,11 @@ module _ (c : Call) (can : IsScriptCall c) (short : IsReadWhole c) where
   }
 
   -- and it is this call
-  pub asks_call : asked_by (call_text c) ≡ Ok (asked.Call c)
+  pub asks_call : parsed_command (call_text c) ≡ Ok (asked.Call c)
   asks_call =
-      ap asked_of lines_are
-      ∙ ap (λ words. asked_with words (script_in (first ∷ lines_behind c))) (words_called c can)
-      ∙ ap (asked_with (first_words_of c)) (ap (λ line. script_of_lines (line ∷ lines_behind c)) call_is ∙ whole)
+      ap parsed_lines lines_are
+      ∙ ap (λ words. parsed_words words (script_in (first ∷ lines_behind c))) (words_called c can)
+      ∙ ap (parsed_words (first_words_of c)) (ap (λ line. script_of_lines (line ∷ lines_behind c)) call_is ∙ whole)
       ∙ asks c
 
 -- ---- one command at the start

@@ -1,5 +1,5 @@
 -- An answer is a failure exactly if its command has a fault, it was refused, or memory ran out.
-use Rattle.camp_talk.proofs.Words.{◌≡◌, inl, inr, ℕ, true, false, List, Option, None, Some, Result, Ok, Err, refl, sym, ap, subst, ◌∙◌, true≢false, Call, LineFault, reply_text, Standing, Tells, asked_by, Entries, tells_failure, Asked}
+use Rattle.camp_talk.proofs.Words.{◌≡◌, inl, inr, ℕ, true, false, List, Option, None, Some, Result, Ok, Err, refl, sym, ap, subst, ◌∙◌, true≢false, Call, LineFault, reply_text, Standing, Tells, parsed_command, Entries, reports_failure, Asked}
 use Rattle.std.specs.Prelude.{◌↔◌}
 use Rattle.camp_base.specs.Trees.{Lines}
 use Rattle.camp_call.specs.declared.replies.Refusal.{Refusal}
@@ -12,8 +12,8 @@ use Rattle.camp_questions.specs.declared.annotations.Annotated.TheVariants as an
 use Rattle.camp_questions.specs.declared.marking.Marked.{Marked}
 use Rattle.camp_questions.specs.declared.marking.Marked.TheVariants as marked
 use Rattle.camp_repo.specs.States.{Contents}
-use Rattle.camp_talk.specs.Laws.{Failed, FailuresAreTold}
-use Rattle.camp_talk.specs.Told.{IsTold, TellsAt, annotated_told, file_told, marks_told, told}
+use Rattle.camp_talk.specs.Laws.{Failed, FailuresAreReported}
+use Rattle.camp_talk.specs.Told.{RendersAnswer, AnswersQuestionAt, annotated_answer, file_answer, marks_answer, told}
 use Rattle.camp_talk.specs.declared.questions.Asked.TheVariants as asked
 use Rattle.camp_talk.specs.declared.questions.Question.{Question}
 use Rattle.camp_talk.specs.declared.questions.Question.TheVariants as question
@@ -21,9 +21,9 @@ use Rattle.camp_talk.specs.declared.questions.Question.TheVariants as question
 -- a text is a failure exactly if it is that of a refusal
 abbrev Refuses : List ℕ → Type 0
 Refuses text =
-    (tells_failure text ≡ true) ↔ ((refusal : Refusal) × (text ≡ reply_text (reply.Refused refusal)))
+    (reports_failure text ≡ true) ↔ ((refusal : Refusal) × (text ≡ reply_text (reply.Refused refusal)))
 
-refused_fails : (refusal : Refusal) → tells_failure (reply_text (reply.Refused refusal)) ≡ true
+refused_fails : (refusal : Refusal) → reports_failure (reply_text (reply.Refused refusal)) ≡ true
 refused_fails (NoBranch branch) = refl
 refused_fails other = refl
 
@@ -31,37 +31,37 @@ refused : (refusal : Refusal) → Refuses (reply_text (reply.Refused refusal))
 refused refusal = (λ e. (refusal, refl), λ w. refused_fails refusal)
 
 -- a text that is no failure is that of no refusal
-plain : (text : List ℕ) → tells_failure text ≡ false → Refuses text
+plain : (text : List ℕ) → reports_failure text ≡ false → Refuses text
 plain text none = (
   λ e. absurd (true≢false (sym e ∙ none)),
-  λ w. absurd (true≢false (sym (refused_fails w.0) ∙ sym (ap tells_failure w.1) ∙ none)),
+  λ w. absurd (true≢false (sym (refused_fails w.0) ∙ sym (ap reports_failure w.1) ∙ none)),
 )
 
 reply_fails : (answer : Reply) → Refuses (reply_text answer)
 reply_fails (reply.Refused refusal) = refused refusal
 reply_fails other = plain (reply_text other) refl
 
-module _ {A : Type 0} (text_of : A → List ℕ) (none : (answer : A) → tells_failure (text_of answer) ≡ false) where
+module _ {A : Type 0} (text_of : A → List ℕ) (none : (answer : A) → reports_failure (text_of answer) ≡ false) where
   answer_fails : (answer : AnswerOf A) → Refuses (told text_of answer)
   answer_fails (Ok answer) = plain (text_of answer) (none answer)
   answer_fails (Err refusal) = refused refusal
 
-  told_fails : (ComesTo : AnswerOf A → Type 0) (text : List ℕ) → IsTold text_of ComesTo text → Refuses text
+  told_fails : (ComesTo : AnswerOf A → Type 0) (text : List ℕ) → RendersAnswer text_of ComesTo text → Refuses text
   told_fails ComesTo text is = subst Refuses (sym is.tells) (answer_fails is.answer)
 
-annotated_plain : (answer : Annotated) → tells_failure (annotated_told answer) ≡ false
+annotated_plain : (answer : Annotated) → reports_failure (annotated_answer answer) ≡ false
 annotated_plain (annotated.File lines names) = refl
 annotated_plain annotated.NoFile = refl
 
-marks_plain : (answer : Marked) → tells_failure (marks_told answer) ≡ false
+marks_plain : (answer : Marked) → reports_failure (marks_answer answer) ≡ false
 marks_plain (marked.File file) = refl
 marks_plain marked.NoFile = refl
 
-file_plain : (lines : Option Lines) → tells_failure (file_told lines) ≡ false
+file_plain : (lines : Option Lines) → reports_failure (file_answer lines) ≡ false
 file_plain None = refl
 file_plain (Some lines) = refl
 
-question_fails : (history : List (ℕ × Call)) (state : Contents) (q : Question) (text : List ℕ) → TellsAt history state q text → Refuses text
+question_fails : (history : List (ℕ × Call)) (state : Contents) (q : Question) (text : List ℕ) → AnswersQuestionAt history state q text → Refuses text
 question_fails history state (question.Annotate branch path) text is = told_fails _ annotated_plain _ text is
 question_fails history state (question.Marks branch path) text is = told_fails _ marks_plain _ text is
 question_fails history state (question.File branch path) text is = told_fails _ file_plain _ text is
@@ -73,22 +73,22 @@ question_fails history state (question.Help topic) text is = subst Refuses (sym 
 question_fails history state other text is = told_fails _ (λ answer. refl) _ text is
 
 -- the answer to a parsed command
-asked_fails : (before : Standing) (a : Result Asked LineFault) (text : List ℕ) (now : Entries) → Tells before a text now → (tells_failure text ≡ true) ↔ Failed a text
-asked_fails before (Err fault) text now tells = (λ e. tt, λ w. ap tells_failure tells.0)
-asked_fails before (Ok asked.Nothing) text now tells = (λ e. true≢false (sym e ∙ ap tells_failure tells.0), λ w. absurd w)
+asked_fails : (before : Standing) (a : Result Asked LineFault) (text : List ℕ) (now : Entries) → Tells before a text now → (reports_failure text ≡ true) ↔ Failed a text
+asked_fails before (Err fault) text now tells = (λ e. tt, λ w. ap reports_failure tells.0)
+asked_fails before (Ok asked.Nothing) text now tells = (λ e. true≢false (sym e ∙ ap reports_failure tells.0), λ w. absurd w)
 asked_fails before (Ok (asked.Call call)) text now tells = subst Refuses (sym tells.tells) (reply_fails tells.reply)
 asked_fails before (Ok (asked.Question q)) text now tells = question_fails before.history.calls tells.0.0 q text tells.0.2
-asked_fails before (Ok asked.Why) text now tells = (λ e. true≢false (sym e ∙ ap tells_failure tells.0), λ w. absurd w)
+asked_fails before (Ok asked.Why) text now tells = (λ e. true≢false (sym e ∙ ap reports_failure tells.0), λ w. absurd w)
 
-pub failures_are_told : FailuresAreTold
-failures_are_told before command text after answers = elim answers.tells [
+pub failures_are_reported : FailuresAreReported
+failures_are_reported before command text after answers = elim answers.tells [
   | inl tells ↦
-      let both = asked_fails before (asked_by command) text after.history tells in (
+      let both = asked_fails before (parsed_command command) text after.history tells in (
         λ e. inl (both.0 e),
         λ w. elim w [
           | inl failed ↦ both.1 failed
-          | inr none ↦ ap tells_failure none
+          | inr none ↦ ap reports_failure none
         ],
       )
-  | inr want ↦ (λ e. inr want.1, λ w. ap tells_failure want.1)
+  | inr want ↦ (λ e. inr want.1, λ w. ap reports_failure want.1)
 ]

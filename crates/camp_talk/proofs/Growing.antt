@@ -1,8 +1,8 @@
 -- Answering commands and requests removes no call from the history.
-use Rattle.camp_talk.proofs.Words.{◌≡◌, ◌⊎◌, inl, inr, ℕ, Bool, true, List, [], ◌∷◌, Option, Result, Ok, Err, sym, subst, LineFault, Answers, Standing, Tells, TellsWant, asked_by, Entries, Exchange, Follow, Asked}
+use Rattle.camp_talk.proofs.Words.{◌≡◌, ◌⊎◌, inl, inr, ℕ, Bool, true, List, [], ◌∷◌, Option, Result, Ok, Err, sym, subst, LineFault, Answers, Standing, Tells, RunsOutOfMemory, parsed_command, Entries, Exchange, Follow, Asked}
 use Rattle.camp_object.specs.Books.{IsEarlier}
 use Rattle.camp_object.proofs.SameBooks.{earlier_same, earlier_self, earlier_through}
-use Rattle.camp_talk.specs.Accounts.{no_account}
+use Rattle.camp_talk.specs.Accounts.{no_diagnostic}
 use Rattle.camp_talk.specs.Frames.{Serves}
 use Rattle.camp_talk.specs.Requests.{AnswersRequest, AnswersSome, AsksOneMore}
 use Rattle.camp_talk.specs.declared.faults.TalkFault.TheVariants as talk
@@ -14,8 +14,8 @@ tells_grow : (before : Standing) (what : Result Asked LineFault) (text : List �
 tells_grow before (Ok (asked.Call call)) text now replies = record { first = replies.asks.first; calls = replies.asks.asks.grows }
 tells_grow before other text now tells = earlier_same before.history now tells.1
 
-grows_so : (before : Standing) (command text : List ℕ) (now : Entries) → Tells before (asked_by command) text now ⊎ TellsWant before command text now → IsEarlier before.history now
-grows_so before command text now (inl tells) = tells_grow before (asked_by command) text now tells
+grows_so : (before : Standing) (command text : List ℕ) (now : Entries) → Tells before (parsed_command command) text now ⊎ RunsOutOfMemory before command text now → IsEarlier before.history now
+grows_so before command text now (inl tells) = tells_grow before (parsed_command command) text now tells
 grows_so before command text now (inr want) = earlier_same before.history now want.2
 
 pub answers_grow : (before : Standing) (command text : List ℕ) (after : Standing) → Answers before command text after → IsEarlier before.history after.history
@@ -30,14 +30,14 @@ follow_grow first (exchange ∷ said) last (next, command, answers, follow) =
 request_grows : (before : Entries) (request answer : List ℕ) (now : Entries) → AnswersRequest before request answer now → IsEarlier before now
 request_grows before request answer now answers =
     subst (λ (l : Entries). IsEarlier before l) (sym answers.same)
-    (earlier_through (follow_grow (record { history = before; lines = 0; cause = no_account }) answers.said answers.middle answers.follow)
+    (earlier_through (follow_grow (record { history = before; lines = 0; cause = no_diagnostic }) answers.said answers.middle answers.follow)
     (answers_grow answers.middle answers.last.command answers.last.answer answers.after answers.answers))
 
 some_grow : (before : Entries) (request answer : List ℕ) (now : Entries) → AnswersSome before request answer now → IsEarlier before now
 some_grow before request answer now some = ends some.leaves
   where
     so_far : IsEarlier before some.middle.history
-    so_far = follow_grow (record { history = before; lines = 0; cause = no_account }) some.said some.middle some.follow
+    so_far = follow_grow (record { history = before; lines = 0; cause = no_diagnostic }) some.said some.middle some.follow
 
     ends : ((now ≡ some.middle.history) × (some.front ≡ [])) ⊎ AsksOneMore some.middle some.rest some.front now → IsEarlier before now
     ends (inl still) = subst (λ (l : Entries). IsEarlier before l) (sym still.0) so_far

@@ -21,8 +21,8 @@ pub mod RequestLemmas
 pub mod RunLemmas
 pub mod Served
 pub mod Skipped
-pub mod ToldLemmas
-pub mod TurnLemmas
+pub mod AnswerLemmas
+pub mod LeadsLemmas
 pub mod Turns
 pub mod ViewLemmas
 pub mod VisibleLemmas

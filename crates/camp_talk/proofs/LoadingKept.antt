@@ -1,6 +1,6 @@
 -- Loads the text that stores a history, call by call.
-use Rattle.camp_talk.specs.Accounts.{no_account}
-use Rattle.camp_talk.proofs.Words.{◌≡◌, ◌⊎◌, inl, inr, ℕ, Bool, true, false, List, [], ◌∷◌, ◌++◌, length, map, drop, Option, None, Some, Result, Ok, Err, refl, sym, ap, subst, ◌∙◌, append_assoc, append-nil, map-append, drop-append_seam, true≢false, flat_map, All, All-head, All-tail, Call, LineFault, reply_text, Standing, Tells, TellsWant, asked_by, Entries, Exchange, Follow, IsCommand, IsLeft, ReadsCommand, Done, Fails, TellsSuccess, tells_failure, Asked}
+use Rattle.camp_talk.specs.Accounts.{no_diagnostic}
+use Rattle.camp_talk.proofs.Words.{◌≡◌, ◌⊎◌, inl, inr, ℕ, Bool, true, false, List, [], ◌∷◌, ◌++◌, length, map, drop, Option, None, Some, Result, Ok, Err, refl, sym, ap, subst, ◌∙◌, append_assoc, append-nil, map-append, drop-append_seam, true≢false, flat_map, All, All-head, All-tail, Call, LineFault, reply_text, Standing, Tells, RunsOutOfMemory, parsed_command, Entries, Exchange, Follow, IsCommand, IsLeft, ReadsCommand, Done, Fails, ReportsSuccess, reports_failure, Asked}
 use Rattle.std.proofs.Common.{IsSome}
 use Rattle.std.proofs.lemmas.List.Concat.{flat_map-cons}
 use Rattle.std.specs.List.{AllByRecursion}
@@ -16,7 +16,7 @@ use Rattle.camp_repo.specs.Objects.{repository}
 use Rattle.camp_repo.specs.States.{Contents}
 use Rattle.camp_script.specs.Canonical.{IsScriptCall, call_text, section_text}
 use Rattle.camp_script.specs.Keeping.{calls_of, kept_text}
-use Rattle.camp_talk.specs.Laws.{ComesBack, IsReadWhole, KeptIsLoaded, at_seat_0}
+use Rattle.camp_talk.specs.Laws.{RestoresHistory, IsReadWhole, KeepRestoresHistory, at_seat_0}
 use Rattle.camp_talk.specs.Loads.{Ends, EndsWell}
 use Rattle.camp_talk.specs.declared.faults.LoadFault.{LoadFault}
 use Rattle.camp_talk.specs.declared.faults.LoadFault.TheVariants.{Answer, Memory, Talk}
@@ -54,23 +54,23 @@ module _ (seen now : Entries) (c : Call) (accepted : CanBeNext seen c) where
       absurd (true≢false (sym (subst (λ (found : Option Contents). IsSome found) answered.stays none)))
 
   -- it is the last of the history, and its answer is no failure
-  accepts : (answer : Reply) (text : List ℕ) → text ≡ reply_text answer → AsksBook repository 0 seen c (Ok answer) now → (now ≡ then_calls seen (c ∷ [])) × (tells_failure text ≡ false)
+  accepts : (answer : Reply) (text : List ℕ) → text ≡ reply_text answer → AsksBook repository 0 seen c (Ok answer) now → (now ≡ then_calls seen (c ∷ [])) × (reports_failure text ≡ false)
   accepts (reply.Done at) text tells asks = (
     same_book now (then_calls seen (c ∷ [])) asks.first (asks.asks.says.ends ∙ ap (λ (calls : Calls). calls ++ (0, c) ∷ []) (asks.asks.says.exact refl)),
-    ap tells_failure tells,
+    ap reports_failure tells,
   )
   accepts other text tells asks = not_answered other (asks.asks.says.0.exact refl) asks.asks.says.1
 
 -- the text of a call is answered
 module _ (c : Call) (can : IsScriptCall c) (short : IsReadWhole c) (before : Standing) (text : List ℕ) (now : Entries) (accepted : CanBeNext before.history c) where
-  answered_so : Tells before (asked_by (call_text c)) text now → (now ≡ then_calls before.history (c ∷ [])) × (tells_failure text ≡ false)
+  answered_so : Tells before (parsed_command (call_text c)) text now → (now ≡ then_calls before.history (c ∷ [])) × (reports_failure text ≡ false)
   answered_so tells =
       let replies = subst (λ (asked : Result Asked LineFault). Tells before asked text now) (asks_call c can short) tells in
       accepts before.history now c accepted replies.reply text replies.tells replies.asks
 
-  done_so : Tells before (asked_by (call_text c)) text now ⊎ TellsWant before (call_text c) text now → TellsSuccess text → now ≡ then_calls before.history (c ∷ [])
+  done_so : Tells before (parsed_command (call_text c)) text now ⊎ RunsOutOfMemory before (call_text c) text now → ReportsSuccess text → now ≡ then_calls before.history (c ∷ [])
   done_so (inl tells) well = (answered_so tells).0
-  done_so (inr want) well = absurd (true≢false (ap tells_failure (sym want.1) ∙ well))
+  done_so (inr want) well = absurd (true≢false (ap reports_failure (sym want.1) ∙ well))
 
 -- ---- calls that are accepted one after the other
 
@@ -120,7 +120,7 @@ behind_first c calls command rest can short is same =
       sym (drop-append_seam (call_text c) (section_text calls)) ∙ ap (drop (length (call_text c))) (sym all ∙ ap (λ bytes. bytes ++ rest) one) ∙ drop-append_seam (call_text c) rest,
     )
 
-walk : (said : List Exchange) (first last : Standing) (calls : List Call) (left : List ℕ) → Follow first said last → All (λ exchange. TellsSuccess exchange.answer) said
+walk : (said : List Exchange) (first last : Standing) (calls : List Call) (left : List ℕ) → Follow first said last → All (λ exchange. ReportsSuccess exchange.answer) said
     → section_text calls ≡ commands_of said ++ left → AllByRecursion IsScriptCall calls → AllByRecursion IsReadWhole calls → AcceptedFrom first.history calls → Walked calls first.history last.history left
 walk [] first last calls left follow well same can short accepted =
     let history : last.history ≡ first.history = ap (λ (standing : Standing). standing.history) (sym follow) in
@@ -141,9 +141,9 @@ walk (exchange ∷ others) first last (c ∷ calls) left follow well same can sh
     let cons : commands_of (exchange ∷ others) ≡ exchange.command ++ commands_of others = flat_map-cons (λ (e : Exchange). e.command) exchange others in
     let next = follow.0 in
     let step = behind_first c calls exchange.command (commands_of others ++ left) can.0 short.0 follow.1 (same ∙ ap (λ bytes. bytes ++ left) cons ∙ append_assoc exchange.command (commands_of others) left) in
-    let tells = subst (λ (command : List ℕ). Tells first (asked_by command) exchange.answer next.history ⊎ TellsWant first command exchange.answer next.history) step.0 follow.2.tells in
-    let grown : next.history ≡ then_calls first.history (c ∷ []) = done_so c can.0 short.0 first exchange.answer next.history accepted.0 tells (All-head (λ (e : Exchange). TellsSuccess e.answer) exchange others well) in
-    let more = walk others next last calls left follow.3 (All-tail (λ (e : Exchange). TellsSuccess e.answer) exchange others well) step.1 can.1 short.1 (subst (λ (h : Entries). AcceptedFrom h calls) (sym grown) accepted.1) in
+    let tells = subst (λ (command : List ℕ). Tells first (parsed_command command) exchange.answer next.history ⊎ RunsOutOfMemory first command exchange.answer next.history) step.0 follow.2.tells in
+    let grown : next.history ≡ then_calls first.history (c ∷ []) = done_so c can.0 short.0 first exchange.answer next.history accepted.0 tells (All-head (λ (e : Exchange). ReportsSuccess e.answer) exchange others well) in
+    let more = walk others next last calls left follow.3 (All-tail (λ (e : Exchange). ReportsSuccess e.answer) exchange others well) step.1 can.1 short.1 (subst (λ (h : Entries). AcceptedFrom h calls) (sym grown) accepted.1) in
     record {
       done = c ∷ more.done;
       more = more.more;
@@ -221,16 +221,16 @@ module _ (first : Contents) (calls : List Call) (middle : Standing) (left : List
       let all : left ≡ command = ends.reads.0 ∙ ap (λ (bytes : List ℕ). command ++ bytes) ends.reads.2 ∙ append-nil command in
       by (left_next walked.more command walked.can walked.short ends.reads.1 (sym walked.left_is ∙ all)).is
     where
-      nothing : (command : List ℕ) → command ≡ [] → Tells middle (asked_by command) ends.said.answer ends.after.history ⊎ TellsWant middle command ends.said.answer ends.after.history → ends.after.history ≡ middle.history
+      nothing : (command : List ℕ) → command ≡ [] → Tells middle (parsed_command command) ends.said.answer ends.after.history ⊎ RunsOutOfMemory middle command ends.said.answer ends.after.history → ends.after.history ≡ middle.history
       nothing command none (inl tells) =
-          (subst (λ (bytes : List ℕ). Tells middle (asked_by bytes) ends.said.answer ends.after.history) none tells).1
+          (subst (λ (bytes : List ℕ). Tells middle (parsed_command bytes) ends.said.answer ends.after.history) none tells).1
       nothing command none (inr want) = want.2
 
       by : ((walked.more ≡ []) × (ends.said.command ≡ [])) ⊎ ((c : Call) × (walked.more ≡ c ∷ []) × (ends.said.command ≡ call_text c)) → now ≡ whole
       by (inl (none, empty)) = ends.same ∙ nothing ends.said.command empty ends.answers.tells ∙ all_done none
       by (inr (c, one, is)) =
           let (can, short, accepted) = facts c [] one in
-          let tells = subst (λ (command : List ℕ). Tells middle (asked_by command) ends.said.answer ends.after.history ⊎ TellsWant middle command ends.said.answer ends.after.history) is ends.answers.tells in
+          let tells = subst (λ (command : List ℕ). Tells middle (parsed_command command) ends.said.answer ends.after.history ⊎ RunsOutOfMemory middle command ends.said.answer ends.after.history) is ends.answers.tells in
           ends.same ∙ done_so c can short middle ends.said.answer ends.after.history accepted tells ends.well ∙ one_done c one
 
   -- a command that was not done is none of these
@@ -239,11 +239,11 @@ module _ (first : Contents) (calls : List Call) (middle : Standing) (left : List
     where
       by : (command : List ℕ) → fails.command ≡ command → ((walked.more ≡ []) × (command ≡ [])) ⊎ ((c : Call) × (others : List Call) × (walked.more ≡ c ∷ others) × (command ≡ call_text c)) → ⊥
       by command same (inl (none, empty)) =
-          let tells = subst (λ (bytes : List ℕ). Tells middle (asked_by bytes) text now) (same ∙ empty) fails.tells in
-          absurd (true≢false (sym fails.failure ∙ ap tells_failure tells.0))
+          let tells = subst (λ (bytes : List ℕ). Tells middle (parsed_command bytes) text now) (same ∙ empty) fails.tells in
+          absurd (true≢false (sym fails.failure ∙ ap reports_failure tells.0))
       by command same (inr (c, others, one, is)) =
           let (can, short, accepted) = facts c others one in
-          let tells = subst (λ (bytes : List ℕ). Tells middle (asked_by bytes) text now) (same ∙ is) fails.tells in
+          let tells = subst (λ (bytes : List ℕ). Tells middle (parsed_command bytes) text now) (same ∙ is) fails.tells in
           absurd (true≢false (sym fails.failure ∙ (answered_so c can short middle text now accepted tells).1))
 
       wider : (command : List ℕ) → ((walked.more ≡ []) × (command ≡ [])) ⊎ ((c : Call) × (walked.more ≡ c ∷ []) × (command ≡ call_text c))
@@ -265,7 +265,7 @@ module _ (history : Entries) (state : Contents) (replays : replay_book repositor
   calls = calls_of history.calls
 
   abbrev start : Standing
-  start = record { history = new_book history.first; lines = 0; cause = no_account }
+  start = record { history = new_book history.first; lines = 0; cause = no_diagnostic }
 
   back : replay_book repository (at_seat_0 history) ≡ Some state
   back = run_at_seat_0 history.first history.calls (Some history.first) ∙ replays
@@ -275,7 +275,7 @@ module _ (history : Entries) (state : Contents) (replays : replay_book repositor
       walk done.said start middle calls left done.follow done.well (sym (append-nil (section_text calls)) ∙ done.reads) can short (accepted_from (new_book history.first) calls (some_is_some back))
 
   ended : (left rest : Option (List ℕ)) (middle : Standing) (result : Result (Unit {0}) LoadFault) (now : Entries)
-      → Done (Some (kept_text history.calls)) left start middle → Ends left rest middle result now → ComesBack history state result now
+      → Done (Some (kept_text history.calls)) left start middle → Ends left rest middle result now → RestoresHistory history state result now
   ended None rest middle result now done ends = absurd done.reads
   ended (Some left) rest middle (Ok unit) now done ends =
       let all = ends_well history.first calls middle left (walked left middle done) rest now ends in
@@ -287,6 +287,6 @@ module _ (history : Entries) (state : Contents) (replays : replay_book repositor
   ended (Some left) rest middle (Err (Talk why)) now done ends =
       subst (λ (h : Entries). IsEarlier h (at_seat_0 history)) (sym ends.1) (first_done history.first calls middle left (walked left middle done))
 
-pub kept_is_loaded : KeptIsLoaded
-kept_is_loaded history state replays can short rest result now loads =
+pub keep_restores_history : KeepRestoresHistory
+keep_restores_history history state replays can short rest result now loads =
     ended history state replays can short loads.left rest loads.middle result now loads.done loads.ends

@@ -13,7 +13,7 @@ use Rattle.camp_repo.proofs.NameSteps.{none_lacked}
 use Rattle.camp_repo.specs.States.{Contents, catches_of}
 use Rattle.camp_repo.specs.Steps.{listed}
 use Rattle.camp_talk.specs.Against.{absent_text, call_about, first_lacked_of, lack_in, lack_text, no_branch_text, other_target, target}
-use Rattle.camp_talk.specs.Laws.{TellsName}
+use Rattle.camp_talk.specs.Laws.{ReportsName}
 use Rattle.camp_talk.specs.declared.questions.Asked.TheVariants as asked
 use Rattle.camp_why.specs.Grounds.{IsGround, LacksBranch, LacksPatch}
 
@@ -24,7 +24,7 @@ told_absent state branch name same none =
 
 -- of the branch that a call is about
 told_about : (state : Contents) (call : Call) (name : List ℕ) → (call_about call).1 ≡ name → catches_of state.branches name ≡ None
-    → TellsName state call (refusal.NoBranch name)
+    → ReportsName state call (refusal.NoBranch name)
 told_about state call name same none = (
   [],
   option_map_or (absent_text state) (other_target (Some (call_about call)) (target (asked.Call call))) [],
@@ -34,7 +34,7 @@ told_about state call name same none = (
 
 -- of the branch TO, if it is another one
 told_target : (state : Contents) (from to name : List ℕ) (names : Option (List (List ℕ))) → to ≡ name → catches_of state.branches name ≡ None
-    → (alike : Bool) → bytes_eq from to ≡ alike → TellsName state (call.Pull from to names) (refusal.NoBranch name)
+    → (alike : Bool) → bytes_eq from to ≡ alike → ReportsName state (call.Pull from to names) (refusal.NoBranch name)
 told_target state from to name names same none true is =
     told_about state (call.Pull from to names) name ((bytes_eq-Decides from to).0 is ∙ same) none
 told_target state from to name names same none false is = (
@@ -45,7 +45,7 @@ told_target state from to name names same none false is = (
       ∙ sym (append-nil (absent_text state from ++ no_branch_text name)),
 )
 
-branch_named : (state : Contents) (call : Call) (name : List ℕ) → LacksBranch state call name → TellsName state call (refusal.NoBranch name)
+branch_named : (state : Contents) (call : Call) (name : List ℕ) → LacksBranch state call name → ReportsName state call (refusal.NoBranch name)
 branch_named state (call.Pull from to names) name (inl same, none) = told_about state (call.Pull from to names) name same none
 branch_named state (call.Pull from to names) name (inr same, none) = told_target state from to name names same none (bytes_eq from to) refl
 branch_named state other name (same, none) = told_about state other name same none
@@ -56,14 +56,14 @@ listed_lacks : (catches : List Catch) (names : Option (List (List ℕ))) (name :
 listed_lacks catches None name is = absurd (none-some name (sym (none_lacked catches) ∙ is))
 listed_lacks catches (Some names) name is = is
 
-patch_named : (state : Contents) (call : Call) (name : List ℕ) → LacksPatch state call name → TellsName state call (refusal.NoPatch name)
+patch_named : (state : Contents) (call : Call) (name : List ℕ) → LacksPatch state call name → ReportsName state call (refusal.NoPatch name)
 patch_named state (call.Pull from to names) name (catches, has, lacks) =
     ap (lack_in state (asked.Call (call.Pull from to names)) from) has ∙ ap (lack_text state from) (listed_lacks catches names name lacks)
 patch_named state (call.Obliterate branch names) name (catches, has, lacks) =
     ap (lack_in state (asked.Call (call.Obliterate branch names)) branch) has ∙ ap (lack_text state branch) lacks
 patch_named state other name is = absurd is
 
-pub is_named : (state : Contents) (call : Call) (refused : Refusal) → IsGround state call refused → TellsName state call refused
+pub is_named : (state : Contents) (call : Call) (refused : Refusal) → IsGround state call refused → ReportsName state call refused
 is_named state call (refusal.NoBranch name) ground = branch_named state call name ground
 is_named state call (refusal.NoPatch name) ground = patch_named state call name ground
 is_named state call other ground = tt

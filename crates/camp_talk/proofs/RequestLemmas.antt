@@ -1,5 +1,5 @@
 -- The answer to a request, from the steps that are taken.
-use Rattle.camp_talk.specs.Accounts.{no_account}
+use Rattle.camp_talk.specs.Accounts.{no_diagnostic}
 use Rattle.camp_talk.proofs.Words.{◌≡◌, ◌⊎◌, inl, inr, ℕ, Bool, true, false, List, [], ◌++◌, Some, Err, append-nil, append_assoc, flat_map, refl, sym, ap, ◌∙◌, Breaks, Entries, Exchange, Exchanges, Holds, IsCommand, IsLeft, ReadsCommand, Standing, Stops, Turns}
 use Rattle.camp_talk.proofs.Firsts.{command_read}
 use Rattle.camp_talk.specs.Requests.{AnswersRequest, AnswersSome}
@@ -14,7 +14,7 @@ asked_one left rest false command (reads, is, ends) = inr (is, ends)
 
 module _ (history : Entries) (request left rest old held new : List ℕ) (middle last : Standing) where
   abbrev first : Standing
-  first = record { history = history; lines = 0; cause = no_account }
+  first = record { history = history; lines = 0; cause = no_diagnostic }
 
   -- after the last command
   pub request_answered : Holds (Some request) (Some left) (Some old) (Some held) first middle

@@ -1,5 +1,5 @@
 -- A line that is skipped asks nothing, and no other belongs to it.
-use Rattle.camp_talk.proofs.Words.{◌≡◌, ℕ, ◌==◌, true, false, true≢false, cond, List, [], ◌∷◌, codes, Ok, refl, sym, ap, ◌∙◌, eqb-true, bytes_eq, begins_with, is_skipped, words_of, script_of_lines, asked_of, first_of, call_part, map, TakesAll, taken}
+use Rattle.camp_talk.proofs.Words.{◌≡◌, ℕ, ◌==◌, true, false, true≢false, cond, List, [], ◌∷◌, codes, Ok, refl, sym, ap, ◌∙◌, eqb-true, bytes_eq, begins_with, is_skipped, words_of, script_of_lines, parsed_lines, first_of, call_part, map, TakesAll, taken}
 use Rattle.std.specs.Prelude.{slice_index}
 use Rattle.camp_script.proofs.Agreement.{reads_as_defined}
 use Rattle.camp_script.specs.Behind.{behind_word}
@@ -9,7 +9,7 @@ use Rattle.camp_script.specs.Inside.Progress.{start}
 use Rattle.camp_script.specs.Inside.Steps.{obeyed, read_from}
 use Rattle.camp_script.specs.Pieces.{NumberedLine, numbered}
 use Rattle.camp_script.specs.Words.{◌>>=◌}
-use Rattle.camp_talk.specs.Asking.{asked_with}
+use Rattle.camp_talk.specs.Asking.{parsed_words}
 use Rattle.camp_talk.specs.declared.questions.Asked.TheVariants as asked
 
 -- the first word of a comment
@@ -28,10 +28,10 @@ no_command : (words : List (List ℕ)) → is_skipped words ≡ true → command
 no_command [] is = refl
 no_command (word ∷ words) is = let (rest, sign) = number_sign word is in ap (λ (w : List ℕ). command_of 1 (w ∷ words)) sign
 
-nothing_asked : (words : List (List ℕ)) → is_skipped words ≡ true → asked_with words (Ok ([] ∷ [])) ≡ Ok asked.Nothing
+nothing_asked : (words : List (List ℕ)) → is_skipped words ≡ true → parsed_words words (Ok ([] ∷ [])) ≡ Ok asked.Nothing
 nothing_asked [] is = refl
 nothing_asked (word ∷ words) is =
-    let (rest, sign) = number_sign word is in ap (λ (w : List ℕ). asked_with (w ∷ words) (Ok ([] ∷ []))) sign
+    let (rest, sign) = number_sign word is in ap (λ (w : List ℕ). parsed_words (w ∷ words) (Ok ([] ∷ []))) sign
 
 -- ---- by the line
 
@@ -48,12 +48,12 @@ module _ (line : List ℕ) (skipped : is_skipped (words_of line) ≡ true) where
       sym all ∙ ap (λ b. command.taken (cond b (behind_word line) line) rest) (no_foresight (words_of line) skipped)
       ∙ ap (λ asked. map (λ (l : NumberedLine). l.bytes) (command.taken_by asked (numbered 2 rest))) (no_command (words_of line) skipped)
 
-  asks_nothing : asked_of (line ∷ []) ≡ Ok asked.Nothing
-  asks_nothing = ap (asked_with (words_of line)) no_call ∙ nothing_asked (words_of line) skipped
+  asks_nothing : parsed_lines (line ∷ []) ≡ Ok asked.Nothing
+  asks_nothing = ap (parsed_words (words_of line)) no_call ∙ nothing_asked (words_of line) skipped
 
 -- a command whose first line is skipped
 pub silent_asks_nothing : (lines : List (List ℕ)) → TakesAll lines → is_skipped (words_of (first_of lines)) ≡ true
-    → asked_of lines ≡ Ok asked.Nothing
+    → parsed_lines lines ≡ Ok asked.Nothing
 silent_asks_nothing [] all skipped = refl
 silent_asks_nothing (line ∷ rest) all skipped =
-    ap (λ (ls : List (List ℕ)). asked_of (line ∷ ls)) (alone line skipped rest all) ∙ asks_nothing line skipped
+    ap (λ (ls : List (List ℕ)). parsed_lines (line ∷ ls)) (alone line skipped rest all) ∙ asks_nothing line skipped

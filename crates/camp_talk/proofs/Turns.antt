@@ -1,9 +1,9 @@
 -- Steps of a conversation, one after the other.
-use Rattle.camp_talk.proofs.Words.{refl, sym, ap, subst, ◌∙◌, ◌≢◌, ⊎_elim, cases_Bool, append-nil, flat_map, flat_map-append, Gives, lines_of, LineFault, ScriptFault, Answers, Standing, Tells, TellsWant, asked_by, IsCommand, IsLeft, Entries, IsReading, IsSaid, IsWriting, Learns, LearnsOf, lines_in, is_silent, said_text, Asked, ◌≡◌, ◌≤◌, ◌⊎◌, inl, inr, ℕ, ◌+◌, ◌^◌, Bool, true, false, List, [], ◌∷◌, ◌++◌, length, Option, Result, Ok, Err, Vec, IfOk, OnErr, Appends, Consumes, Appends-nil, Appends-trans, Consumes-nil, Consumes-trans, Exchange, Exchanges, Follow, Holds, ReadsNone, ReadsTooMuch, ReadsWithin, Stops, Turns}
+use Rattle.camp_talk.proofs.Words.{refl, sym, ap, subst, ◌∙◌, ◌≢◌, ⊎_elim, cases_Bool, append-nil, flat_map, flat_map-append, Gives, lines_of, LineFault, ScriptFault, Answers, Standing, Tells, RunsOutOfMemory, parsed_command, IsCommand, IsLeft, Entries, IsReading, IsResponse, IsWriting, UpdatesDiagnostic, UpdatesDiagnosticOf, lines_in, is_silent, answer_or_memory, Asked, ◌≡◌, ◌≤◌, ◌⊎◌, inl, inr, ℕ, ◌+◌, ◌^◌, Bool, true, false, List, [], ◌∷◌, ◌++◌, length, Option, Result, Ok, Err, Vec, IfOk, OnErr, Appends, Consumes, Appends-nil, Appends-trans, Consumes-nil, Consumes-trans, Exchange, Exchanges, Follow, Holds, ReadsNone, ReadsTooMuch, ReadsWithin, Stops, Turns}
 use Rattle.std.specs.Io.KnownBytes.{Keeps}
 use Rattle.camp_talk.specs.Accounts.{Account}
-use Rattle.camp_talk.specs.Answers.{LearnsAt}
-use Rattle.camp_talk.specs.Inside.Hearing.{LearnsWith}
+use Rattle.camp_talk.specs.Answers.{UpdatesDiagnosticAt}
+use Rattle.camp_talk.specs.Inside.ExecutingNext.{UpdatesDiagnosticWith}
 use Rattle.camp_talk.specs.Whys.{is_failure}
 use Rattle.camp_talk.specs.declared.faults.TalkFault.{TalkFault}
 use Rattle.camp_talk.specs.declared.questions.Asked.TheVariants.{Nothing}
@@ -11,41 +11,41 @@ use Rattle.camp_talk.specs.declared.faults.TalkFault.TheVariants.{Memory, Read, 
 
 -- the diagnostic by the lines of a command is its diagnostic
 learns_so : (before : Standing) (command text : List ℕ) (cause : Account) (fails : Bool)
-    → LearnsWith fails before (lines_in command) (asked_by command) text cause → LearnsAt fails before command text cause
+    → UpdatesDiagnosticWith fails before (lines_in command) (parsed_command command) text cause → UpdatesDiagnosticAt fails before command text cause
 learns_so before command text cause true learns = learns
 learns_so before command text cause false learns = learns
 
 -- the text that is written is the answer to the command
 module _ {Z E : Type 0} (before : Standing) (now : Entries) (cause : Account) (command : List ℕ) (lines : List (List ℕ))
-    (asked : Result Asked ScriptFault) (gives : Gives asked (asked_by command)) (same : lines ≡ lines_in command) where
+    (asked : Result Asked ScriptFault) (gives : Gives asked (parsed_command command)) (same : lines ≡ lines_in command) where
   pub said_so : (said : Result (Vec ℕ Z) E)
       → IfOk said (λ text. (reading : Result Asked LineFault) → Gives asked reading
       → Tells before reading text.items now)
       → IfOk said (λ text. (reading : Result Asked LineFault) → Gives asked reading
-      → LearnsOf before lines reading text.items cause)
+      → UpdatesDiagnosticOf before lines reading text.items cause)
       → OnErr said (now ≡ before.history) → OnErr said (cause ≡ before.cause) → OnErr said (asked ≢ Ok Nothing)
-      → (is_silent command ≡ true → asked ≡ Ok Nothing) → IsSaid before command said now cause
+      → (is_silent command ≡ true → asked ≡ Ok Nothing) → IsResponse before command said now cause
   said_so (Ok text) tells learns kept stays something silent = (
-    tells (asked_by command) gives,
+    tells (parsed_command command) gives,
     learns_so before command text.items cause (is_failure text.items)
-        (subst (λ (ls : List (List ℕ)). LearnsOf before ls (asked_by command) text.items cause) same (learns (asked_by command) gives)),
+        (subst (λ (ls : List (List ℕ)). UpdatesDiagnosticOf before ls (parsed_command command) text.items cause) same (learns (parsed_command command) gives)),
   )
   said_so (Err error) tells learns kept stays something silent =
       (⊎_elim (λ is. absurd (something (silent is))) (λ says. says) (cases_Bool (is_silent command)), kept, stays)
 
 module _ {Z E : Type 0} (before after : Standing) (command : List ℕ) where
-  answered_by : (said : Result (Vec ℕ Z) E) → IsSaid before command said after.history after.cause
-      → Tells before (asked_by command) (said_text said) after.history ⊎ TellsWant before command (said_text said) after.history
+  answered_by : (said : Result (Vec ℕ Z) E) → IsResponse before command said after.history after.cause
+      → Tells before (parsed_command command) (answer_or_memory said) after.history ⊎ RunsOutOfMemory before command (answer_or_memory said) after.history
   answered_by (Ok text) says = inl says.0
   answered_by (Err error) says = inr (says.0, refl, says.1)
 
-  learned_by : (said : Result (Vec ℕ Z) E) → IsSaid before command said after.history after.cause
-      → Learns before command (said_text said) after.cause
+  learned_by : (said : Result (Vec ℕ Z) E) → IsResponse before command said after.history after.cause
+      → UpdatesDiagnostic before command (answer_or_memory said) after.cause
   learned_by (Ok text) says = says.1
   learned_by (Err error) says = says.2
 
-  pub answered : (said : Result (Vec ℕ Z) E) → IsSaid before command said after.history after.cause
-      → after.lines ≡ before.lines + length (lines_of command) → Answers before command (said_text said) after
+  pub answered : (said : Result (Vec ℕ Z) E) → IsResponse before command said after.history after.cause
+      → after.lines ≡ before.lines + length (lines_of command) → Answers before command (answer_or_memory said) after
   answered said says counts = record { tells = answered_by said says; counts = counts; learns = learned_by said says }
 
 abbrev pub at_lines : ℕ → Entries → Account → Standing

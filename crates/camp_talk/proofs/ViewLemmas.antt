@@ -1,6 +1,6 @@
 -- The answers of a view, command by command.
 use Rattle.camp_talk.proofs.Words.{◌≡◌, ℕ, true, false, List, [], ◌∷◌, ◌++◌, length, Some, ap, append-nil, append_assoc, flat_map, flat_map-append, refl, subst, sym, take, take-append_seam, ◌∙◌, Call, Exchange, IsCommand, IsNotWriting, IsReading}
-use Rattle.camp_talk.specs.Inside.Viewing.{HoldsView, SeesTurn}
+use Rattle.camp_talk.specs.Inside.Viewing.{HasAnsweredView, SeesStep}
 use Rattle.camp_talk.specs.Views.{AnswersView, Sees, SeesAll}
 use Rattle.camp_talk.specs.declared.faults.TalkFault.{TalkFault}
 use Rattle.camp_talk.specs.declared.faults.TalkFault.TheVariants.{Internal}
@@ -38,7 +38,7 @@ taken_back old more new is = ap (λ bytes. take (length old) bytes) is ∙ take-
 
 module _ (state : Contents) where
   -- at first no command was answered
-  pub begins_view : (request old : List ℕ) → HoldsView request request old old state 0
+  pub begins_view : (request old : List ℕ) → HasAnsweredView request request old old state 0
   begins_view request old = record { said = []; sees = refl; reads = refl; writes = sym (append-nil old) }
 
   -- one more command is answered
@@ -51,8 +51,8 @@ module _ (state : Contents) where
 
   module _ (request left rest old held new : List ℕ) (middle last : ℕ) where
     -- there may be more
-    pub sees_on : HoldsView request left old held state middle
-        → SeesTurn (Some left) (Some rest) held new state middle true last → HoldsView request rest old new state last
+    pub sees_on : HasAnsweredView request left old held state middle
+        → SeesStep (Some left) (Some rest) held new state middle true last → HasAnsweredView request rest old new state last
     sees_on holds turn =
         let more : Exchange = turn.said in
         record {
@@ -69,8 +69,8 @@ module _ (state : Contents) where
         }
 
     -- after the last command
-    pub view_answered : HoldsView request left old held state middle
-        → SeesTurn (Some left) (Some rest) held new state middle false last
+    pub view_answered : HasAnsweredView request left old held state middle
+        → SeesStep (Some left) (Some rest) held new state middle false last
         → (text : List ℕ) × (new ≡ old ++ text) × AnswersView state request text
     view_answered holds turn =
         let all : left ≡ turn.said.command =

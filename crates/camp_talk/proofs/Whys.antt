@@ -3,7 +3,7 @@ use Rattle.std.proofs.lemmas.Fmt.{decimal_digit, decimal_step}
 use Rattle.std.specs.Fmt.{decimal}
 use Rattle.std.specs.Prelude.{◌%◌, ◌/◌}
 use Rattle.camp_talk.proofs.Naming.{is_named}
-use Rattle.camp_talk.proofs.Words.{◌≡◌, ◌∙◌, true, List, [], ◌∷◌, ◌+◌, ◌<◌, ◌≤◌, ◌^◌, ℕ, Ok, Some, ap, append-nil, arith, codes, first_of, lines_of, words_of, refl, sym, subst, ◌++◌, true≢false, Call, reply_text, asked_by, lines_in}
+use Rattle.camp_talk.proofs.Words.{◌≡◌, ◌∙◌, true, List, [], ◌∷◌, ◌+◌, ◌<◌, ◌≤◌, ◌^◌, ℕ, Ok, Some, ap, append-nil, arith, codes, first_of, lines_of, words_of, refl, sym, subst, ◌++◌, true≢false, Call, reply_text, parsed_command, lines_in}
 use Rattle.camp_script.specs.Texts.{line_text}
 use Rattle.camp_call.specs.declared.replies.Refusal.{Refusal}
 use Rattle.camp_call.specs.declared.replies.Refusal.TheVariants as refusal
@@ -12,9 +12,9 @@ use Rattle.camp_repo.specs.States.{Contents}
 use Rattle.camp_talk.specs.Accounts.{Account}
 use Rattle.camp_talk.specs.Against.{call_about, sides_text, target}
 use Rattle.camp_talk.specs.Asking.{reason_at}
-use Rattle.camp_talk.specs.Laws.{CausesAreTold, NamesCause, RefusalsAreTold, names_in}
+use Rattle.camp_talk.specs.Laws.{CausesAreReported, NamesCause, RefusalsAreDescribed, names_in}
 use Rattle.camp_talk.specs.Refusals.{reason_of, saying}
-use Rattle.camp_talk.specs.Whys.{cause_of, cause_with, cure_at, found_text, reason_in, refusal_lines, shown_line}
+use Rattle.camp_talk.specs.Whys.{diagnostic_of, diagnostic_with, cure_at, found_text, reason_in, refusal_lines, shown_line}
 use Rattle.camp_talk.specs.declared.questions.Asked.TheVariants as asked
 use Rattle.camp_talk.specs.declared.questions.Reason.{Reason}
 use Rattle.camp_talk.specs.declared.questions.Reason.TheVariants as reason
@@ -65,14 +65,14 @@ reason_of_answer (refusal.SameBranch branch) = reason_told 14 (codes "14") (from
 
 -- ---- causes
 
-module _ (before : Account) (state : Contents) (command : List ℕ) (call : Call) (asks : asked_by command ≡ Ok (asked.Call call)) (cause : Cause) (is_so : IsSo state call cause) where
+module _ (before : Account) (state : Contents) (command : List ℕ) (call : Call) (asks : parsed_command command ≡ Ok (asked.Call call)) (cause : Cause) (is_so : IsSo state call cause) where
   named : (refused : Refusal) → is_of_changes refused ≡ true → explained state call refused ≡ Some cause → refusal_by cause ≡ refused
-      → NamesCause state call refused (first_of (lines_in command)) (cause_of before state command (reply_text (Refused refused))).told
+      → NamesCause state call refused (first_of (lines_in command)) (diagnostic_of before state command (reply_text (Refused refused))).told
   named refusal.TooLarge is told of = record {
     cause = cause;
     of = of;
     is_so = is_so;
-    tells = ap (λ reading. (cause_with before state (lines_in command) reading (reply_text (Refused refusal.TooLarge))).told) asks
+    tells = ap (λ reading. (diagnostic_with before state (lines_in command) reading (reply_text (Refused refusal.TooLarge))).told) asks
         ∙ ap (refusal_lines state (asked.Call call) (first_of (lines_in command)) (reply_text (Refused refusal.TooLarge))) (reason_of_answer refusal.TooLarge tt)
         ∙ ap (λ found. reply_text (Refused refusal.TooLarge) ++ shown_line (first_of (lines_in command)) ++ saying reason.TooLarge ++ (sides_text (Some (call_about call)) (target (asked.Call call)) ++ found_text found) ++ cure_at state (asked.Call call) found reason.TooLarge) told;
   }
@@ -80,22 +80,22 @@ module _ (before : Account) (state : Contents) (command : List ℕ) (call : Call
     cause = cause;
     of = of;
     is_so = is_so;
-    tells = ap (λ reading. (cause_with before state (lines_in command) reading (reply_text (Refused refusal.DoesNotApply))).told) asks
+    tells = ap (λ reading. (diagnostic_with before state (lines_in command) reading (reply_text (Refused refusal.DoesNotApply))).told) asks
         ∙ ap (refusal_lines state (asked.Call call) (first_of (lines_in command)) (reply_text (Refused refusal.DoesNotApply))) (reason_of_answer refusal.DoesNotApply tt)
         ∙ ap (λ found. reply_text (Refused refusal.DoesNotApply) ++ shown_line (first_of (lines_in command)) ++ saying reason.DoesNotApply ++ (sides_text (Some (call_about call)) (target (asked.Call call)) ++ found_text found) ++ cure_at state (asked.Call call) found reason.DoesNotApply) told;
   }
   named other is told of = absurd (true≢false (sym is))
 
-pub causes_told : CausesAreTold
+pub causes_told : CausesAreReported
 causes_told before state command call refused lawful is range asks comes wants =
     let explains = refusals_explained state call refused lawful is range comes wants in
     named before state command call asks explains.cause explains.is_so refused
     (subst (λ r. is_of_changes r ≡ true) explains.of (by_cause explains.cause)) explains.told explains.of
 
-pub refusals_told : RefusalsAreTold
+pub refusals_told : RefusalsAreDescribed
 refusals_told before state command call refused lawful is range are_names asks comes = record {
   ground = have_grounds state call refused lawful is range comes;
   named = is_named state call refused (have_grounds state call refused lawful is range comes);
-  tells = ap (λ reading. (cause_with before state (lines_in command) reading (reply_text (Refused refused))).told) asks
+  tells = ap (λ reading. (diagnostic_with before state (lines_in command) reading (reply_text (Refused refused))).told) asks
       ∙ ap (refusal_lines state (asked.Call call) (first_of (lines_in command)) (reply_text (Refused refused))) (reason_of_answer refused are_names);
 }

@@ -10,12 +10,12 @@ use Rattle.camp_why.specs.Hints.{begins_signed, call_part, first_word}
 -- ---- the lines of a command that was cut off
 
 -- a line of the cut-off command may still come
-abbrev pub awaits_some : Awaited → Bool
-awaits_some Nothing = false
-awaits_some Signed = true
-awaits_some Body = true
-awaits_some Group = true
-awaits_some GroupBody = true
+abbrev pub is_recovering : Awaited → Bool
+is_recovering Nothing = false
+is_recovering Signed = true
+is_recovering Body = true
+is_recovering Group = true
+is_recovering GroupBody = true
 
 -- a line may be one of it
 abbrev pub may_be : Awaited → List ℕ → Bool
@@ -27,12 +27,12 @@ may_be GroupBody line = true
 
 -- the lines that may come after a line: as in a command that is not cut off, a body ends with `end`, and a group with
 -- `done`
-abbrev pub awaited_after : Awaited → List ℕ → Awaited
-awaited_after Nothing line = Nothing
-awaited_after Signed line = Body
-awaited_after Body line = if bytes_eq line (codes "end") then Nothing else Body
-awaited_after GroupBody line = if bytes_eq line (codes "end") then Group else GroupBody
-awaited_after Group line =
+abbrev pub recovery_after : Awaited → List ℕ → Awaited
+recovery_after Nothing line = Nothing
+recovery_after Signed line = Body
+recovery_after Body line = if bytes_eq line (codes "end") then Nothing else Body
+recovery_after GroupBody line = if bytes_eq line (codes "end") then Group else GroupBody
+recovery_after Group line =
     if begins_edit (words_of line) then GroupBody
     else (if begins_with (codes "done") (words_of line) then Nothing else Group)
 
@@ -69,23 +69,23 @@ abbrev pub is_edit : List ℕ → Bool
 is_edit word = is_form (codes "edit") (codes "Edit") (codes "EDIT") word
 
 -- the lines that follow, by the first of some words that says it; else these
-abbrev pub said_in : List (List ℕ) → Awaited → Awaited
-said_in [] other = other
-said_in (word ∷ words) other =
+abbrev pub recovery_in_words : List (List ℕ) → Awaited → Awaited
+recovery_in_words [] other = other
+recovery_in_words (word ∷ words) other =
     if is_short word then Nothing
     else (if is_group word then Group
     else (if is_edit word then Body
-    else said_in words other))
+    else recovery_in_words words other))
 
 -- the lines that follow a record, by the rest of its line after the branch: by the words after the name, if its
 -- change is one of them; else by the word in the place of the name, which may have been left out; else a line with a
 -- sign, followed by a body
-abbrev pub left_behind : List ℕ → Awaited
-left_behind line = said_in (words_of (behind_word line)) (said_in (words_of line) Signed)
+abbrev pub recovery_after_branch : List ℕ → Awaited
+recovery_after_branch line = recovery_in_words (words_of (behind_word line)) (recovery_in_words (words_of line) Signed)
 
 -- the lines that follow a line that is cut off from them, if it is a record, or may be a misspelt one
-abbrev pub left_by : List ℕ → Awaited
-left_by line = left_behind (behind_word (behind_word (call_part line)))
+abbrev pub recovery_of_line : List ℕ → Awaited
+recovery_of_line line = recovery_after_branch (behind_word (behind_word (call_part line)))
 
 -- ---- the diagnostic and the recovery state
 
@@ -96,8 +96,8 @@ pub record Account : Type 0 where
   pub awaited : Awaited
 
 -- the state before any fault or refusal
-abbrev pub no_account : Account
-no_account = record { told = []; awaited = Nothing }
+abbrev pub no_diagnostic : Account
+no_diagnostic = record { told = []; awaited = Nothing }
 
 -- the same lines; none of its command may come
 abbrev pub closed : Account → Account
@@ -105,12 +105,12 @@ closed account = record { told = account.told; awaited = Nothing }
 
 -- the same lines, after one of its command came
 abbrev pub passed : Account → List ℕ → Account
-passed account line = record { told = account.told; awaited = awaited_after account.awaited line }
+passed account line = record { told = account.told; awaited = recovery_after account.awaited line }
 
 -- an answer leaves the state as it is: it is empty, or out of memory
-abbrev pub leaves_place : List ℕ → Bool
-leaves_place answer = length answer == 0 || bytes_eq answer (codes "memory\n")
+abbrev pub leaves_diagnostic : List ℕ → Bool
+leaves_diagnostic answer = length answer == 0 || bytes_eq answer (codes "memory\n")
 
 -- the state after an answer that is neither a fault nor a refusal
-abbrev pub kept_behind : List ℕ → Account → Account
-kept_behind answer account = if leaves_place answer then account else closed account
+abbrev pub diagnostic_after : List ℕ → Account → Account
+diagnostic_after answer account = if leaves_diagnostic answer then account else closed account

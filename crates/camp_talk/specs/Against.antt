@@ -16,15 +16,15 @@ use Rattle.camp_talk.specs.declared.questions.Asked.TheVariants as asked
 use Rattle.camp_talk.specs.declared.questions.Question.{Question}
 use Rattle.camp_talk.specs.declared.questions.Question.TheVariants as question
 use Rattle.camp_talk.specs.declared.questions.Reason.TheVariants as reason
-use Rattle.camp_talk.specs.declared.told_against.Place.{Place}
-use Rattle.camp_talk.specs.declared.told_against.Place.TheVariants.{Branch, From}
+use Rattle.camp_talk.specs.declared.obstacle_reports.Place.{Place}
+use Rattle.camp_talk.specs.declared.obstacle_reports.Place.TheVariants.{Branch, From}
 
 -- ---- the branches and the patches that a command names
 
 -- the word for a branch in the form of a command
-abbrev pub place_word : Place → List ℕ
-place_word From = codes "FROM"
-place_word Branch = codes "BRANCH"
+abbrev pub role_word : Place → List ℕ
+role_word From = codes "FROM"
+role_word Branch = codes "BRANCH"
 
 -- the branch from which a call takes something, or that it is about, and its word
 abbrev pub call_about : Call → Place × List ℕ
@@ -131,7 +131,7 @@ target_text (Some to) = codes ", and TO is " ++ to
 -- text: the branches that a command names as FROM, as BRANCH and as TO
 abbrev pub sides_text : Option (Place × List ℕ) → Option (List ℕ) → List ℕ
 sides_text None to = []
-sides_text (Some place) to = place_word place.0 ++ codes " is " ++ place.1 ++ target_text to ++ codes ".\n"
+sides_text (Some place) to = role_word place.0 ++ codes " is " ++ place.1 ++ target_text to ++ codes ".\n"
 
 -- text: there is no branch of a name
 abbrev pub no_branch_text : List ℕ → List ℕ

@@ -11,12 +11,12 @@ use Rattle.camp_script.specs.Lines.{is_skipped, lines_of, words_of}
 use Rattle.camp_script.specs.Texts.{reply_text}
 use Rattle.camp_script.specs.declared.faults.FaultKind.{FaultKind}
 use Rattle.camp_script.specs.declared.faults.LineFault.{LineFault}
-use Rattle.camp_talk.specs.Accounts.{Account, kept_behind}
-use Rattle.camp_talk.specs.Asking.{asked_by, first_of}
+use Rattle.camp_talk.specs.Accounts.{Account, diagnostic_after}
+use Rattle.camp_talk.specs.Asking.{parsed_command, first_of}
 use Rattle.camp_talk.specs.Cutting.{lines_in}
 use Rattle.camp_talk.specs.Entries.{Entries}
-use Rattle.camp_talk.specs.Told.{TellsQuestion}
-use Rattle.camp_talk.specs.Whys.{cause_of, is_failure, why_told}
+use Rattle.camp_talk.specs.Told.{AnswersQuestion}
+use Rattle.camp_talk.specs.Whys.{diagnostic_of, is_failure, why_answer}
 use Rattle.camp_talk.specs.declared.questions.Asked.{Asked}
 use Rattle.camp_talk.specs.declared.questions.Asked.TheVariants as asked
 
@@ -48,30 +48,30 @@ abbrev pub Tells : Standing → Result Asked LineFault → List ℕ → Entries 
 Tells before (Err fault) text now = (text ≡ fault_text (before.lines + fault.line) fault.kind) × (now ≡ before.history)
 Tells before (Ok asked.Nothing) text now = (text ≡ []) × (now ≡ before.history)
 Tells before (Ok (asked.Call call)) text now = Replies before.history call text now
-Tells before (Ok (asked.Question question)) text now = TellsQuestion before.history question text × (now ≡ before.history)
-Tells before (Ok asked.Why) text now = (text ≡ why_told before.cause.told) × (now ≡ before.history)
+Tells before (Ok (asked.Question question)) text now = AnswersQuestion before.history question text × (now ≡ before.history)
+Tells before (Ok asked.Why) text now = (text ≡ why_answer before.cause.told) × (now ≡ before.history)
 
 -- the diagnostic after an answer: of a fault or a refusal its cause, at the state before the command; after any other
 -- answer the lines from before
-abbrev pub LearnsAt : Bool → Standing → List ℕ → List ℕ → Account → Type 0
-LearnsAt true before command text cause =
-    (state : Contents) × (replay_book repository before.history ≡ Some state) × (cause ≡ cause_of before.cause state command text)
-LearnsAt false before command text cause = cause ≡ kept_behind text before.cause
+abbrev pub UpdatesDiagnosticAt : Bool → Standing → List ℕ → List ℕ → Account → Type 0
+UpdatesDiagnosticAt true before command text cause =
+    (state : Contents) × (replay_book repository before.history ≡ Some state) × (cause ≡ diagnostic_of before.cause state command text)
+UpdatesDiagnosticAt false before command text cause = cause ≡ diagnostic_after text before.cause
 
 -- by the text of the answer
-abbrev pub Learns : Standing → List ℕ → List ℕ → Account → Type 0
-Learns before command text cause = LearnsAt (is_failure text) before command text cause
+abbrev pub UpdatesDiagnostic : Standing → List ℕ → List ℕ → Account → Type 0
+UpdatesDiagnostic before command text cause = UpdatesDiagnosticAt (is_failure text) before command text cause
 
 -- a command asks nothing, by its first line: that is blank, or a comment, or there is none
 abbrev pub is_silent : List ℕ → Bool
 is_silent command = is_skipped (words_of (first_of (lines_in command)))
 
 -- a command that asks something ran out of memory, and this is reported: nothing has changed
-abbrev pub TellsWant : Standing → List ℕ → List ℕ → Entries → Type 0
-TellsWant before command text now = (is_silent command ≡ false) × (text ≡ memory_text) × (now ≡ before.history)
+abbrev pub RunsOutOfMemory : Standing → List ℕ → List ℕ → Entries → Type 0
+RunsOutOfMemory before command text now = (is_silent command ≡ false) × (text ≡ memory_text) × (now ≡ before.history)
 
 -- a command is answered, unless memory ran out; its lines were read; and if it was not done, its diagnostic is kept
 pub record Answers (before : Standing) (command text : List ℕ) (after : Standing) : Type 0 where
-  pub tells : Tells before (asked_by command) text after.history ⊎ TellsWant before command text after.history
+  pub tells : Tells before (parsed_command command) text after.history ⊎ RunsOutOfMemory before command text after.history
   pub counts : after.lines ≡ before.lines + length (lines_of command)
-  pub learns : Learns before command text after.cause
+  pub learns : UpdatesDiagnostic before command text after.cause

@@ -157,13 +157,13 @@ call_in ([] ∷ []) = Ok None
 call_in sections = fault_at 1 UnknownCommand
 
 -- the parsed command of a call, if there is one
-abbrev pub asked_call : Option Call → Asked
-asked_call None = asked.Nothing
-asked_call (Some call) = asked.Call call
+abbrev pub parsed_call : Option Call → Asked
+parsed_call None = asked.Nothing
+parsed_call (Some call) = asked.Call call
 
 -- the parsed command of a script
-abbrev pub asked_in : List (List Call) → Result Asked LineFault
-asked_in script = call_in script >>= λ call. Ok (asked_call call)
+abbrev pub parsed_script : List (List Call) → Result Asked LineFault
+parsed_script script = call_in script >>= λ call. Ok (parsed_call call)
 
 -- the question what a call would do; there must be one
 abbrev pub foreseen_call : Option Call → Result Asked LineFault
@@ -176,7 +176,7 @@ foreseen_in script = call_in script >>= foreseen_call
 
 -- the parsed command if the first word is not `whatif`: a question, or else the call of a script
 abbrev pub question_or_call : Result (List (List Call)) LineFault → Option Question → Result Asked LineFault
-question_or_call script None = script >>= asked_in
+question_or_call script None = script >>= parsed_script
 question_or_call script (Some question) = Ok (asked.Question question)
 
 -- a word asks for the diagnostic of the last fault or refusal; if that is a carriage return at the end of a line, it
@@ -189,17 +189,17 @@ abbrev pub why_of : List (List ℕ) → Result Asked LineFault
 why_of words = no_words 1 words >>= λ none. Ok asked.Why
 
 -- the parsed command, by the words of a first line, and the script of its call
-abbrev pub asked_with : List (List ℕ) → Result (List (List Call)) LineFault → Result Asked LineFault
-asked_with [] script = script >>= asked_in
-asked_with (word ∷ words) script =
+abbrev pub parsed_words : List (List ℕ) → Result (List (List Call)) LineFault → Result Asked LineFault
+parsed_words [] script = script >>= parsed_script
+parsed_words (word ∷ words) script =
     if bytes_eq word (codes "whatif") then (script >>= foreseen_in)
     else (if is_why word then why_of words
     else (question_of word words >>= question_or_call script))
 
 -- the parsed command of these lines, or their fault
-abbrev pub asked_of : List (List ℕ) → Result Asked LineFault
-asked_of lines = asked_with (words_of (first_of lines)) (script_in lines)
+abbrev pub parsed_lines : List (List ℕ) → Result Asked LineFault
+parsed_lines lines = parsed_words (words_of (first_of lines)) (script_in lines)
 
 -- the parsed command of bytes, or their fault
-abbrev pub asked_by : List ℕ → Result Asked LineFault
-asked_by command = asked_of (lines_in command)
+abbrev pub parsed_command : List ℕ → Result Asked LineFault
+parsed_command command = parsed_lines (lines_in command)

@@ -17,6 +17,6 @@ module _ {Place Fault : Type 0} (ComesTo : Place → Result Bool Fault → Place
 
   -- steps were taken, and nothing else was done: Ok, and after the last of them there is no more; or the last had
   -- this fault
-  abbrev pub TakesTurns : Place → Result (Unit {0}) Fault → Place → Type 0
-  TakesTurns first (Ok done) last = EndsIn first (Ok false) last
-  TakesTurns first (Err why) last = EndsIn first (Err why) last
+  abbrev pub TakesSteps : Place → Result (Unit {0}) Fault → Place → Type 0
+  TakesSteps first (Ok done) last = EndsIn first (Ok false) last
+  TakesSteps first (Err why) last = EndsIn first (Err why) last

@@ -1,6 +1,6 @@
 -- Definitions that only private functions use.
 pub mod Framing
-pub mod Hearing
+pub mod ExecutingNext
 pub mod Parts
 pub mod Said
 pub mod Viewing

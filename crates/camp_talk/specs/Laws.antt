@@ -20,18 +20,18 @@ use Rattle.camp_script.specs.Texts.{reply_text}
 use Rattle.camp_script.specs.Words.{count_of}
 use Rattle.camp_script.specs.declared.faults.FaultKind.{FaultKind}
 use Rattle.camp_script.specs.declared.faults.LineFault.{LineFault}
-use Rattle.camp_talk.specs.Accounts.{Account, awaits_some, begins_command, left_by, may_be, passed}
+use Rattle.camp_talk.specs.Accounts.{Account, is_recovering, begins_command, recovery_of_line, may_be, passed}
 use Rattle.camp_talk.specs.Against.{absent_sides, call_about, lack_text, lacked_text, no_branch_text, sides_text, target}
 use Rattle.camp_talk.specs.Answers.{Answers, Standing, memory_text}
-use Rattle.camp_talk.specs.Asking.{asked_by, first_of}
+use Rattle.camp_talk.specs.Asking.{parsed_command, first_of}
 use Rattle.camp_talk.specs.Cutting.{IsLine, lines_in, longest_read}
 use Rattle.camp_talk.specs.Dialogues.{Leads}
 use Rattle.camp_talk.specs.Entries.{Entries}
 use Rattle.camp_talk.specs.Frames.{BeginsNoFrame, Counter, EndsWithin, HasNoFrame, ServesAt, ServesInTurn, most_bytes}
-use Rattle.camp_talk.specs.Loads.{Loads, tells_failure}
+use Rattle.camp_talk.specs.Loads.{Loads, reports_failure}
 use Rattle.camp_talk.specs.Refusals.{reason_of, saying}
 use Rattle.camp_talk.specs.Told.{counted}
-use Rattle.camp_talk.specs.Whys.{awaited_text, cause_found, cause_of, cause_text, cure_at, cut_off, fault_lines, hint_text, is_unknown, line_at, may_record, refusal_told, rule, shown_line, word_text}
+use Rattle.camp_talk.specs.Whys.{recovery_text, cause_found, diagnostic_of, cause_text, cure_at, cut_off, fault_lines, hint_text, is_unknown, line_at, may_record, refusal_report, rule, shown_line, word_text}
 use Rattle.camp_talk.specs.declared.faults.LoadFault.TheVariants.{Answer, Memory, Talk}
 use Rattle.camp_talk.specs.declared.faults.LoadFault.{LoadFault}
 use Rattle.camp_talk.specs.declared.questions.Asked.TheVariants as asked
@@ -44,8 +44,8 @@ use Rattle.camp_why.specs.declared.causes.Cause.{Cause}
 
 -- the first line of a counted text has the word and the number of lines that follow, and these are the lines of the
 -- text
-abbrev pub CountsAreTold : Type 0
-CountsAreTold =
+abbrev pub CountsMatchLines : Type 0
+CountsMatchLines =
     (word text : List ℕ) → All (λ byte. byte ≢ newline) word → length (lines_of text) < 2 ^ 64 →
     lines_of (counted word text) ≡ (word ++ space ∷ decimal (length (lines_of text))) ∷ lines_of text
 
@@ -71,10 +71,10 @@ Failed (Ok asked.Why) text = ⊥
 Failed (Ok (asked.Question question)) text = (refusal : Refusal) × (text ≡ reply_text (Refused refusal))
 
 -- an answer is a failure exactly if its command has a fault, it is a refusal, or memory ran out
-abbrev pub FailuresAreTold : Type 0
-FailuresAreTold =
+abbrev pub FailuresAreReported : Type 0
+FailuresAreReported =
     (before : Standing) (command text : List ℕ) (after : Standing) → Answers before command text after →
-    (tells_failure text ≡ true) ↔ (Failed (asked_by command) text ⊎ (text ≡ memory_text))
+    (reports_failure text ≡ true) ↔ (Failed (parsed_command command) text ⊎ (text ≡ memory_text))
 
 -- no line of the text of a call is longer than a conversation reads
 abbrev pub IsReadWhole : Call → Type 0
@@ -86,19 +86,19 @@ at_seat_0 history = record { first = history.first; calls = map (λ call. (0, ca
 
 -- the result of loading the text that stores a history into a repository that begins as it does: Ok, and its calls and its state are there; or memory or the
 -- reader ended it, and its first calls are there; and no command is reported as not done
-abbrev pub ComesBack : Entries → Contents → Result (Unit {0}) LoadFault → Entries → Type 0
-ComesBack history state (Ok done) now = (now ≡ at_seat_0 history) × (replay_book repository now ≡ Some state)
-ComesBack history state (Err (Answer line text)) now = ⊥
-ComesBack history state (Err (Memory line)) now = IsEarlier now (at_seat_0 history)
-ComesBack history state (Err (Talk why)) now = IsEarlier now (at_seat_0 history)
+abbrev pub RestoresHistory : Entries → Contents → Result (Unit {0}) LoadFault → Entries → Type 0
+RestoresHistory history state (Ok done) now = (now ≡ at_seat_0 history) × (replay_book repository now ≡ Some state)
+RestoresHistory history state (Err (Answer line text)) now = ⊥
+RestoresHistory history state (Err (Memory line)) now = IsEarlier now (at_seat_0 history)
+RestoresHistory history state (Err (Talk why)) now = IsEarlier now (at_seat_0 history)
 
 -- this holds of each history that leads to a state, however long, if a script can contain each of its calls
-abbrev pub KeptIsLoaded : Type 0
-KeptIsLoaded =
+abbrev pub KeepRestoresHistory : Type 0
+KeepRestoresHistory =
     (history : Entries) (state : Contents) → replay_book repository history ≡ Some state →
     AllByRecursion IsScriptCall (calls_of history.calls) → AllByRecursion IsReadWhole (calls_of history.calls) →
     (rest : Option (List ℕ)) (result : Result (Unit {0}) LoadFault) (now : Entries) →
-    Loads (Some (kept_text history.calls)) rest (new_book history.first) result now → ComesBack history state result now
+    Loads (Some (kept_text history.calls)) rest (new_book history.first) result now → RestoresHistory history state result now
 
 -- lines after a refusal of a call, which begin with this line, give a cause: it is one of that refusal, what it says
 -- of the call and the state is true, and it comes after the branches that the call names, between the meaning of the
@@ -112,11 +112,11 @@ pub record NamesCause (state : Contents) (call : Call) (refusal : Refusal) (line
       ++ cure_at state (asked.Call call) (Some cause) (reason_of refusal)
 
 -- if a command asks a call that a state refuses because of a limit or its changes, the lines after it give a cause
-abbrev pub CausesAreTold : Type 0
-CausesAreTold =
+abbrev pub CausesAreReported : Type 0
+CausesAreReported =
     (before : Account) (state : Contents) (command : List ℕ) (call : Call) (refusal : Refusal) → IsLawfulState state → IsCall call →
-    IsInRange call → asked_by command ≡ Ok (asked.Call call) → step state call ≡ refused refusal →
-    wants_cause call refusal ≡ true → NamesCause state call refusal (first_of (lines_in command)) (cause_of before state command (reply_text (Refused refusal))).told
+    IsInRange call → parsed_command command ≡ Ok (asked.Call call) → step state call ≡ refused refusal →
+    wants_cause call refusal ≡ true → NamesCause state call refusal (first_of (lines_in command)) (diagnostic_of before state command (reply_text (Refused refusal))).told
 
 -- the names in a refusal
 abbrev pub names_in : Refusal → List (List ℕ)
@@ -133,38 +133,38 @@ names_in (refusal.NoMerge left right) = left ∷ right ∷ []
 names_in (refusal.SameBranch branch) = branch ∷ []
 
 -- the report on a refusal is about the name in it: that there is no such branch, or that a branch lacks this patch
-abbrev pub TellsName : Contents → Call → Refusal → Type 0
-TellsName state call (refusal.NoBranch name) =
+abbrev pub ReportsName : Contents → Call → Refusal → Type 0
+ReportsName state call (refusal.NoBranch name) =
     (front : List ℕ) × (back : List ℕ)
     × (absent_sides state (Some (call_about call)) (target (asked.Call call)) ≡ front ++ no_branch_text name ++ back)
-TellsName state call (refusal.NoPatch name) =
+ReportsName state call (refusal.NoPatch name) =
     lacked_text state (asked.Call call) (Some (call_about call)) ≡ lack_text state (call_about call).1 (Some name)
-TellsName state call other = Unit {0}
+ReportsName state call other = Unit {0}
 
 -- lines after a refusal of a call, which begin with this line, describe it: what it says is true, and the lines are
 -- its answer, that line, the meaning of its number, the branches that the call names, what exists and what does not,
 -- and the hint
-pub record TellsRefusal (state : Contents) (call : Call) (refusal : Refusal) (line lines : List ℕ) : Type 0 where
+pub record DescribesRefusal (state : Contents) (call : Call) (refusal : Refusal) (line lines : List ℕ) : Type 0 where
   pub ground : IsGround state call refusal
-  pub named : TellsName state call refusal
-  pub tells : lines ≡ refusal_told state (asked.Call call) line (reply_text (Refused refusal))
+  pub named : ReportsName state call refusal
+  pub tells : lines ≡ refusal_report state (asked.Call call) line (reply_text (Refused refusal))
       (cause_found state (asked.Call call) (reason_of refusal)) (reason_of refusal)
 
 -- if a command asks a call that a state refuses, the lines after it describe the refusal
-abbrev pub RefusalsAreTold : Type 0
-RefusalsAreTold =
+abbrev pub RefusalsAreDescribed : Type 0
+RefusalsAreDescribed =
     (before : Account) (state : Contents) (command : List ℕ) (call : Call) (refusal : Refusal) → IsLawfulState state → IsCall call →
-    IsInRange call → AreNames (names_in refusal) → asked_by command ≡ Ok (asked.Call call) → step state call ≡ refused refusal →
-    TellsRefusal state call refusal (first_of (lines_in command)) (cause_of before state command (reply_text (Refused refusal))).told
+    IsInRange call → AreNames (names_in refusal) → parsed_command command ≡ Ok (asked.Call call) → step state call ≡ refused refusal →
+    DescribesRefusal state call refusal (first_of (lines_in command)) (diagnostic_of before state command (reply_text (Refused refusal))).told
 
 -- lines after a command with a fault describe it: its answer, the line that has the fault, as much of it as is shown,
 -- which word is not a name, the hint on the line, the rule, and which lines after it are taken for its own
-pub record TellsFault (fault : LineFault) (command answer lines : List ℕ) : Type 0 where
+pub record DescribesFault (fault : LineFault) (command answer lines : List ℕ) : Type 0 where
   pub line : List ℕ
   pub is : line ≡ line_at fault.line (lines_in command)
   pub tells : lines ≡ answer ++ shown_line line ++ word_text fault.kind line
       ++ hint_text (hint fault.kind line) ++ rule fault.kind
-      ++ awaited_text (cut_off fault.line fault.kind (first_of (lines_in command)))
+      ++ recovery_text (cut_off fault.line fault.kind (first_of (lines_in command)))
 
 -- a command with a fault is taken for a line of the one before it: it may be one, and begins no command
 abbrev pub IsLineOf : Account → FaultKind → List ℕ → Type 0
@@ -178,33 +178,33 @@ IsOfItsOwn before kind line =
 
 -- if a command has a fault of its own, the lines after it describe it; if it is taken for a line of the one before
 -- it, the diagnostic of that one stays, and only the lines that may come change
-pub record FaultsAreTold : Type 0 where
-  pub own : (before : Account) (state : Contents) (command answer : List ℕ) (fault : LineFault) → asked_by command ≡ Err fault →
+pub record FaultsAreDescribed : Type 0 where
+  pub own : (before : Account) (state : Contents) (command answer : List ℕ) (fault : LineFault) → parsed_command command ≡ Err fault →
       IsOfItsOwn before fault.kind (first_of (lines_in command)) →
-      TellsFault fault command answer (cause_of before state command answer).told
-  pub line : (before : Account) (state : Contents) (command answer : List ℕ) (fault : LineFault) → asked_by command ≡ Err fault →
+      DescribesFault fault command answer (diagnostic_of before state command answer).told
+  pub line : (before : Account) (state : Contents) (command answer : List ℕ) (fault : LineFault) → parsed_command command ≡ Err fault →
       IsLineOf before fault.kind (first_of (lines_in command)) →
-      cause_of before state command answer ≡ passed before (first_of (lines_in command))
+      diagnostic_of before state command answer ≡ passed before (first_of (lines_in command))
 
 -- the diagnostic of a command is that of a record that was cut off: the command has a fault in its first line, which
 -- is one of a record, or may be; the lines describe it; and those may come that follow such a line
 pub record IsCutOff (command answer : List ℕ) (now : Account) : Type 0 where
   pub fault : LineFault
-  pub asks : asked_by command ≡ Err fault
+  pub asks : parsed_command command ≡ Err fault
   pub first : fault.line ≡ 1
   pub is : may_record fault.kind (first_of (lines_in command)) ≡ true
   pub tells : now.told ≡ fault_lines fault.kind (first_of (lines_in command)) answer now.awaited
-  pub awaits : now.awaited ≡ left_by (first_of (lines_in command))
+  pub awaits : now.awaited ≡ recovery_of_line (first_of (lines_in command))
 
 -- the diagnostic from before waits for a line, and the command is taken for it: the report is the same
 pub record IsNextLine (before : Account) (command : List ℕ) (now : Account) : Type 0 where
   pub fault : LineFault
-  pub asks : asked_by command ≡ Err fault
+  pub asks : parsed_command command ≡ Err fault
   pub taken : IsLineOf before fault.kind (first_of (lines_in command))
   pub is : now ≡ passed before (first_of (lines_in command))
 
 -- only then does the diagnostic of a command that is not done wait for lines
-abbrev pub RecordsAreAwaited : Type 0
-RecordsAreAwaited =
-    (before : Account) (state : Contents) (command answer : List ℕ) → awaits_some (cause_of before state command answer).awaited ≡ true →
-    IsCutOff command answer (cause_of before state command answer) ⊎ IsNextLine before command (cause_of before state command answer)
+abbrev pub RecoveryFollowsCutOff : Type 0
+RecoveryFollowsCutOff =
+    (before : Account) (state : Contents) (command answer : List ℕ) → is_recovering (diagnostic_of before state command answer).awaited ≡ true →
+    IsCutOff command answer (diagnostic_of before state command answer) ⊎ IsNextLine before command (diagnostic_of before state command answer)

@@ -2,9 +2,9 @@
 use Rattle.std.specs.Prelude.{◌≡◌, ℕ, ◌+◌, Bool, true, false, ◌||◌, List, Option, Result, Ok, Err, codes}
 use Rattle.std.specs.List.{All, flat_map}
 use Rattle.std.specs.Io.KnownBytes.{Consumes}
-use Rattle.camp_talk.specs.Accounts.{no_account}
+use Rattle.camp_talk.specs.Accounts.{no_diagnostic}
 use Rattle.camp_talk.specs.Answers.{Answers, Standing, Tells, is_silent, memory_text}
-use Rattle.camp_talk.specs.Asking.{asked_by}
+use Rattle.camp_talk.specs.Asking.{parsed_command}
 use Rattle.camp_talk.specs.Entries.{Entries}
 use Rattle.camp_talk.specs.Talks.{Exchange, Follow, ReadsCommand, ReadsNone}
 use Rattle.camp_talk.specs.declared.faults.LoadFault.{LoadFault}
@@ -12,12 +12,12 @@ use Rattle.camp_talk.specs.declared.faults.LoadFault.TheVariants.{Answer, Memory
 use Rattle.camp_why.specs.Hints.{begins}
 
 -- an answer says that its command was not done: it is a fault, a refusal or out of memory
-abbrev pub tells_failure : List ℕ → Bool
-tells_failure answer = begins (codes "fault ") answer || begins (codes "refused ") answer || begins memory_text answer
+abbrev pub reports_failure : List ℕ → Bool
+reports_failure answer = begins (codes "fault ") answer || begins (codes "refused ") answer || begins memory_text answer
 
 -- an answer says that its command was done, or that nothing was asked
-abbrev pub TellsSuccess : List ℕ → Type 0
-TellsSuccess answer = tells_failure answer ≡ false
+abbrev pub ReportsSuccess : List ℕ → Type 0
+ReportsSuccess answer = reports_failure answer ≡ false
 
 -- by the content of a reader, before and after
 module _ (remaining rest : Option (List ℕ)) where
@@ -25,7 +25,7 @@ module _ (remaining rest : Option (List ℕ)) where
   pub record Done (first last : Standing) : Type 0 where
     pub said : List Exchange
     pub follow : Follow first said last
-    pub well : All (λ exchange. TellsSuccess exchange.answer) said
+    pub well : All (λ exchange. ReportsSuccess exchange.answer) said
     pub reads : Consumes remaining rest (flat_map (λ exchange. exchange.command) said)
 
   -- the input has ended, and the last command, as far as it goes, was done
@@ -34,7 +34,7 @@ module _ (remaining rest : Option (List ℕ)) where
     pub reads : ReadsCommand remaining rest false said.command
     pub after : Standing
     pub answers : Answers before said.command said.answer after
-    pub well : TellsSuccess said.answer
+    pub well : ReportsSuccess said.answer
     pub same : now ≡ after.history
 
   -- the command that begins at this line was read, and this is its answer: it was not done, and nothing has changed
@@ -42,8 +42,8 @@ module _ (remaining rest : Option (List ℕ)) where
     pub whole : Bool
     pub command : List ℕ
     pub reads : ReadsCommand remaining rest whole command
-    pub tells : Tells before (asked_by command) answer now
-    pub failure : tells_failure answer ≡ true
+    pub tells : Tells before (parsed_command command) answer now
+    pub failure : reports_failure answer ≡ true
     pub at : line ≡ before.lines + 1
     pub same : now ≡ before.history
 
@@ -70,5 +70,5 @@ pub record Loads (remaining rest : Option (List ℕ)) (history : Entries) (resul
     : Type 0 where
   pub left : Option (List ℕ)
   pub middle : Standing
-  pub done : Done remaining left (record { history = history; lines = 0; cause = no_account }) middle
+  pub done : Done remaining left (record { history = history; lines = 0; cause = no_diagnostic }) middle
   pub ends : Ends left rest middle result now

@@ -1,7 +1,7 @@
 -- The answer to a request: its bytes are a conversation of their own.
 use Rattle.std.specs.Prelude.{◌≡◌, ◌⊎◌, ℕ, List, [], ◌++◌}
 use Rattle.std.specs.List.{flat_map}
-use Rattle.camp_talk.specs.Accounts.{no_account}
+use Rattle.camp_talk.specs.Accounts.{no_diagnostic}
 use Rattle.camp_talk.specs.Answers.{Answers, Standing}
 use Rattle.camp_talk.specs.Cutting.{IsCommand, IsLeft}
 use Rattle.camp_talk.specs.Entries.{Entries}
@@ -14,7 +14,7 @@ pub record AnswersRequest (history : Entries) (request answer : List ℕ) (now :
   pub last : Exchange
   pub middle : Standing
   pub after : Standing
-  pub follow : Follow (record { history = history; lines = 0; cause = no_account }) said middle
+  pub follow : Follow (record { history = history; lines = 0; cause = no_diagnostic }) said middle
   pub is : IsLeft last.command
   pub answers : Answers middle last.command last.answer after
   pub same : now ≡ after.history
@@ -37,7 +37,7 @@ pub record AsksOneMore (middle : Standing) (rest front : List ℕ) (now : Entrie
 pub record AnswersSome (history : Entries) (request answer : List ℕ) (now : Entries) : Type 0 where
   pub said : List Exchange
   pub middle : Standing
-  pub follow : Follow (record { history = history; lines = 0; cause = no_account }) said middle
+  pub follow : Follow (record { history = history; lines = 0; cause = no_diagnostic }) said middle
   pub rest : List ℕ
   pub asks : request ≡ flat_map (λ exchange. exchange.command) said ++ rest
   pub front : List ℕ

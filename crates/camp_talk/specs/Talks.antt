@@ -15,7 +15,7 @@ pub record Exchange : Type 0 where
   pub answer : List ℕ
 
 -- a count of 64 bits has grown
-pub record HasRisen (old new : ℕ) : Type 0 where
+pub record HasGrown (old new : ℕ) : Type 0 where
   pub rises : old < new
   pub counted : old < 2 ^ 64
 
@@ -98,7 +98,7 @@ pub record Holds (remaining rest old new : Option (List ℕ)) (first last : Stan
   pub writes : Appends old new (flat_map (λ exchange. exchange.answer) said)
 
 -- commands were answered one after the other, followed by a step with this result
-pub record EndsSo (remaining rest old new : Option (List ℕ)) (first : Standing) (turn : Result Bool TalkFault)
+pub record EndsWithStep (remaining rest old new : Option (List ℕ)) (first : Standing) (turn : Result Bool TalkFault)
     (history : Entries) : Type 0 where
   -- the rest of the reader, the content of the writer, and the session state before that step
   pub left : Option (List ℕ)

@@ -55,35 +55,35 @@ told text_of (Ok answer) = text_of answer
 told text_of (Err refusal) = reply_text (Refused refusal)
 
 -- this text reports the result of a question
-pub record IsTold {A : Type 0} (text_of : A → List ℕ) (ComesTo : AnswerOf A → Type 0) (text : List ℕ) : Type 0 where
+pub record RendersAnswer {A : Type 0} (text_of : A → List ℕ) (ComesTo : AnswerOf A → Type 0) (text : List ℕ) : Type 0 where
   pub answer : AnswerOf A
   pub comes : ComesTo answer
   pub tells : text ≡ told text_of answer
 
 -- names after the word of a command, each on a line
-abbrev pub names_told : List ℕ → List (List ℕ) → List ℕ
-names_told word names = counted word (flat_map name_text names)
+abbrev pub names_answer : List ℕ → List (List ℕ) → List ℕ
+names_answer word names = counted word (flat_map name_text names)
 
 -- text: there is no such file
-abbrev pub no_file_told : List ℕ
-no_file_told = codes "no file\n"
+abbrev pub no_file_answer : List ℕ
+no_file_answer = codes "no file\n"
 
 -- the lines of a file, or that there is none
-abbrev pub file_told : Option Lines → List ℕ
-file_told None = no_file_told
-file_told (Some lines) = counted (codes "file") (flat_map (signed_line equals_sign) lines)
+abbrev pub file_answer : Option Lines → List ℕ
+file_answer None = no_file_answer
+file_answer (Some lines) = counted (codes "file") (flat_map (signed_line equals_sign) lines)
 
 -- pairs of patches after a word
-abbrev pub pairs_told : List ℕ → List (List ℕ × List ℕ) → List ℕ
-pairs_told word pairs = counted word (flat_map pair_text pairs)
+abbrev pub pairs_answer : List ℕ → List (List ℕ × List ℕ) → List ℕ
+pairs_answer word pairs = counted word (flat_map pair_text pairs)
 
 -- pairs of patches in an unresolved conflict
-abbrev pub open_told : List (List ℕ × List ℕ) → List ℕ
-open_told pairs = pairs_told (codes "open") pairs
+abbrev pub open_answer : List (List ℕ × List ℕ) → List ℕ
+open_answer pairs = pairs_answer (codes "open") pairs
 
 -- the changes of a side, in the form of a group of a script
-abbrev pub side_told : List Primitive → List ℕ
-side_told changes = counted (codes "side") (flat_map change_text changes)
+abbrev pub side_answer : List Primitive → List ℕ
+side_answer changes = counted (codes "side") (flat_map change_text changes)
 
 -- a side of a hunk: `side`, the name of its patch and the number of its lines, followed by each after `+`
 abbrev pub side_text : Version → List ℕ
@@ -93,8 +93,8 @@ side_text side =
 
 -- the context lines of a hunk, each after `=`; `conflict`, the number of its sides and of its lines; these, each
 -- after `=`; and the sides
-abbrev pub place_text : Place → List ℕ
-place_text place =
+abbrev pub conflict_hunk_text : Place → List ℕ
+conflict_hunk_text place =
     flat_map (signed_line equals_sign) place.before
     ++ line_text (codes "conflict" ∷ decimal (length place.sides) ∷ decimal (length place.lines) ∷ [])
     ++ flat_map (signed_line equals_sign) place.lines
@@ -102,85 +102,85 @@ place_text place =
 
 -- a file with its hunks
 abbrev pub marked_lines : MarkedFile → List ℕ
-marked_lines file = flat_map place_text file.places ++ flat_map (signed_line equals_sign) file.rest
+marked_lines file = flat_map conflict_hunk_text file.places ++ flat_map (signed_line equals_sign) file.rest
 
 -- a file with the unresolved sides of its conflicts, or that there is no file
-abbrev pub marks_told : Marked → List ℕ
-marks_told marked.NoFile = no_file_told
-marks_told (marked.File file) =
+abbrev pub marks_answer : Marked → List ℕ
+marks_answer marked.NoFile = no_file_answer
+marks_answer (marked.File file) =
     counted (codes "marks") (marked_lines file)
 
 -- a graph in DOT
-abbrev pub graph_told : Picture → List ℕ
-graph_told picture = counted (codes "graph") (graph_text picture)
+abbrev pub graph_answer : Picture → List ℕ
+graph_answer picture = counted (codes "graph") (graph_text picture)
 
 -- NAME =LINE: a line of a file after the name of the patch that added it
 abbrev pub annotated_line : List ℕ × List ℕ → List ℕ
 annotated_line pair = pair.1 ++ space ∷ signed_line equals_sign pair.0
 
 -- the lines of a file with their names, or that there is no file
-abbrev pub annotated_told : Annotated → List ℕ
-annotated_told (File lines names) = counted (codes "annotate") (flat_map annotated_line (zip lines names))
-annotated_told NoFile = no_file_told
+abbrev pub annotated_answer : Annotated → List ℕ
+annotated_answer (File lines names) = counted (codes "annotate") (flat_map annotated_line (zip lines names))
+annotated_answer NoFile = no_file_answer
 
 -- a catch in the notation of patches, on a line: each of its primitives as a whole
 abbrev pub catch_line : Catch → List ℕ
 catch_line catch = catch_text [] catch ++ newline ∷ []
 
 -- a patch: its catches, followed by its changes, in the form of a group of a script
-abbrev pub patch_told : Patch → List ℕ
-patch_told patch = counted (codes "show") (flat_map catch_line patch.catches ++ flat_map change_text patch.changes)
+abbrev pub patch_answer : Patch → List ℕ
+patch_answer patch = counted (codes "show") (flat_map catch_line patch.catches ++ flat_map change_text patch.changes)
 
 -- the conflicts that would become unresolved, and those that would be resolved
-abbrev pub changes_told : Standing → List ℕ
-changes_told standing =
-    pairs_told (codes "opened") standing.opened ++ pairs_told (codes "resolved") standing.resolved
+abbrev pub changes_answer : Standing → List ℕ
+changes_answer standing =
+    pairs_answer (codes "opened") standing.opened ++ pairs_answer (codes "resolved") standing.resolved
 
 -- the state of a branch: its conflicts, as the question for them is answered; what is changed about unresolved ones;
 -- and its tree, as the question for it is answered
 abbrev pub standing_text : Option Standing → List ℕ
 standing_text None = []
-standing_text (Some standing) = conflicts_text standing.conflicts ++ changes_told standing ++ tree_text standing.tree
+standing_text (Some standing) = conflicts_text standing.conflicts ++ changes_answer standing ++ tree_text standing.tree
 
 -- the reply that a call would get, and the state of the branch that it would write to
-abbrev pub foreseen_told : Foreseen → List ℕ
-foreseen_told seen = counted (codes "whatif") (reply_text seen.reply ++ standing_text seen.changed)
+abbrev pub foreseen_answer : Foreseen → List ℕ
+foreseen_answer seen = counted (codes "whatif") (reply_text seen.reply ++ standing_text seen.changed)
 
 -- a script that restores a history
-abbrev pub kept_told : List (ℕ × Call) → List ℕ
-kept_told history = counted (codes "keep") (kept_text history)
+abbrev pub keep_answer : List (ℕ × Call) → List ℕ
+keep_answer history = counted (codes "keep") (kept_text history)
 
 -- the forms of commands, or the meanings of refusals
-abbrev pub help_told : Topic → List ℕ
-help_told topic = counted (codes "help") (help_text topic)
+abbrev pub help_answer : Topic → List ℕ
+help_answer topic = counted (codes "help") (help_text topic)
 
 -- the answer to each question, at the state after a history
-abbrev pub TellsAt : List (ℕ × Call) → Contents → Question → List ℕ → Type 0
-TellsAt history state (question.Needs branch names) text =
-    IsTold (names_told (codes "needs")) (AreNeeded state branch names) text
-TellsAt history state (question.Held branch names) text =
-    IsTold (names_told (codes "held")) (AreHeldBy state branch names) text
-TellsAt history state (question.Missing from to) text =
-    IsTold (names_told (codes "missing")) (IsMissing state from to) text
-TellsAt history state (question.Show branch name) text = IsTold patch_told (IsShown state branch name) text
-TellsAt history state (question.Annotate branch path) text =
-    IsTold annotated_told (AreAnnotated state branch path) text
-TellsAt history state (question.Along from to names) text =
-    IsTold (names_told (codes "along")) (AreAlong state from to names) text
-TellsAt history state (question.Open branch) text = IsTold open_told (AreOpen state branch) text
-TellsAt history state (question.Side branch name) text = IsTold side_told (IsSide state branch name) text
-TellsAt history state (question.Marks branch path) text = IsTold marks_told (AreMarked state branch path) text
-TellsAt history state (question.File branch path) text = IsTold file_told (IsFile state branch path) text
-TellsAt history state question.Branches text =
-    text ≡ names_told (codes "branches") (branch_names state)
-TellsAt history state (question.Graph branch names) text = IsTold graph_told (IsPictured state branch names) text
-TellsAt history state (question.WhatIf call) text =
-    (seen : Foreseen) × Foresees state call seen × (text ≡ foreseen_told seen)
-TellsAt history state question.History text = text ≡ history_text history
-TellsAt history state question.Keep text = text ≡ kept_told history
-TellsAt history state (question.Help topic) text = text ≡ help_told topic
+abbrev pub AnswersQuestionAt : List (ℕ × Call) → Contents → Question → List ℕ → Type 0
+AnswersQuestionAt history state (question.Needs branch names) text =
+    RendersAnswer (names_answer (codes "needs")) (AreNeeded state branch names) text
+AnswersQuestionAt history state (question.Held branch names) text =
+    RendersAnswer (names_answer (codes "held")) (AreHeldBy state branch names) text
+AnswersQuestionAt history state (question.Missing from to) text =
+    RendersAnswer (names_answer (codes "missing")) (IsMissing state from to) text
+AnswersQuestionAt history state (question.Show branch name) text = RendersAnswer patch_answer (IsShown state branch name) text
+AnswersQuestionAt history state (question.Annotate branch path) text =
+    RendersAnswer annotated_answer (AreAnnotated state branch path) text
+AnswersQuestionAt history state (question.Along from to names) text =
+    RendersAnswer (names_answer (codes "along")) (AreAlong state from to names) text
+AnswersQuestionAt history state (question.Open branch) text = RendersAnswer open_answer (AreOpen state branch) text
+AnswersQuestionAt history state (question.Side branch name) text = RendersAnswer side_answer (IsSide state branch name) text
+AnswersQuestionAt history state (question.Marks branch path) text = RendersAnswer marks_answer (AreMarked state branch path) text
+AnswersQuestionAt history state (question.File branch path) text = RendersAnswer file_answer (IsFile state branch path) text
+AnswersQuestionAt history state question.Branches text =
+    text ≡ names_answer (codes "branches") (branch_names state)
+AnswersQuestionAt history state (question.Graph branch names) text = RendersAnswer graph_answer (IsPictured state branch names) text
+AnswersQuestionAt history state (question.WhatIf call) text =
+    (seen : Foreseen) × Foresees state call seen × (text ≡ foreseen_answer seen)
+AnswersQuestionAt history state question.History text = text ≡ history_text history
+AnswersQuestionAt history state question.Keep text = text ≡ keep_answer history
+AnswersQuestionAt history state (question.Help topic) text = text ≡ help_answer topic
 
 -- the answer to a question after a history
-abbrev pub TellsQuestion : Entries → Question → List ℕ → Type 0
-TellsQuestion history question text =
-    (state : Contents) × (replay_book repository history ≡ Some state) × TellsAt history.calls state question text
+abbrev pub AnswersQuestion : Entries → Question → List ℕ → Type 0
+AnswersQuestion history question text =
+    (state : Contents) × (replay_book repository history ≡ Some state) × AnswersQuestionAt history.calls state question text

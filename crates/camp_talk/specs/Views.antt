@@ -11,10 +11,10 @@ use Rattle.camp_script.specs.Lines.{lines_of}
 use Rattle.camp_script.specs.Texts.{reply_text}
 use Rattle.camp_script.specs.declared.faults.LineFault.{LineFault}
 use Rattle.camp_talk.specs.Answers.{fault_text}
-use Rattle.camp_talk.specs.Asking.{asked_by}
+use Rattle.camp_talk.specs.Asking.{parsed_command}
 use Rattle.camp_talk.specs.Cutting.{IsCommand, IsLeft}
 use Rattle.camp_talk.specs.Talks.{Exchange}
-use Rattle.camp_talk.specs.Told.{TellsAt}
+use Rattle.camp_talk.specs.Told.{AnswersQuestionAt}
 use Rattle.camp_talk.specs.declared.questions.Asked.{Asked}
 use Rattle.camp_talk.specs.declared.questions.Asked.TheVariants as asked
 use Rattle.camp_talk.specs.declared.questions.Question.{Question}
@@ -43,16 +43,16 @@ shown_reply state call = reply_text (reply_of (step state call))
 
 -- the answer of a state to a parsed command: nothing, if it asks nothing; to a call its reply; to a question its
 -- answer, for which no history is needed; to another command there is none
-abbrev pub ShowsAsked : Contents → Asked → List ℕ → Type 0
-ShowsAsked state asked.Nothing text = text ≡ []
-ShowsAsked state (asked.Call call) text = text ≡ shown_reply state call
-ShowsAsked state (asked.Question question) text = TellsAt [] state question text
-ShowsAsked state asked.Why text = ⊥
+abbrev pub ShowsParsed : Contents → Asked → List ℕ → Type 0
+ShowsParsed state asked.Nothing text = text ≡ []
+ShowsParsed state (asked.Call call) text = text ≡ shown_reply state call
+ShowsParsed state (asked.Question question) text = AnswersQuestionAt [] state question text
+ShowsParsed state asked.Why text = ⊥
 
 -- the parsed command of a line asks for more than a state has, or not
 abbrev pub ShowsAt : Bool → Contents → ℕ → Asked → List ℕ → Type 0
 ShowsAt true state line asked text = text ≡ beyond_text line
-ShowsAt false state line asked text = ShowsAsked state asked text
+ShowsAt false state line asked text = ShowsParsed state asked text
 
 -- the answer to a parsed command: a fault, by its line, counted from the start of the request; a fault of its own, if
 -- it asks for more than a state has; else the answer of a conversation at this state
@@ -62,7 +62,7 @@ Shows state before (Ok asked) text = ShowsAt (is_beyond asked) state (before + 1
 
 -- a command is answered, given the number of lines before it; then its own are counted too
 pub record Sees (state : Contents) (before : ℕ) (said : Exchange) (after : ℕ) : Type 0 where
-  pub shows : Shows state before (asked_by said.command) said.answer
+  pub shows : Shows state before (parsed_command said.command) said.answer
   pub counts : after ≡ before + length (lines_of said.command)
 
 -- commands are answered one after the other, each at the same state

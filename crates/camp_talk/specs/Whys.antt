@@ -9,9 +9,9 @@ use Rattle.camp_script.specs.Lines.{lines_of, words_of}
 use Rattle.camp_script.specs.declared.faults.FaultKind.{FaultKind}
 use Rattle.camp_script.specs.declared.faults.FaultKind.TheVariants as kind
 use Rattle.camp_script.specs.declared.faults.LineFault.{LineFault}
-use Rattle.camp_talk.specs.Accounts.{Account, begins_command, is_record, left_by, may_be, passed}
+use Rattle.camp_talk.specs.Accounts.{Account, begins_command, is_record, recovery_of_line, may_be, passed}
 use Rattle.camp_talk.specs.Against.{about, absent_sides, branches_line, depends_cure, lacked_text, new_text, nothing_text, record_cure, recorded_text, sides_text, target}
-use Rattle.camp_talk.specs.Asking.{asked_by, first_of, reason_at}
+use Rattle.camp_talk.specs.Asking.{parsed_command, first_of, reason_at}
 use Rattle.camp_talk.specs.Cutting.{lines_in}
 use Rattle.camp_talk.specs.Pages.{page}
 use Rattle.camp_talk.specs.Refusals.{cure, saying}
@@ -39,13 +39,13 @@ abbrev pub is_failure : List ℕ → Bool
 is_failure answer = begins (codes "fault ") answer || begins (codes "refused ") answer
 
 -- the report on a diagnostic; if there is none, that there was no failure
-abbrev pub cause_told : List ℕ → List ℕ
-cause_told [] = page (codes "No command had a fault or was refused here." ∷ [])
-cause_told (byte ∷ bytes) = byte ∷ bytes
+abbrev pub report_or_none : List ℕ → List ℕ
+report_or_none [] = page (codes "No command had a fault or was refused here." ∷ [])
+report_or_none (byte ∷ bytes) = byte ∷ bytes
 
 -- the same, after `why` and the number of its lines
-abbrev pub why_told : List ℕ → List ℕ
-why_told cause = counted (codes "why") (cause_told cause)
+abbrev pub why_answer : List ℕ → List ℕ
+why_answer cause = counted (codes "why") (report_or_none cause)
 
 -- ---- of a command with a fault
 
@@ -78,7 +78,7 @@ hint_text seen.NoLine = page (codes "The body has no line: both sides are empty.
 hint_text seen.TooFar = page (
     codes "The edit reaches too far: LINE and the numbers of lines of both sides add up to too much." ∷ [])
 hint_text seen.MoreThanEnd = page (codes "It begins with end and is more: just end ends a body." ∷ [])
-hint_text seen.OldBehindNew = page (codes "An old line stands behind a new one: all - come before all +." ∷ [])
+hint_text seen.OldAfterNew = page (codes "An old line stands behind a new one: all - come before all +." ∷ [])
 hint_text seen.NoSign = page (
     codes "It has no sign, - or +. If the body was to be over, a line that is just end is missing." ∷ [])
 
@@ -145,18 +145,18 @@ word_text kind.BadName line = misnamed_text (misnamed (words_of line))
 word_text other line = []
 
 -- text: the lines after it are taken for its own, if it has some
-abbrev pub awaited_text : Awaited → List ℕ
-awaited_text Nothing = []
-awaited_text Signed = []
-awaited_text Body = page (codes "Behind it lines that begin no command are taken for its body, up to end." ∷ [])
-awaited_text Group = page (codes "Behind it lines that begin no command are taken for its group, up to done." ∷ [])
-awaited_text GroupBody = page (codes "Behind it lines that begin no command are taken for its group, up to done." ∷ [])
+abbrev pub recovery_text : Awaited → List ℕ
+recovery_text Nothing = []
+recovery_text Signed = []
+recovery_text Body = page (codes "Behind it lines that begin no command are taken for its body, up to end." ∷ [])
+recovery_text Group = page (codes "Behind it lines that begin no command are taken for its group, up to done." ∷ [])
+recovery_text GroupBody = page (codes "Behind it lines that begin no command are taken for its group, up to done." ∷ [])
 
 -- the answer, the line, the word that has the fault, the hint on it, the rule, what to write, and which lines after
 -- it are taken for its own
 abbrev pub fault_lines : FaultKind → List ℕ → List ℕ → Awaited → List ℕ
 fault_lines kind line answer awaited =
-    answer ++ shown_line line ++ word_text kind line ++ hint_text (hint kind line) ++ rule kind ++ awaited_text awaited
+    answer ++ shown_line line ++ word_text kind line ++ hint_text (hint kind line) ++ rule kind ++ recovery_text awaited
 
 -- ---- of a command that is refused
 
@@ -276,15 +276,15 @@ cure_at state asked found reason.Depends = depends_cure asked
 cure_at state asked found other = cure other
 
 -- the answer, the first line of the command, the meaning of the answer, what prevents the command, and the hint
-abbrev pub refusal_told : Contents → Asked → List ℕ → List ℕ → Option Cause → Reason → List ℕ
-refusal_told state asked line answer found reason =
+abbrev pub refusal_report : Contents → Asked → List ℕ → List ℕ → Option Cause → Reason → List ℕ
+refusal_report state asked line answer found reason =
     answer ++ shown_line line ++ saying reason ++ against_text state asked found reason ++ cure_at state asked found reason
 
 -- the same by its reason; of an answer without one only itself
 abbrev pub refusal_lines : Contents → Asked → List ℕ → List ℕ → Option Reason → List ℕ
 refusal_lines state asked line answer None = answer
 refusal_lines state asked line answer (Some reason) =
-    refusal_told state asked line answer (cause_found state asked reason) reason
+    refusal_report state asked line answer (cause_found state asked reason) reason
 
 -- ---- of both
 
@@ -304,35 +304,35 @@ may_record kind line = is_record line || is_no_command kind line
 -- the lines that may follow a command with a fault of a kind in the line of a number: if that is its first, those
 -- that it was cut off from
 abbrev pub cut_off : ℕ → FaultKind → List ℕ → Awaited
-cut_off number kind line = if number == 1 && may_record kind line then left_by line else Nothing
+cut_off number kind line = if number == 1 && may_record kind line then recovery_of_line line else Nothing
 
 -- a fault is the consequence of one before it: its line begins no command, and may be one of a body or a group that
 -- was cut off
-abbrev pub comes_of_another : Awaited → FaultKind → List ℕ → Bool
-comes_of_another awaited kind line = may_be awaited line && is_no_command kind line
+abbrev pub is_consequence : Awaited → FaultKind → List ℕ → Bool
+is_consequence awaited kind line = may_be awaited line && is_no_command kind line
 
 -- the diagnostic of a command with a fault of its own, and the lines that may follow it
-abbrev pub fault_account : LineFault → List (List ℕ) → List ℕ → Account
-fault_account fault lines answer =
+abbrev pub own_fault_diagnostic : LineFault → List (List ℕ) → List ℕ → Account
+own_fault_diagnostic fault lines answer =
     let awaited = cut_off fault.line fault.kind (first_of lines) in
     record { told = fault_lines fault.kind (line_at fault.line lines) answer awaited; awaited = awaited }
 
 -- the diagnostic of a command with a fault; if that is the consequence of a fault before it, the lines about that one
 -- stay
-abbrev pub fault_cause : Account → LineFault → List (List ℕ) → List ℕ → Account
-fault_cause before fault lines answer =
-    if comes_of_another before.awaited fault.kind (first_of lines) then passed before (first_of lines)
-    else fault_account fault lines answer
+abbrev pub fault_diagnostic : Account → LineFault → List (List ℕ) → List ℕ → Account
+fault_diagnostic before fault lines answer =
+    if is_consequence before.awaited fault.kind (first_of lines) then passed before (first_of lines)
+    else own_fault_diagnostic fault lines answer
 
 -- the diagnostic of a command that is not done, by the diagnostic before it, the state, its lines, its parsed form
 -- and its answer
-abbrev pub cause_with : Account → Contents → List (List ℕ) → Result Asked LineFault → List ℕ → Account
-cause_with before state lines (Err fault) answer = fault_cause before fault lines answer
-cause_with before state lines (Ok asked) answer = record {
+abbrev pub diagnostic_with : Account → Contents → List (List ℕ) → Result Asked LineFault → List ℕ → Account
+diagnostic_with before state lines (Err fault) answer = fault_diagnostic before fault lines answer
+diagnostic_with before state lines (Ok asked) answer = record {
   told = refusal_lines state asked (first_of lines) answer (reason_in (words_of (first_of (lines_of answer))));
   awaited = Nothing;
 }
 
 -- by the state, the command and its answer
-abbrev pub cause_of : Account → Contents → List ℕ → List ℕ → Account
-cause_of before state command answer = cause_with before state (lines_in command) (asked_by command) answer
+abbrev pub diagnostic_of : Account → Contents → List ℕ → List ℕ → Account
+diagnostic_of before state command answer = diagnostic_with before state (lines_in command) (parsed_command command) answer

@@ -1,6 +1,6 @@
 //! The state that a conversation keeps for `why`.
 ghost use Rattle.std.specs.Prelude.{◌≡◌, IfOk, MatchResult};
-ghost use Rattle.camp_talk.specs.Accounts.{closed, leaves_place, no_account, passed};
+ghost use Rattle.camp_talk.specs.Accounts.{closed, leaves_diagnostic, no_diagnostic, passed};
 
 use crate::awaited::Awaited;
 use std::alloc::{AllocError, Global};
@@ -26,7 +26,7 @@ impl Model for Account {
 impl Account {
     /// Starts without a fault or refusal.
     pub fn new(alloc: Global) -> Account
-        ensures exact { result ≡ no_account }
+        ensures exact { result ≡ no_diagnostic }
     {
         Account {
             told: Vec::new(alloc),
@@ -73,8 +73,8 @@ impl Account {
 }
 
 /// True if an answer leaves the state as it is: it is empty, or out of memory.
-pub(crate) fn leaves_place(answer: &[u8]) -> bool
-    ensures { result ≡ leaves_place answer.now }
+pub(crate) fn leaves_diagnostic(answer: &[u8]) -> bool
+    ensures { result ≡ leaves_diagnostic answer.now }
 {
     answer.is_empty() || answer == b"memory\n".as_slice()
 }

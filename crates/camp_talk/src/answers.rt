@@ -6,18 +6,18 @@ ghost use Rattle.camp_script.specs.Lines.{lines_of};
 ghost use Rattle.camp_script.specs.Texts.{answer_text};
 ghost use Rattle.camp_script.specs.declared.faults.LineFault.{LineFault as SaidFault};
 ghost use Rattle.camp_talk.specs.Answers.{Replies, Tells, fault_text};
-ghost use Rattle.camp_talk.specs.Inside.Hearing.{LearnsOf};
-ghost use Rattle.camp_talk.specs.Inside.Said.{IsWriting, said_text};
+ghost use Rattle.camp_talk.specs.Inside.ExecutingNext.{UpdatesDiagnosticOf};
+ghost use Rattle.camp_talk.specs.Inside.Said.{IsWriting, answer_or_memory};
 ghost use Rattle.camp_talk.specs.Talks.{AppendsSome};
 ghost use Rattle.camp_talk.specs.Whys.{is_failure};
 ghost use Rattle.camp_talk.specs.declared.questions.Asked.{Asked as SaidAsked};
 
-use crate::accounts::leaves_place;
+use crate::accounts::leaves_diagnostic;
 use crate::questions::Asked;
 use crate::readings::Command;
-use crate::tellings::answer_question;
+use crate::question_answers::answer_question;
 use crate::told::joined;
-use crate::told_whys::{cause_of, is_failure, tell_why};
+use crate::why_reports::{diagnostic_of, is_failure, render_why};
 use crate::{Account, TalkFault};
 use camp_object::Fault;
 use camp_repo::{Book, Call, Object, Reply, State};
@@ -40,7 +40,7 @@ pub(crate) fn respond(
     ensures text { IfOk result (λ text. (reading : Result SaidAsked SaidFault) → Gives command.now.asked reading →
         Tells (record { history = book.old; lines = before; cause = cause.old }) reading text.items book.new) }
     ensures learns { IfOk result (λ text. (reading : Result SaidAsked SaidFault) → Gives command.now.asked reading →
-        LearnsOf (record { history = book.old; lines = before; cause = cause.old })
+        UpdatesDiagnosticOf (record { history = book.old; lines = before; cause = cause.old })
         (lines_of command.now.bytes.items) reading text.items cause.new) }
     ensures kept { OnErr result (book.new ≡ book.old) }
     ensures same { OnErr result (cause.new ≡ cause.old) }
@@ -48,7 +48,7 @@ pub(crate) fn respond(
 {
     let text = answer(alloc, book, before, cause, &command.asked)?;
     if is_failure(&text) {
-        *cause = cause_of(
+        *cause = diagnostic_of(
             alloc,
             cause,
             book.state(),
@@ -58,7 +58,7 @@ pub(crate) fn respond(
         )?;
         return Ok(text);
     }
-    if leaves_place(&text) {
+    if leaves_diagnostic(&text) {
         return Ok(text);
     }
     cause.close();
@@ -81,13 +81,13 @@ fn answer(
     ensures nothing { OnErr result (asked.now ≢ Ok SaidAsked.Nothing) }
 {
     match asked {
-        Ok(asked) => answer_asked(alloc, book, cause, asked),
+        Ok(asked) => answer_parsed(alloc, book, cause, asked),
         Err(ScriptFault::Line(fault)) => fault_text(alloc, before, fault.line, fault.kind),
         Err(ScriptFault::Memory) => Err(AllocError),
     }
 }
 
-fn answer_asked(
+fn answer_parsed(
     alloc: Global,
     book: &mut Book<State>,
     cause: &Account,
@@ -103,7 +103,7 @@ fn answer_asked(
         Asked::Nothing => Ok(Vec::new(alloc)),
         Asked::Call(call) => reply(alloc, book, call),
         Asked::Question(question) => answer_question(alloc, book, question),
-        Asked::Why => tell_why(alloc, cause.told()),
+        Asked::Why => render_why(alloc, cause.told()),
     }
 }
 
@@ -165,22 +165,22 @@ pub fn write_answer<W: Write>(writer: &mut W, text: &[u8]) -> io::Result<()>
 }
 
 /// Writes the answer to a command: a text, or out of memory.
-pub(crate) fn write_said<W: Write>(
+pub(crate) fn write_answer_or_memory<W: Write>(
     writer: &mut W,
     said: &Result<Vec<u8>, AllocError>,
 ) -> Result<(), TalkFault>
     ensures { MatchResult result
-        (λ _. Appends (W.contents writer.old) (W.contents writer.new) (said_text said.now))
-        (λ why. IsWriting why × AppendsSome (W.contents writer.old) (W.contents writer.new) (said_text said.now)) }
+        (λ _. Appends (W.contents writer.old) (W.contents writer.new) (answer_or_memory said.now))
+        (λ why. IsWriting why × AppendsSome (W.contents writer.old) (W.contents writer.new) (answer_or_memory said.now)) }
 {
-    match write_answer(writer, said_text(said)) {
+    match write_answer(writer, answer_or_memory(said)) {
         Ok(()) => Ok(()),
         Err(error) => Err(TalkFault::Write(error)),
     }
 }
 
-fn said_text(said: &Result<Vec<u8>, AllocError>) -> &[u8]
-    ensures { result.now ≡ said_text said.now }
+fn answer_or_memory(said: &Result<Vec<u8>, AllocError>) -> &[u8]
+    ensures { result.now ≡ answer_or_memory said.now }
 {
     let Ok(text) = said else {
         return b"memory\n";

@@ -4,7 +4,7 @@ ghost use Rattle.camp_call.specs.declared.calls.Call.{Call as SaidCall};
 ghost use Rattle.camp_script.specs.Gives.{Gives};
 ghost use Rattle.camp_script.specs.Lines.{is_skipped, lines_of, words_of};
 ghost use Rattle.camp_script.specs.declared.faults.LineFault.{LineFault as SaidFault};
-ghost use Rattle.camp_talk.specs.Asking.{asked_with, call_in, first_of, is_why, why_of};
+ghost use Rattle.camp_talk.specs.Asking.{parsed_words, call_in, first_of, is_why, why_of};
 
 use crate::question_words::read_question;
 use crate::questions::{Asked, Question};
@@ -31,13 +31,13 @@ pub(crate) fn is_word(word: &[u8], other: &[u8]) -> bool
 }
 
 /// Parses a command, given the script of its call.
-pub(crate) fn read_asked(
+pub(crate) fn parse_command(
     alloc: Global,
     bytes: &[u8],
     script: Result<Script, ScriptFault>,
 ) -> Result<Asked, ScriptFault>
     ensures { (reading : Result (List (List SaidCall)) SaidFault) → Gives script reading →
-        Gives result (asked_with (words_of (first_of (lines_of bytes.now))) reading) }
+        Gives result (parsed_words (words_of (first_of (lines_of bytes.now))) reading) }
 {
     let mut words = Words::new(first_line(bytes));
     let Some(word) = words.next() else {
@@ -84,7 +84,7 @@ fn call_in(script: Script) -> Result<Option<Call>, ScriptFault>
 }
 
 fn read_call(script: Result<Script, ScriptFault>) -> Result<Asked, ScriptFault>
-    ensures { (reading : Result (List (List SaidCall)) SaidFault) → Gives script reading → Gives result (asked_with [] reading) }
+    ensures { (reading : Result (List (List SaidCall)) SaidFault) → Gives script reading → Gives result (parsed_words [] reading) }
 {
     match call_in(script?)? {
         Some(call) => Ok(Asked::Call(call)),
@@ -111,7 +111,7 @@ fn read_why(words: Words<'_>) -> Result<Asked, ScriptFault>
 }
 
 fn read_what_if(script: Result<Script, ScriptFault>) -> Result<Asked, ScriptFault>
-    ensures { (reading : Result (List (List SaidCall)) SaidFault) → Gives script reading → Gives result (asked_with (codes "whatif" ∷ []) reading) }
+    ensures { (reading : Result (List (List SaidCall)) SaidFault) → Gives script reading → Gives result (parsed_words (codes "whatif" ∷ []) reading) }
 {
     match call_in(script?)? {
         Some(call) => Ok(Asked::Question(Question::WhatIf(call))),

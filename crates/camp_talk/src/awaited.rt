@@ -1,7 +1,7 @@
 //! The lines of a command that was cut off by a fault in its first line.
 ghost use Rattle.std.specs.Prelude.{◌≡◌};
 ghost use Rattle.camp_script.specs.Lines.{words_of};
-ghost use Rattle.camp_talk.specs.Accounts.{awaited_after, begins_command, is_edit, is_form, is_group, is_record, is_short, left_behind, left_by, may_be, said_in};
+ghost use Rattle.camp_talk.specs.Accounts.{recovery_after, begins_command, is_edit, is_form, is_group, is_record, is_short, recovery_after_branch, recovery_of_line, may_be, recovery_in_words};
 
 use crate::asking::is_word;
 use camp_script::{Words, begins_edit, begins_with, behind_word};
@@ -35,7 +35,7 @@ impl Awaited {
 
     /// Returns the lines that may come after a line.
     pub(crate) fn after(self, line: &[u8]) -> Awaited
-        ensures { result ≡ awaited_after self line.now }
+        ensures { result ≡ recovery_after self line.now }
     {
         match self {
             Awaited::Nothing => Awaited::Nothing,
@@ -51,10 +51,10 @@ impl Awaited {
 
 /// Returns the lines that follow a line that is cut off from them, if it is a record, or may be a misspelt
 /// one.
-pub(crate) fn left_by(line: &[u8]) -> Awaited
-    ensures { result ≡ left_by line.now }
+pub(crate) fn recovery_of_line(line: &[u8]) -> Awaited
+    ensures { result ≡ recovery_of_line line.now }
 {
-    left_behind(behind_word(behind_word(call_part(line))))
+    recovery_after_branch(behind_word(behind_word(call_part(line))))
 }
 
 /// True if the first word of a line is `client`, or that of a command which may be unknown only because of
@@ -79,15 +79,15 @@ pub(crate) fn is_record(line: &[u8]) -> bool
 }
 
 // Returns the lines that follow a record, by the rest of its line after the branch.
-fn left_behind(line: &[u8]) -> Awaited
-    ensures { result ≡ left_behind line.now }
+fn recovery_after_branch(line: &[u8]) -> Awaited
+    ensures { result ≡ recovery_after_branch line.now }
 {
-    said_in(behind_word(line), said_in(line, Awaited::Signed))
+    recovery_in_words(behind_word(line), recovery_in_words(line, Awaited::Signed))
 }
 
 // Returns the lines that follow, by the first word of a line that says it; else these.
-fn said_in(line: &[u8], other: Awaited) -> Awaited
-    ensures { result ≡ said_in (words_of line.now) other }
+fn recovery_in_words(line: &[u8], other: Awaited) -> Awaited
+    ensures { result ≡ recovery_in_words (words_of line.now) other }
 {
     for word in Words::new(line) {
         if is_short(word) {

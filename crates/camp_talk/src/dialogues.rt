@@ -1,7 +1,7 @@
 //! Steps that are taken one after the other.
 ghost use Rattle.std.specs.Prelude.{◌≡◌, ◌-◌, ◌^◌, ◌<◌, Bool, IfOk, Result, true, ℕ};
-ghost use Rattle.camp_talk.specs.Accounts.{no_account};
-ghost use Rattle.camp_talk.specs.Dialogues.{TakesTurns};
+ghost use Rattle.camp_talk.specs.Accounts.{no_diagnostic};
+ghost use Rattle.camp_talk.specs.Dialogues.{TakesSteps};
 ghost use Rattle.camp_talk.specs.Talks.{Turns};
 
 use crate::talks::turn;
@@ -16,20 +16,20 @@ pub trait Dialogue {
     type Fault;
 
     // The relation of a step: the place before it, its result, and the place after it.
-    ghost comes_to: { Self → Result Bool Self.Fault → Self → Type 0 };
+    ghost step_relation: { Self → Result Bool Self.Fault → Self → Type 0 };
 
     // The most steps that may still come.
     ghost left: { Self → ℕ };
 
     /// Takes one step. True if there may be more.
     fn turn(&mut self) -> Result<bool, Self::Fault>
-        ensures turns { comes_to self.old result self.new }
+        ensures turns { step_relation self.old result self.new }
         ensures fewer { IfOk result (λ more. more ≡ true → left self.new < left self.old) };
 }
 
 /// Takes steps, one after the other, until there is no more, or one fails.
 pub fn talk<D: Dialogue>(dialogue: &mut D) -> Result<(), D::Fault>
-    ensures talks { TakesTurns D.comes_to dialogue.old result dialogue.new }
+    ensures talks { TakesSteps D.step_relation dialogue.old result dialogue.new }
 {
     while dialogue.turn()? {}
     Ok(())
@@ -54,7 +54,7 @@ impl<R: BufRead, W: Write> Conversation<R, W> {
     pub fn new(alloc: Global, book: Book<State>, reader: R, writer: W) -> Conversation<R, W>
         ensures book { result.book ≡ book }
         ensures first { result.lines ≡ 0 }
-        ensures cause { result.cause ≡ no_account }
+        ensures cause { result.cause ≡ no_diagnostic }
         ensures reader { result.reader ≡ reader }
         ensures writer { result.writer ≡ writer }
     {
@@ -72,7 +72,7 @@ impl<R: BufRead, W: Write> Conversation<R, W> {
 impl<R: BufRead, W: Write> Dialogue for Conversation<R, W> {
     type Fault = TalkFault;
 
-    ghost comes_to = { λ old result new. Turns (R.remaining old.reader) (R.remaining new.reader) (W.contents old.writer) (W.contents new.writer)
+    ghost step_relation = { λ old result new. Turns (R.remaining old.reader) (R.remaining new.reader) (W.contents old.writer) (W.contents new.writer)
         (record { history = old.book; lines = old.lines; cause = old.cause })
         result (record { history = new.book; lines = new.lines; cause = new.cause }) };
 

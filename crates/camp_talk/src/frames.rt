@@ -94,7 +94,7 @@ impl<R: BufRead, W: Write> FramedConversation<R, W> {
 impl<R: BufRead, W: Write> Dialogue for FramedConversation<R, W> {
     type Fault = FrameFault;
 
-    ghost comes_to = { λ old result new. Serves (R.remaining old.reader) (R.remaining new.reader) (W.contents old.writer) (W.contents new.writer)
+    ghost step_relation = { λ old result new. Serves (R.remaining old.reader) (R.remaining new.reader) (W.contents old.writer) (W.contents new.writer)
         old.book result new.book };
 
     ghost left = { λ it. 2 ^ 64 - it.served };

@@ -1,17 +1,17 @@
 //! Laws of answers: counts, failures, diagnostics, requests, and loading what `keep` writes.
-ghost use Rattle.camp_talk.specs.Laws.{CausesAreTold, CountsAreTold, FailuresAreTold, FaultsAreTold, KeptIsLoaded, RecordsAreAwaited, RefusalsAreTold, RequestsAreServedInTurn, UnservedBytesHaveNoFrame};
+ghost use Rattle.camp_talk.specs.Laws.{CausesAreReported, CountsMatchLines, FailuresAreReported, FaultsAreDescribed, KeepRestoresHistory, RecoveryFollowsCutOff, RefusalsAreDescribed, RequestsAreServedInTurn, UnservedBytesHaveNoFrame};
 ghost use Rattle.camp_talk.specs.Visible.{ShownBytesArePrintable};
 
 /// The first line of a counted answer gives the number of lines that follow.
-#[tactic(auto, using(crate::proofs::CountLemmas::counts_are_told))]
-pub fn counts_are_told()
-    ensures law { CountsAreTold }
+#[tactic(auto, using(crate::proofs::CountLemmas::counts_match_lines))]
+pub fn counts_match_lines()
+    ensures law { CountsMatchLines }
 {}
 
 /// An answer is a failure exactly if its command has a fault, it is a refusal, or memory ran out.
-#[tactic(auto, using(crate::proofs::Failing::failures_are_told))]
-pub fn failures_are_told()
-    ensures law { FailuresAreTold }
+#[tactic(auto, using(crate::proofs::Failing::failures_are_reported))]
+pub fn failures_are_reported()
+    ensures law { FailuresAreReported }
 {}
 
 /// If requests are served one after the other, as by the steps of a framed conversation, the n-th answer that
@@ -23,29 +23,29 @@ pub fn requests_are_served_in_turn()
 
 /// `load` restores what `keep` wrote of a history, or `kept_text` made: its calls are accepted again, and
 /// lead to its state, however many they are. A load that does not end has accepted the first of them.
-pub fn kept_is_loaded()
-    ensures law { KeptIsLoaded }
+pub fn keep_restores_history()
+    ensures law { KeepRestoresHistory }
 {}
 
 /// If a call is refused because of a limit or its changes, the lines of `why` give a cause.
-pub fn causes_are_told()
-    ensures law { CausesAreTold }
+pub fn causes_are_reported()
+    ensures law { CausesAreReported }
 {}
 
 /// If a call is refused, the lines of `why` describe that refusal, and what it says is true.
-pub fn refusals_are_told()
-    ensures law { RefusalsAreTold }
+pub fn refusals_are_described()
+    ensures law { RefusalsAreDescribed }
 {}
 
 /// If a command has a fault of its own, the lines of `why` describe the line that has it.
-pub fn faults_are_told()
-    ensures law { FaultsAreTold }
+pub fn faults_are_described()
+    ensures law { FaultsAreDescribed }
 {}
 
 /// The diagnostic waits for lines of a body or a group only if a record was cut off by a fault in its first
 /// line, or a line that may be one was no command, and each command after it is one of these lines.
-pub fn records_are_awaited()
-    ensures law { RecordsAreAwaited }
+pub fn recovery_follows_cut_off()
+    ensures law { RecoveryFollowsCutOff }
 {}
 
 /// A line that is no number of bytes, or too great a one, begins no frame; and what is read of a frame that

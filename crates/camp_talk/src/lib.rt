@@ -18,19 +18,19 @@ mod readings;
 mod requests;
 mod serving;
 mod talks;
-mod tellings;
+mod question_answers;
 mod told;
-mod told_against;
-mod told_conflicts;
-mod told_faults;
-mod told_foresight;
-mod told_graphs;
-mod told_help;
-mod told_lines;
-mod told_names;
-mod told_patches;
-mod told_refusals;
-mod told_whys;
+mod obstacle_reports;
+mod conflict_answers;
+mod fault_reports;
+mod what_if_answers;
+mod graph_answers;
+mod help_answers;
+mod file_answers;
+mod names_answers;
+mod show_answers;
+mod refusal_texts;
+mod why_reports;
 mod topics;
 mod views;
 mod visible;
@@ -43,8 +43,8 @@ pub use engine::{Backend, Frames, Framing, GroupLimits, Stop, responses_are_dura
 pub use faults::{LoadFault, TalkFault};
 pub use frames::{FrameFault, FramedConversation};
 pub use laws::{
-    causes_are_told, counts_are_told, failures_are_told, faults_are_told, kept_is_loaded,
-    records_are_awaited, refusals_are_told, requests_are_served_in_turn, shown_bytes_are_printable,
+    causes_are_reported, counts_match_lines, failures_are_reported, faults_are_described, keep_restores_history,
+    recovery_follows_cut_off, refusals_are_described, requests_are_served_in_turn, shown_bytes_are_printable,
     unserved_bytes_have_no_frame,
 };
 pub use loads::load;
@@ -52,5 +52,5 @@ pub use questions::{Question, Reason, Topic};
 pub use requests::answer_request;
 pub use serving::serve;
 pub use talks::turn;
-pub use tellings::answer_question;
+pub use question_answers::answer_question;
 pub use views::answer_view;

@@ -1,10 +1,10 @@
 //! Loading commands: each has to be done.
 ghost use Rattle.std.specs.Prelude.{◌≡◌, true, IfOk};
-ghost use Rattle.camp_talk.specs.Inside.Hearing.{LoadsOne};
-ghost use Rattle.camp_talk.specs.Loads.{Loads, tells_failure};
-ghost use Rattle.camp_talk.specs.Talks.{HasRisen};
+ghost use Rattle.camp_talk.specs.Inside.ExecutingNext.{LoadsOne};
+ghost use Rattle.camp_talk.specs.Loads.{Loads, reports_failure};
+ghost use Rattle.camp_talk.specs.Talks.{HasGrown};
 
-use crate::talks::{Heard, hear};
+use crate::talks::{ExecutedCommand, execute_next};
 use crate::{Account, LoadFault};
 use camp_repo::{Book, State};
 use std::alloc::Global;
@@ -36,21 +36,21 @@ fn load_one<R: BufRead>(
     ensures loads { LoadsOne (R.remaining reader.old) (R.remaining reader.new)
         (record { history = book.old; lines = lines.old; cause = cause.old })
         result (record { history = book.new; lines = lines.new; cause = cause.new }) }
-    ensures counts { IfOk result (λ more. more ≡ true → HasRisen lines.old lines.new) }
+    ensures counts { IfOk result (λ more. more ≡ true → HasGrown lines.old lines.new) }
 {
-    let Heard {
+    let ExecutedCommand {
         said,
         line,
         lines: after,
         is_whole,
-    } = match hear(alloc, book, *lines, cause, reader) {
+    } = match execute_next(alloc, book, *lines, cause, reader) {
         Ok(heard) => heard,
         Err(why) => return Err(LoadFault::Talk(why)),
     };
     let Ok(text) = said else {
         return Err(LoadFault::Memory { line });
     };
-    if tells_failure(&text) {
+    if reports_failure(&text) {
         return Err(LoadFault::Answer { line, text });
     }
     *lines = after;
@@ -58,8 +58,8 @@ fn load_one<R: BufRead>(
 }
 
 // True if an answer says that its command was not done.
-fn tells_failure(answer: &[u8]) -> bool
-    ensures { result ≡ tells_failure answer.now }
+fn reports_failure(answer: &[u8]) -> bool
+    ensures { result ≡ reports_failure answer.now }
 {
     answer.starts_with(b"fault ")
         || answer.starts_with(b"refused ")

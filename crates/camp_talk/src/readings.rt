@@ -3,14 +3,14 @@ ghost use Rattle.std.specs.Prelude.{◌≡◌, length, Ok, true, IfOk, IfErr};
 ghost use Rattle.camp_script.specs.CommandLines.{wants};
 ghost use Rattle.camp_script.specs.Gives.{Gives};
 ghost use Rattle.camp_script.specs.Lines.{is_skipped, lines_of, words_of};
-ghost use Rattle.camp_talk.specs.Asking.{asked_of, first_of};
+ghost use Rattle.camp_talk.specs.Asking.{parsed_lines, first_of};
 ghost use Rattle.camp_talk.specs.Cutting.{script_in};
 ghost use Rattle.camp_talk.specs.Inside.Parts.{IsLonger, IsReading, ReadsHeld, ReadsNext, StopsAtLine};
 ghost use Rattle.camp_talk.specs.Talks.{ReadsWithin};
 ghost use Rattle.camp_talk.specs.declared.questions.Asked.{Asked as SaidAsked};
 
 use crate::TalkFault;
-use crate::asking::{first_line, is_skipped, read_asked};
+use crate::asking::{first_line, is_skipped, parse_command};
 use crate::lines::{last_line, read_line};
 use crate::questions::Asked;
 use bstr::ByteSlice;
@@ -40,7 +40,7 @@ struct Lines {
 pub(crate) fn read_command<R: BufRead>(alloc: Global, reader: &mut R) -> Result<Command, TalkFault>
     ensures command { IfOk result (λ command.
         ReadsHeld (R.remaining reader.old) (R.remaining reader.new) command.is_whole command.bytes.items) }
-    ensures asked { IfOk result (λ command. Gives command.asked (asked_of (lines_of command.bytes.items))) }
+    ensures asked { IfOk result (λ command. Gives command.asked (parsed_lines (lines_of command.bytes.items))) }
     ensures silent { IfOk result (λ command. is_skipped (words_of (first_of (lines_of command.bytes.items))) ≡ true →
         command.asked ≡ Ok SaidAsked.Nothing) }
     ensures fault { IfErr result IsReading }
@@ -54,7 +54,7 @@ pub(crate) fn read_command<R: BufRead>(alloc: Global, reader: &mut R) -> Result<
     let asked = if is_skipped(first_line(&bytes)) {
         Ok(Asked::Nothing)
     } else {
-        read_asked(alloc, &bytes, script)
+        parse_command(alloc, &bytes, script)
     };
     Ok(Command {
         bytes,

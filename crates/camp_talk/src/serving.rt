@@ -5,7 +5,7 @@ ghost use Rattle.camp_talk.specs.Frames.{ReadsNoFrame, Serves, framed};
 ghost use Rattle.camp_talk.specs.Inside.Framing.{IsCounted, IsNotCounted, ReadsBytes, ReadsFewer, ReadsFrame, ReadsMore, ReadsNothing};
 ghost use Rattle.camp_talk.specs.Inside.Parts.{IsReading};
 ghost use Rattle.camp_talk.specs.Inside.Said.{IsWriting};
-ghost use Rattle.camp_talk.specs.Talks.{AppendsSome, HasRisen};
+ghost use Rattle.camp_talk.specs.Talks.{AppendsSome, HasGrown};
 
 use crate::lines::{hold, read_front, unless_interrupted};
 use crate::requests::answer_request;
@@ -32,7 +32,7 @@ pub fn serve<R: BufRead, W: Write>(
 ) -> Result<bool, FrameFault>
     ensures serves { Serves (R.remaining reader.old) (R.remaining reader.new) (W.contents writer.old) (W.contents writer.new)
         book.old result book.new }
-    ensures counts { IfOk result (λ more. more ≡ true → HasRisen served.old served.new) }
+    ensures counts { IfOk result (λ more. more ≡ true → HasGrown served.old served.new) }
     ensures one { IfOk result (λ more. more ≡ true → served.new ≡ served.old + 1) }
 {
     let Some(after) = served.checked_add(1) else {

@@ -1,9 +1,9 @@
 //! One command of a conversation: it is read, executed and answered.
 ghost use Rattle.std.specs.Prelude.{◌≡◌, ◌+◌, true, IfOk, IfErr};
-ghost use Rattle.camp_talk.specs.Inside.Hearing.{Hears};
-ghost use Rattle.camp_talk.specs.Talks.{HasRisen, ReadsNone, Turns};
+ghost use Rattle.camp_talk.specs.Inside.ExecutingNext.{ExecutesNext};
+ghost use Rattle.camp_talk.specs.Talks.{HasGrown, ReadsNone, Turns};
 
-use crate::answers::{respond, write_said};
+use crate::answers::{respond, write_answer_or_memory};
 use crate::readings::{count_lines, read_command};
 use crate::{Account, TalkFault};
 use camp_repo::{Book, State};
@@ -12,7 +12,7 @@ use std::io::{BufRead, Write};
 
 /// A command that was read and executed.
 #[derive(Drop)]
-pub(crate) struct Heard {
+pub(crate) struct ExecutedCommand {
     /// The response, or out of memory.
     pub(crate) said: Result<Vec<u8>, AllocError>,
     /// The number of its first line.
@@ -25,14 +25,14 @@ pub(crate) struct Heard {
 
 /// Reads a command, and executes it on a book at seat 0, given the number of lines before it. If it has a
 /// fault or is refused, `cause` becomes its diagnostic.
-pub(crate) fn hear<R: BufRead>(
+pub(crate) fn execute_next<R: BufRead>(
     alloc: Global,
     book: &mut Book<State>,
     lines: u64,
     cause: &mut Account,
     reader: &mut R,
-) -> Result<Heard, TalkFault>
-    ensures hears { IfOk result (λ heard. Hears (R.remaining reader.old) (R.remaining reader.new)
+) -> Result<ExecutedCommand, TalkFault>
+    ensures hears { IfOk result (λ heard. ExecutesNext (R.remaining reader.old) (R.remaining reader.new)
         (record { history = book.old; lines = lines; cause = cause.old }) heard.is_whole heard.said
         (record { history = book.new; lines = heard.lines; cause = cause.new })) }
     ensures line { IfOk result (λ heard. heard.line ≡ lines + 1) }
@@ -54,7 +54,7 @@ pub(crate) fn hear<R: BufRead>(
     };
     let said = respond(alloc, book, lines, cause, &command);
     drop(command);
-    Ok(Heard {
+    Ok(ExecutedCommand {
         said,
         line,
         lines: after,
@@ -76,10 +76,10 @@ pub fn turn<R: BufRead, W: Write>(
     ensures turns { Turns (R.remaining reader.old) (R.remaining reader.new) (W.contents writer.old) (W.contents writer.new)
         (record { history = book.old; lines = lines.old; cause = cause.old })
         result (record { history = book.new; lines = lines.new; cause = cause.new }) }
-    ensures counts { IfOk result (λ more. more ≡ true → HasRisen lines.old lines.new) }
+    ensures counts { IfOk result (λ more. more ≡ true → HasGrown lines.old lines.new) }
 {
-    let heard = hear(alloc, book, *lines, cause, reader)?;
-    write_said(writer, &heard.said)?;
+    let heard = execute_next(alloc, book, *lines, cause, reader)?;
+    write_answer_or_memory(writer, &heard.said)?;
     *lines = heard.lines;
     Ok(heard.is_whole)
 }

@@ -9,8 +9,8 @@ ghost use Rattle.camp_talk.specs.Help.{example};
 
 use crate::asking::{first_line, is_word};
 use crate::questions::{Reason, Topic};
-use crate::told_help::{commands, example};
-use crate::told_refusals::{number_of, reasons};
+use crate::help_answers::{commands, example};
+use crate::refusal_texts::{number_of, reasons};
 use camp_script::{FaultKind, ScriptFault, at_line, begins_with};
 
 /// Parses the topic of help, by the words after `help`.

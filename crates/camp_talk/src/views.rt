@@ -4,8 +4,8 @@ ghost use Rattle.camp_script.specs.Gives.{Gives};
 ghost use Rattle.camp_script.specs.Lines.{lines_of};
 ghost use Rattle.camp_script.specs.declared.faults.LineFault.{LineFault as SaidFault};
 ghost use Rattle.camp_talk.specs.Inside.Said.{IsNotWriting};
-ghost use Rattle.camp_talk.specs.Inside.Viewing.{SeesTurn};
-ghost use Rattle.camp_talk.specs.Talks.{HasRisen};
+ghost use Rattle.camp_talk.specs.Inside.Viewing.{SeesStep};
+ghost use Rattle.camp_talk.specs.Talks.{HasGrown};
 ghost use Rattle.camp_talk.specs.Views.{AnswersView, Shows, beyond_text};
 ghost use Rattle.camp_talk.specs.declared.questions.Asked.{Asked as SaidAsked};
 
@@ -13,7 +13,7 @@ use crate::answers::fault_text;
 use crate::lines::hold;
 use crate::questions::{Asked, Question};
 use crate::readings::{Command, count_lines, read_command};
-use crate::tellings::answer_at;
+use crate::question_answers::answer_at;
 use crate::told::joined;
 use crate::{State, TalkFault};
 use camp_repo::{Call, Decided};
@@ -61,9 +61,9 @@ fn see<R: BufRead>(
     reader: &mut R,
     answer: &mut Vec<u8>,
 ) -> Result<bool, TalkFault>
-    ensures sees { IfOk result (λ more. SeesTurn (R.remaining reader.old) (R.remaining reader.new)
+    ensures sees { IfOk result (λ more. SeesStep (R.remaining reader.old) (R.remaining reader.new)
         answer.old.items answer.new.items state.now lines.old more lines.new) }
-    ensures counts { IfOk result (λ more. more ≡ true → HasRisen lines.old lines.new) }
+    ensures counts { IfOk result (λ more. more ≡ true → HasGrown lines.old lines.new) }
     ensures kept { OnErr result (answer.new.items ≡ answer.old.items) }
     ensures unwritten { IfErr result IsNotWriting }
 {

@@ -1,6 +1,6 @@
 -- When a change applies, and when it does not.
-use Rattle.camp_why.proofs.Words.{Bool, true, false, cond, ◌++◌, ◌+◌, ◌-◌, ◌≡◌, ◌≢◌, ◌≤◌, ◌<◌, ◌∙◌, ◌∷◌, ℕ, zero, suc, List, [], Option, Some, None, get, insert, ap, append_assoc, arith, bytes_eq, bytes_eq-Decides, drop, drop-drop, drop_all, drop_at, false≢true, length, length-append, length-drop, length-take-le, ltb-false, ltb-true, nat_lt, none-some, not, not-false, not-true, refl, same_Some, slice_get, slice_get_past, subst, sym, take, take-append-drop, Files, Lines, SplicesLines, Applies, InRange, Edit, Primitive, Add, Hunk, Remove, IsMisfit, why_not, other_line, Misfit, EndsBefore, FileIsThere, HasLines, NoFile, OtherLine}
-use Rattle.camp_why.specs.Misfits.{Edits, StandThere, add_misfit, edit_misfit, ends_before, lacking, lacking_at, misfit_or, remove_misfit}
+use Rattle.camp_why.proofs.Words.{Bool, true, false, cond, ◌++◌, ◌+◌, ◌-◌, ◌≡◌, ◌≢◌, ◌≤◌, ◌<◌, ◌∙◌, ◌∷◌, ℕ, zero, suc, List, [], Option, Some, None, get, insert, ap, append_assoc, arith, bytes_eq, bytes_eq-Decides, drop, drop-drop, drop_all, drop_at, false≢true, length, length-append, length-drop, length-take-le, ltb-false, ltb-true, nat_lt, none-some, not, not-false, not-true, refl, same_Some, slice_get, slice_get_past, subst, sym, take, take-append-drop, Files, Lines, SplicesLines, Applies, InRange, Edit, Primitive, Add, Hunk, Remove, IsMisfit, find_misfit, other_line, Misfit, EndsBefore, FileIsThere, HasLines, NoFile, OtherLine}
+use Rattle.camp_why.specs.Misfits.{Edits, AreInFile, add_misfit, edit_misfit, ends_before, lacking, lacking_at, misfit_or, remove_misfit}
 
 -- ---- lists from an index on
 
@@ -134,7 +134,7 @@ module _ (hunk : Edit) (tree : Files) (lines : Lines) (found : get tree hunk.pat
   edits = record { edits = refl; found = found }
 
   -- lines from the first of an edit on are those of the file at their places
-  in_file : (count : ℕ) → AlikeUpTo count hunk.old (drop (hunk.line - 1) lines) → StandThere hunk lines count
+  in_file : (count : ℕ) → AlikeUpTo count hunk.old (drop (hunk.line - 1) lines) → AreInFile hunk lines count
   in_file count alike at stands expected within is_expected is_there =
       alike at stands expected within is_expected (get_drop lines (hunk.line - 1) at ∙ is_there)
 
@@ -181,7 +181,7 @@ module _ (hunk : Edit) (tree : Files) (lines : Lines) (found : get tree hunk.pat
   by_lines (Some why) finds = other_told why finds
   by_lines None none = by_end none (nat_lt (length lines) (hunk.line - 1 + length hunk.old)) refl
 
-verdict : (change : Primitive) (tree : Files) → Verdict change tree (why_not change tree)
+verdict : (change : Primitive) (tree : Files) → Verdict change tree (find_misfit change tree)
 verdict (Add path) tree = by (get tree path) refl
   where
     by : (found : Option Lines) → get tree path ≡ found → Verdict (Add path) tree (add_misfit found)
@@ -201,10 +201,10 @@ verdict (Hunk hunk) tree = by (get tree hunk.path) refl
     by (Some lines) is =
         by_lines hunk tree lines is (other_line hunk.line hunk.old (drop (hunk.line - 1) lines)) (compares hunk.line hunk.old (drop (hunk.line - 1) lines))
 
-pub is_told : (change : Primitive) (tree : Files) (why : Misfit) → why_not change tree ≡ Some why → IsMisfit change tree why
+pub is_told : (change : Primitive) (tree : Files) (why : Misfit) → find_misfit change tree ≡ Some why → IsMisfit change tree why
 is_told change tree why e = subst (Verdict change tree) e (verdict change tree)
 
-pub none_applies : (change : Primitive) (tree : Files) → InRange change → why_not change tree ≡ None → (next : Files) × Applies change tree next
+pub none_applies : (change : Primitive) (tree : Files) → InRange change → find_misfit change tree ≡ None → (next : Files) × Applies change tree next
 none_applies change tree range e = subst (Verdict change tree) e (verdict change tree) range
 
 -- ---- if there is a reason, the change does not apply

@@ -100,7 +100,7 @@ module _ (line : List ℕ) where
       tell kind.BadEdit line (begins_blank line) seen.Blank _ refl (λ e. (refl, e)) (λ none.
       tell kind.BadEdit line (is_end line) seen.NoLine _ refl (λ e. (refl, e)) (λ no_end.
       tell kind.BadEdit line (begins_end line) seen.MoreThanEnd _ refl (λ e. (refl, e)) (λ none.
-      tell kind.BadEdit line (begins (codes "-") line) seen.OldBehindNew _ refl (λ e. (refl, e)) (λ minus.
+      tell kind.BadEdit line (begins (codes "-") line) seen.OldAfterNew _ refl (λ e. (refl, e)) (λ minus.
       elim (begins (codes "+") line) as (λ b. begins (codes "+") line ≡ b → Says kind.BadEdit line (ShowsNothing kind.BadEdit line) (cond b seen.Nothing (unsigned_hint line))) [
         | true ↦ λ plus. nothing kind.BadEdit line (whole, plus)
         | false ↦ λ plus. unsigned (no_sign line minus plus) no_end some

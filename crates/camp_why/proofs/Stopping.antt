@@ -1,6 +1,6 @@
 -- Changes that are made one after the other, up to the first that can't be made.
 use Rattle.std.specs.List.{AllByRecursion}
-use Rattle.camp_why.proofs.Words.{◌+◌, ◌≡◌, ◌∙◌, ◌∷◌, ℕ, suc, Bool, true, false, cond, List, [], length, take, slice_get, None, Some, Option, ap, arith, ltb-true, nat_lt, none-some, option_map_or, refl, subst, sym, get, Files, Lines, AppliesEach, Applies, Applies-from_applied, InRange, Primitive, applied, applied-from_Applies, path_of, why_not, Misfit, Err, Ok, Result}
+use Rattle.camp_why.proofs.Words.{◌+◌, ◌≡◌, ◌∙◌, ◌∷◌, ℕ, suc, Bool, true, false, cond, List, [], length, take, slice_get, None, Some, Option, ap, arith, ltb-true, nat_lt, none-some, option_map_or, refl, subst, sym, get, Files, Lines, AppliesEach, Applies, Applies-from_applied, InRange, Primitive, applied, applied-from_Applies, path_of, find_misfit, Misfit, Err, Ok, Result}
 use Rattle.camp_why.proofs.Misfitting.{is_told, none_applies, not_applied}
 use Rattle.camp_call.specs.declared.replies.Refusal.{Refusal}
 use Rattle.camp_call.specs.declared.replies.Refusal.TheVariants.{DoesNotApply, TooLarge}
@@ -37,12 +37,12 @@ module _ (change : Primitive) (tree : Files) where
   in_tree None is = tt
   in_tree (Some next) is = in_file next is (get next (path_of change)) refl
 
-  by_reason : (reason : Option Misfit) → why_not change tree ≡ reason → Hinders (hindrance_or reason (made_long (path_of change) (applied change tree)))
+  by_reason : (reason : Option Misfit) → find_misfit change tree ≡ reason → Hinders (hindrance_or reason (made_long (path_of change) (applied change tree)))
   by_reason None is = in_tree (applied change tree) refl
   by_reason (Some reason) is = is_told change tree reason is
 
   pub hindrance_told : (why : Hindrance) → hindrance change tree ≡ Some why → IsHindrance change tree why
-  hindrance_told why e = subst Hinders e (by_reason (why_not change tree) refl)
+  hindrance_told why e = subst Hinders e (by_reason (find_misfit change tree) refl)
 
 -- changes stop after this many others
 record StopsBehind (at : ℕ) (changes : List Primitive) (tree : Files) (stop : Stop) : Type 0 where
@@ -127,14 +127,14 @@ refusal_in (Ok tree) = DoesNotApply
 refusal_in (Err refusal) = refusal
 
 applies_free : (change : Primitive) (tree next : Files) → applied change tree ≡ Some next → (reason : Option Misfit)
-    → why_not change tree ≡ reason → reason ≡ None
+    → find_misfit change tree ≡ reason → reason ≡ None
 applies_free change tree next made None is = refl
 applies_free change tree next made (Some why) is =
     absurd (not_applied change tree next why (is_told change tree why is) (Applies-from_applied change tree next made))
 
 module _ (at : ℕ) (change : Primitive) (changes : List Primitive) (tree : Files) (refusal : Refusal) (range : InRange change)
     (behind : (next : Files) → changed changes next ≡ Err refusal → StopsWith (suc at) changes next refusal) where
-  misfits : applied change tree ≡ None → (reason : Option Misfit) → why_not change tree ≡ reason → DoesNotApply ≡ refusal
+  misfits : applied change tree ≡ None → (reason : Option Misfit) → find_misfit change tree ≡ reason → DoesNotApply ≡ refusal
       → StopsWith at (change ∷ changes) tree refusal
   misfits nowhere None is of =
       let (next, applies) = none_applies change tree range is in
@@ -146,7 +146,7 @@ module _ (at : ℕ) (change : Primitive) (changes : List Primitive) (tree : File
   module _ (next : Files) (made : applied change tree ≡ Some next) where
     hinders : hindrance change tree ≡ long_file (get next (path_of change))
     hinders =
-        let free = applies_free change tree next made (why_not change tree) refl in
+        let free = applies_free change tree next made (find_misfit change tree) refl in
         (λ j. hindrance_or (free j) (made_long (path_of change) (made j)))
 
     goes_on : hindrance change tree ≡ None → changed changes next ≡ Err refusal → StopsWith at (change ∷ changes) tree refusal
@@ -175,7 +175,7 @@ module _ (at : ℕ) (change : Primitive) (changes : List Primitive) (tree : File
 
   by_made : (made : Option Files) → applied change tree ≡ made → then_from (led_to change made) (changed changes) ≡ Err refusal
       → StopsWith at (change ∷ changes) tree refusal
-  by_made None is e = misfits is (why_not change tree) refl (ap refusal_in e)
+  by_made None is e = misfits is (find_misfit change tree) refl (ap refusal_in e)
   by_made (Some next) is e = by_file next is (get next (path_of change)) refl e
 
 pub stops_with : (at : ℕ) (changes : List Primitive) (tree : Files) (refusal : Refusal) → AllByRecursion InRange changes
@@ -186,7 +186,7 @@ stops_with at (change ∷ changes) tree refusal range e =
 
 -- ---- one change
 
-module _ (change : Primitive) (tree next : Files) (free : why_not change tree ≡ None) (applies : Applies change tree next) where
+module _ (change : Primitive) (tree next : Files) (free : find_misfit change tree ≡ None) (applies : Applies change tree next) where
   -- a change that applies is prevented only by a file that is too long
   pub made_so : (path : List ℕ) → path ≡ path_of change → (result : Option Hindrance) → result ≡ long_file (get next path)
       → result ≡ hindrance change tree

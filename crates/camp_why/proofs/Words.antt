@@ -15,6 +15,6 @@ pub use Rattle.camp_prim.specs.Hunks.{Edit}
 pub use Rattle.camp_prim.specs.Commuting.{path_of}
 pub use Rattle.camp_prim.specs.declared.primitives.Primitive.{Primitive}
 pub use Rattle.camp_prim.specs.declared.primitives.Primitive.TheVariants.{Add, Hunk, Remove}
-pub use Rattle.camp_why.specs.Misfits.{IsMisfit, why_not, other_line}
+pub use Rattle.camp_why.specs.Misfits.{IsMisfit, find_misfit, other_line}
 pub use Rattle.camp_why.specs.declared.misfits.Misfit.{Misfit}
 pub use Rattle.camp_why.specs.declared.misfits.Misfit.TheVariants.{EndsBefore, FileIsThere, HasLines, NoFile, OtherLine}

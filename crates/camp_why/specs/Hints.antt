@@ -206,7 +206,7 @@ edit_hint line =
     else (if begins_blank line then seen.Blank
     else (if is_end line then seen.NoLine
     else (if begins_end line then seen.MoreThanEnd
-    else (if begins (codes "-") line then seen.OldBehindNew
+    else (if begins (codes "-") line then seen.OldAfterNew
     else (if begins (codes "+") line then seen.Nothing
     else unsigned_hint line))))))
 
@@ -269,7 +269,7 @@ IsSeen kind line seen.Blank = (kind ≡ BadEdit) × (begins_blank line ≡ true)
 IsSeen kind line seen.NoLine = (kind ≡ BadEdit) × (is_end line ≡ true)
 IsSeen kind line seen.TooFar = (kind ≡ BadNumber) × (is_end line ≡ true)
 IsSeen kind line seen.MoreThanEnd = (kind ≡ BadEdit) × (begins_end line ≡ true)
-IsSeen kind line seen.OldBehindNew = (kind ≡ BadEdit) × (begins (codes "-") line ≡ true)
+IsSeen kind line seen.OldAfterNew = (kind ≡ BadEdit) × (begins (codes "-") line ≡ true)
 IsSeen kind line seen.NoSign =
     (kind ≡ BadEdit) × (begins_signed line ≡ false) × (is_end line ≡ false) × (is_empty line ≡ false)
 

@@ -12,15 +12,15 @@ use Rattle.camp_repo.specs.Lawful.{IsLawfulState}
 use Rattle.camp_repo.specs.States.{Contents}
 use Rattle.camp_repo.specs.Steps.{refused, step}
 use Rattle.camp_why.specs.Causes.{IsSo, explained, is_of_changes, is_of_limit, refusal_by}
-use Rattle.camp_why.specs.Misfits.{IsMisfit, why_not}
+use Rattle.camp_why.specs.Misfits.{IsMisfit, find_misfit}
 use Rattle.camp_why.specs.declared.causes.Cause.{Cause}
 use Rattle.camp_why.specs.declared.misfits.Misfit.{Misfit}
 
 -- the reported reason is a true one, and if there is one, the change does not apply; if there is none, it applies
 pub record MisfitsAreReasons : Type 0 where
-  pub told : (change : Primitive) (tree : Files) (why : Misfit) → why_not change tree ≡ Some why → IsMisfit change tree why
+  pub told : (change : Primitive) (tree : Files) (why : Misfit) → find_misfit change tree ≡ Some why → IsMisfit change tree why
   pub stand : (change : Primitive) (tree next : Files) (why : Misfit) → IsMisfit change tree why → ¬ (Applies change tree next)
-  pub none : (change : Primitive) (tree : Files) → InRange change → why_not change tree ≡ None → (next : Files) × Applies change tree next
+  pub none : (change : Primitive) (tree : Files) → InRange change → find_misfit change tree ≡ None → (next : Files) × Applies change tree next
 
 -- a refusal of a call has a cause that it does not say: a limit, or a change of a record
 abbrev pub wants_cause : Call → Refusal → Bool

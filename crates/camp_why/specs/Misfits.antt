@@ -59,10 +59,10 @@ edit_misfit hunk None = Some NoFile
 edit_misfit hunk (Some lines) = lines_misfit hunk lines
 
 -- why a change does not apply to a tree; none if it does
-abbrev pub why_not : Primitive → Files → Option Misfit
-why_not (Add path) tree = add_misfit (get tree path)
-why_not (Remove path) tree = remove_misfit (get tree path)
-why_not (Hunk hunk) tree = edit_misfit hunk (get tree hunk.path)
+abbrev pub find_misfit : Primitive → Files → Option Misfit
+find_misfit (Add path) tree = add_misfit (get tree path)
+find_misfit (Remove path) tree = remove_misfit (get tree path)
+find_misfit (Hunk hunk) tree = edit_misfit hunk (get tree hunk.path)
 
 -- ---- the meaning of a reason
 
@@ -99,8 +99,8 @@ pub record Edits (change : Primitive) (tree : Files) (hunk : Edit) (lines : Line
   pub found : get tree hunk.path ≡ Some lines
 
 -- the old lines of an edit, of this number, are those of the file, as far as it has any
-abbrev pub StandThere : Edit → Lines → ℕ → Type 0
-StandThere hunk lines count =
+abbrev pub AreInFile : Edit → Lines → ℕ → Type 0
+AreInFile hunk lines count =
     (at : ℕ) (stands expected : List ℕ) → at < count → slice_get hunk.old at ≡ Some expected →
     slice_get lines (hunk.line - 1 + at) ≡ Some stands → stands ≡ expected
 
@@ -113,7 +113,7 @@ pub record ReachesBehind (change : Primitive) (tree : Files) (has wants at : ℕ
   pub counts : has ≡ length lines
   pub reaches : wants ≡ hunk.line - 1 + length hunk.old
   pub behind : has < wants
-  pub alike : StandThere hunk lines (length hunk.old)
+  pub alike : AreInFile hunk lines (length hunk.old)
   pub is_lacked : lacks ≡ slice_get hunk.old (length lines - (hunk.line - 1))
   pub is_at : at ≡ suc (hunk.line - 1 + (length lines - (hunk.line - 1)))
 
@@ -127,7 +127,7 @@ pub record MeetsOther (change : Primitive) (tree : Files) (at : ℕ) (stands exp
   pub is_expected : slice_get hunk.old before ≡ Some expected
   pub is_there : slice_get lines (hunk.line - 1 + before) ≡ Some stands
   pub other : stands ≢ expected
-  pub alike : StandThere hunk lines before
+  pub alike : AreInFile hunk lines before
 
 -- this is why a change does not apply to a tree
 abbrev pub IsMisfit : Primitive → Files → Misfit → Type 0

@@ -10,7 +10,7 @@ use Rattle.camp_branch.specs.Laws.{AppliesEach}
 use Rattle.camp_call.specs.declared.replies.Refusal.{Refusal}
 use Rattle.camp_call.specs.declared.replies.Refusal.TheVariants.{DoesNotApply, TooLarge}
 use Rattle.camp_repo.specs.Steps.{longest_file}
-use Rattle.camp_why.specs.Misfits.{IsMisfit, why_not}
+use Rattle.camp_why.specs.Misfits.{IsMisfit, find_misfit}
 use Rattle.camp_why.specs.declared.misfits.Misfit.{Misfit as Reason}
 use Rattle.camp_why.specs.declared.stops.Hindrance.{Hindrance}
 use Rattle.camp_why.specs.declared.stops.Hindrance.TheVariants.{Misfit, TooLong}
@@ -35,7 +35,7 @@ hindrance_or (Some why) other = Some (Misfit why)
 
 -- why a record can't make a change to a tree: it does not apply, or its file would be too long
 abbrev pub hindrance : Primitive → Files → Option Hindrance
-hindrance change tree = hindrance_or (why_not change tree) (made_long (path_of change) (applied change tree))
+hindrance change tree = hindrance_or (find_misfit change tree) (made_long (path_of change) (applied change tree))
 
 -- it stops here, or continues from this tree
 abbrev pub stop_or : ℕ → Primitive → Option Hindrance → Option Files → (Files → Option Stop) → Option Stop

@@ -53,13 +53,13 @@ pub enum Hint {
     /// It has the first word `end`, and others.
     MoreThanEnd,
     /// It begins with `-`, but comes after a new line.
-    OldBehindNew,
+    OldAfterNew,
     /// It has no sign before it.
     NoSign,
 }
 
 /// Returns the hint on a line that has a fault of a kind.
-pub fn look_at(kind: FaultKind, line: &[u8]) -> Hint
+pub fn find_hint(kind: FaultKind, line: &[u8]) -> Hint
     ensures exact { result ≡ hint kind line.now }
 {
     match kind {
@@ -180,7 +180,7 @@ fn edit_hint(line: &[u8]) -> Hint
         return Hint::MoreThanEnd;
     }
     if line.starts_with(b"-") {
-        return Hint::OldBehindNew;
+        return Hint::OldAfterNew;
     }
     if line.starts_with(b"+") {
         return Hint::Nothing;

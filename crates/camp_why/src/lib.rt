@@ -8,9 +8,9 @@ mod misfits;
 mod stops;
 
 pub use causes::{Cause, explain};
-pub use hints::{Hint, begins_signed, call_part, look_at, misnamed};
+pub use hints::{Hint, begins_signed, call_part, find_hint, misnamed};
 pub use laws::{
     hints_are_seen, misfits_are_reasons, refusals_are_explained, refusals_have_grounds,
 };
-pub use misfits::{Misfit, why_not};
+pub use misfits::{Misfit, find_misfit};
 pub use stops::{Hindrance, Stop};

@@ -1,7 +1,7 @@
 //! Why a change does not apply to a tree.
 ghost use Rattle.std.specs.Prelude.{◌≡◌, ◌-◌, IfOk, Some, drop};
 ghost use Rattle.camp_prim.specs.declared.primitives.Primitive.TheVariants.{Hunk as AHunk, Remove};
-ghost use Rattle.camp_why.specs.Misfits.{ends_before, other_line, why_not};
+ghost use Rattle.camp_why.specs.Misfits.{ends_before, other_line, find_misfit};
 
 use camp_base::{Line, Path, Tree};
 use camp_prim::{Hunk, Primitive};
@@ -34,8 +34,8 @@ pub enum Misfit {
 }
 
 /// Returns why a change does not apply to a tree; `None` if it does.
-pub fn why_not(change: &Primitive, tree: &Tree) -> Result<Option<Misfit>, AllocError>
-    ensures exact { IfOk result (λ found. found ≡ why_not change.now tree.now) }
+pub fn find_misfit(change: &Primitive, tree: &Tree) -> Result<Option<Misfit>, AllocError>
+    ensures exact { IfOk result (λ found. found ≡ find_misfit change.now tree.now) }
 {
     match change {
         Primitive::Add(path) => Ok(tree.file(path).map(|_| Misfit::FileIsThere)),
@@ -45,7 +45,7 @@ pub fn why_not(change: &Primitive, tree: &Tree) -> Result<Option<Misfit>, AllocE
 }
 
 fn remove_misfit(path: &Path, tree: &Tree) -> Option<Misfit>
-    ensures { result ≡ why_not (Remove path.now) tree.now }
+    ensures { result ≡ find_misfit (Remove path.now) tree.now }
 {
     let Some(lines) = tree.file(path) else {
         return Some(Misfit::NoFile);
@@ -57,7 +57,7 @@ fn remove_misfit(path: &Path, tree: &Tree) -> Option<Misfit>
 }
 
 fn edit_misfit(hunk: &Hunk, tree: &Tree) -> Result<Option<Misfit>, AllocError>
-    ensures { IfOk result (λ found. found ≡ why_not (AHunk hunk.now) tree.now) }
+    ensures { IfOk result (λ found. found ≡ find_misfit (AHunk hunk.now) tree.now) }
 {
     let Some(lines) = tree.file(hunk.path()) else {
         return Ok(Some(Misfit::NoFile));

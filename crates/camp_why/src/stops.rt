@@ -4,7 +4,7 @@ ghost use Rattle.camp_prim.specs.Applied.{applied};
 ghost use Rattle.std.specs.FinMap.{get};
 ghost use Rattle.camp_why.specs.Stops.{first_stop, hindrance, long_file};
 
-use crate::misfits::{Misfit, why_not};
+use crate::misfits::{Misfit, find_misfit};
 use camp_base::{Apply, Path, Tree};
 use camp_prim::Primitive;
 use camp_repo::MAX_FILE_LINES;
@@ -53,7 +53,7 @@ fn make(change: &Primitive, tree: &mut Tree) -> Result<Option<Hindrance>, AllocE
     ensures makes { IfOk result (λ found. found ≡ None → applied change.now tree.old ≡ Some tree.new) }
 {
     let path = change.path();
-    if let Some(why) = why_not(change, tree)? {
+    if let Some(why) = find_misfit(change, tree)? {
         return Ok(Some(Hindrance::Misfit(why)));
     }
     match change.apply(tree) {

@@ -10,9 +10,9 @@ use Rattle.camp_talk.specs.declared.faults.TalkFault.{TalkFault}
 use Rattle.camp_talk.specs.declared.faults.TalkFault.TheVariants.{Internal, Memory, Read, Write}
 
 -- the text of an answer, or out of memory
-abbrev pub said_text : {Z E : Type 0} → Result (Vec ℕ Z) E → List ℕ
-said_text (Ok text) = text.items
-said_text (Err error) = memory_text
+abbrev pub answer_or_memory : {Z E : Type 0} → Result (Vec ℕ Z) E → List ℕ
+answer_or_memory (Ok text) = text.items
+answer_or_memory (Err error) = memory_text
 
 -- the writer failed
 abbrev pub IsWriting : TalkFault → Type 0
@@ -29,7 +29,7 @@ IsNotWriting (Write error) = ⊥
 IsNotWriting Internal = Unit {0}
 
 -- the text of the result of a question: its answer, or its refusal as that of a call
-abbrev pub TellsFound : {A : Type 0} → (A → List ℕ) → Result A Unanswered → List ℕ → Type 0
-TellsFound text_of (Ok answer) text = text ≡ text_of answer
-TellsFound text_of (Err why) text =
+abbrev pub RendersFound : {A : Type 0} → (A → List ℕ) → Result A Unanswered → List ℕ → Type 0
+RendersFound text_of (Ok answer) text = text ≡ text_of answer
+RendersFound text_of (Err why) text =
     (refusal : Refusal) × (why ≡ fault.Refused refusal) × (text ≡ reply_text (Refused refusal))

@@ -6,7 +6,7 @@ use Rattle.camp_talk.specs.Talks.{Exchange, ReadsCommand}
 use Rattle.camp_talk.specs.Views.{Sees, SeesAll}
 
 -- a command was read, whole or as far as the input has it, and its answer was appended
-pub record SeesTurn (remaining rest : Option (List ℕ)) (old new : List ℕ) (state : Contents) (before : ℕ)
+pub record SeesStep (remaining rest : Option (List ℕ)) (old new : List ℕ) (state : Contents) (before : ℕ)
     (whole : Bool) (after : ℕ) : Type 0 where
   pub said : Exchange
   pub reads : ReadsCommand remaining rest whole said.command
@@ -14,7 +14,7 @@ pub record SeesTurn (remaining rest : Option (List ℕ)) (old new : List ℕ) (s
   pub grows : new ≡ old ++ said.answer
 
 -- exactly these commands were read and answered so far
-pub record HoldsView (request rest old new : List ℕ) (state : Contents) (lines : ℕ) : Type 0 where
+pub record HasAnsweredView (request rest old new : List ℕ) (state : Contents) (lines : ℕ) : Type 0 where
   pub said : List Exchange
   pub sees : SeesAll state 0 said lines
   pub reads : request ≡ flat_map (λ exchange. exchange.command) said ++ rest

@@ -1,7 +1,7 @@
-use Rattle.camp_talk.specs.Accounts.{Account, no_account}
+use Rattle.camp_talk.specs.Accounts.{Account, no_diagnostic}
 use Rattle.std.proofs.Common.{◌≡◌, ◌∙◌, ℕ, Bool, true, false, List, Ok, refl, rules, subst, sym}
 use Rattle.std.specs.Io.Buffered.{reader_remaining}
-use Rattle.camp_kept_talk.specs.Going.{Comes, Goes}
+use Rattle.camp_kept_talk.specs.Going.{AfterStep, BuffersAnswers}
 use Rattle.camp_kept_talk.proofs.Leading.{at, begins, talk_stops}
 use Rattle.camp_kept_talk.proofs.Stopping.{stays_begun, stays_on}
 use Rattle.camp_kept_talk.proofs.talks.talk_kept.Goals as goal
@@ -13,13 +13,13 @@ loop-held-init g c = (
       let now = g.W.Write.contents c.args.writer.now in
       let kept = c.args.kept.now in
       subst
-      (λ (lines : ℕ). Goes g.D.Disk.seen g.D.Disk.may_leave durable a a now now c.new-held.result.answers.items (at kept.book 0 no_account)
+      (λ (lines : ℕ). BuffersAnswers g.D.Disk.seen g.D.Disk.may_leave durable a a now now c.new-held.result.answers.items (at kept.book 0 no_diagnostic)
       (at kept.book lines c.new-held.result.cause) kept)
       (sym c.new-held.ensures.first)
-      (subst (λ (cause : Account). Goes g.D.Disk.seen g.D.Disk.may_leave durable a a now now c.new-held.result.answers.items (at kept.book 0 no_account) (at kept.book 0 cause) kept)
+      (subst (λ (cause : Account). BuffersAnswers g.D.Disk.seen g.D.Disk.may_leave durable a a now now c.new-held.result.answers.items (at kept.book 0 no_diagnostic) (at kept.book 0 cause) kept)
       (sym c.new-held.ensures.cause)
-      (subst (λ (held : List ℕ). Goes g.D.Disk.seen g.D.Disk.may_leave durable a a now now held (at kept.book 0 no_account) (at kept.book 0 no_account) kept)
-      (sym c.new-held.ensures.none) (begins g.D.Disk.seen g.D.Disk.may_leave durable a now now (at kept.book 0 no_account) kept 0 no_account front holds))),
+      (subst (λ (held : List ℕ). BuffersAnswers g.D.Disk.seen g.D.Disk.may_leave durable a a now now held (at kept.book 0 no_diagnostic) (at kept.book 0 no_diagnostic) kept)
+      (sym c.new-held.ensures.none) (begins g.D.Disk.seen g.D.Disk.may_leave durable a now now (at kept.book 0 no_diagnostic) kept 0 no_diagnostic front holds))),
   refl,
   stays_begun c.args.kept.now c.args.writer.now,
   refl,
@@ -27,38 +27,38 @@ loop-held-init g c = (
 
 pub loop-held-preserved : goal.loop-held-preserved
 loop-held-preserved g c =
-    let more : c.in_ok-stored_turn.field-0 ≡ true = search rules in (
+    let more : c.in_ok-take_stored_step.field-0 ≡ true = search rules in (
       λ durable front holds. subst
-          (λ (more : Bool). Comes g.D.Disk.seen g.D.Disk.may_leave durable (reader_remaining g.R.Read.remaining c.args.reader.now)
-          (reader_remaining g.R.Read.remaining c.stored_turn.new.reader) (g.W.Write.contents c.args.writer.now)
-          (g.W.Write.contents c.stored_turn.new.writer) c.stored_turn.new.held.answers.items
-          (record { history = c.args.kept.now.book; lines = 0; cause = no_account })
-          (record { history = c.stored_turn.new.kept.book; lines = c.stored_turn.new.held.lines; cause = c.stored_turn.new.held.cause }) (Ok more) c.stored_turn.new.kept) more
-          (c.in_ok-stored_turn.ensures.goes durable (reader_remaining g.R.Read.remaining c.args.reader.now) (g.W.Write.contents c.args.writer.now)
-          (record { history = c.args.kept.now.book; lines = 0; cause = no_account }) (c.loop-held.invariant.0 durable front holds)),
+          (λ (more : Bool). AfterStep g.D.Disk.seen g.D.Disk.may_leave durable (reader_remaining g.R.Read.remaining c.args.reader.now)
+          (reader_remaining g.R.Read.remaining c.take_stored_step.new.reader) (g.W.Write.contents c.args.writer.now)
+          (g.W.Write.contents c.take_stored_step.new.writer) c.take_stored_step.new.held.answers.items
+          (record { history = c.args.kept.now.book; lines = 0; cause = no_diagnostic })
+          (record { history = c.take_stored_step.new.kept.book; lines = c.take_stored_step.new.held.lines; cause = c.take_stored_step.new.held.cause }) (Ok more) c.take_stored_step.new.kept) more
+          (c.in_ok-take_stored_step.ensures.goes durable (reader_remaining g.R.Read.remaining c.args.reader.now) (g.W.Write.contents c.args.writer.now)
+          (record { history = c.args.kept.now.book; lines = 0; cause = no_diagnostic }) (c.loop-held.invariant.0 durable front holds)),
       search rules,
       λ stopped.
           let stays = c.loop-held.invariant.2 stopped in
-          stays_on c.args.kept.now c.loop-held.kept c.stored_turn.new.kept c.args.writer.now c.loop-held.writer c.stored_turn.new.writer stays
-          (c.in_ok-stored_turn.ensures.stopped stays.stopped).0,
-      c.in_ok-stored_turn.ensures.faults ∙ c.loop-held.invariant.3,
+          stays_on c.args.kept.now c.loop-held.kept c.take_stored_step.new.kept c.args.writer.now c.loop-held.writer c.take_stored_step.new.writer stays
+          (c.in_ok-take_stored_step.ensures.stopped stays.stopped).0,
+      c.in_ok-take_stored_step.ensures.faults ∙ c.loop-held.invariant.3,
     )
 
-pub returns-in_err-stored_turn-clause-promises : goal.returns-in_err-stored_turn-clause-promises
-returns-in_err-stored_turn-clause-promises g c durable front holds =
+pub returns-in_err-take_stored_step-clause-promises : goal.returns-in_err-take_stored_step-clause-promises
+returns-in_err-take_stored_step-clause-promises g c durable front holds =
     let a = reader_remaining g.R.Read.remaining c.args.reader.now in
     let now = g.W.Write.contents c.args.writer.now in
-    let first = at c.args.kept.now.book 0 no_account in
-    talk_stops g.D.Disk.seen g.D.Disk.may_leave durable a (reader_remaining g.R.Read.remaining c.stored_turn.new.reader) now (g.W.Write.contents c.stored_turn.new.writer) first
-    c.stored_turn.new.kept c.from_residual.result c.in_err-stored_turn.field-0.0 c.from_residual.ensures.1 (c.in_err-stored_turn.ensures.goes durable a now first (c.loop-held.invariant.0 durable front holds))
+    let first = at c.args.kept.now.book 0 no_diagnostic in
+    talk_stops g.D.Disk.seen g.D.Disk.may_leave durable a (reader_remaining g.R.Read.remaining c.take_stored_step.new.reader) now (g.W.Write.contents c.take_stored_step.new.writer) first
+    c.take_stored_step.new.kept c.from_residual.result c.in_err-take_stored_step.field-0.0 c.from_residual.ensures.1 (c.in_err-take_stored_step.ensures.goes durable a now first (c.loop-held.invariant.0 durable front holds))
 
 pub returns-clause-promises : goal.returns-clause-promises
 returns-clause-promises g c durable front holds =
-    let none : c.in_ok-stored_turn.field-0 ≡ false = search rules in
+    let none : c.in_ok-take_stored_step.field-0 ≡ false = search rules in
     subst
-    (λ (more : Bool). Comes g.D.Disk.seen g.D.Disk.may_leave durable (reader_remaining g.R.Read.remaining c.args.reader.now)
-    (reader_remaining g.R.Read.remaining c.stored_turn.new.reader) (g.W.Write.contents c.args.writer.now)
-    (g.W.Write.contents c.stored_turn.new.writer) c.stored_turn.new.held.answers.items (record { history = c.args.kept.now.book; lines = 0; cause = no_account })
-    (record { history = c.stored_turn.new.kept.book; lines = c.stored_turn.new.held.lines; cause = c.stored_turn.new.held.cause }) (Ok more) c.stored_turn.new.kept) none
-    (c.in_ok-stored_turn.ensures.goes durable (reader_remaining g.R.Read.remaining c.args.reader.now) (g.W.Write.contents c.args.writer.now)
-    (record { history = c.args.kept.now.book; lines = 0; cause = no_account }) (c.loop-held.invariant.0 durable front holds))
+    (λ (more : Bool). AfterStep g.D.Disk.seen g.D.Disk.may_leave durable (reader_remaining g.R.Read.remaining c.args.reader.now)
+    (reader_remaining g.R.Read.remaining c.take_stored_step.new.reader) (g.W.Write.contents c.args.writer.now)
+    (g.W.Write.contents c.take_stored_step.new.writer) c.take_stored_step.new.held.answers.items (record { history = c.args.kept.now.book; lines = 0; cause = no_diagnostic })
+    (record { history = c.take_stored_step.new.kept.book; lines = c.take_stored_step.new.held.lines; cause = c.take_stored_step.new.held.cause }) (Ok more) c.take_stored_step.new.kept) none
+    (c.in_ok-take_stored_step.ensures.goes durable (reader_remaining g.R.Read.remaining c.args.reader.now) (g.W.Write.contents c.args.writer.now)
+    (record { history = c.args.kept.now.book; lines = 0; cause = no_diagnostic }) (c.loop-held.invariant.0 durable front holds))

@@ -1,5 +1,5 @@
 use Rattle.camp_talk.proofs.Words.{◌≡◌, ◌∷◌, ◌++◌, [], Bool, true, Ok, refl, rules, subst}
-use Rattle.camp_talk.proofs.TurnLemmas.{leads_on}
+use Rattle.camp_talk.proofs.LeadsLemmas.{leads_on}
 use Rattle.camp_talk.proofs.dialogues.talk.Goals as goal
 
 pub loop-init : goal.loop-init
@@ -8,7 +8,7 @@ loop-init g c = ([], refl)
 pub loop-preserved : goal.loop-preserved
 loop-preserved g c =
     let more : c.in_ok-turn.field-0 ≡ true = search rules in
-    let comes = g.D.Dialogue.comes_to in (
+    let comes = g.D.Dialogue.step_relation in (
       c.loop.invariant.0 ++ c.turn.new.self ∷ [],
       leads_on comes c.args.dialogue.now c.loop.invariant.0 c.loop.dialogue c.turn.new.self c.loop.invariant.1
           (subst (λ (b : Bool). comes c.loop.dialogue (Ok b) c.turn.new.self) more c.in_ok-turn.ensures.turns),

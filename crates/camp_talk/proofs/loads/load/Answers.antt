@@ -1,4 +1,4 @@
-use Rattle.camp_talk.specs.Accounts.{Account, no_account}
+use Rattle.camp_talk.specs.Accounts.{Account, no_diagnostic}
 use Rattle.camp_talk.proofs.Words.{◌≡◌, Bool, true, Ok, rules, subst, sym, Done, Standing, LoadsOne}
 use Rattle.camp_talk.proofs.Loading.{none_done, one_more_done}
 use Rattle.camp_talk.proofs.loads.load.Goals as goal
@@ -6,8 +6,8 @@ use Rattle.camp_talk.proofs.loads.load.Goals as goal
 pub loop-cause-init : goal.loop-cause-init
 loop-cause-init g c =
     let a = g.R.Read.remaining c.args.reader.now in
-    let first : Standing = record { history = c.args.book.now; lines = 0; cause = no_account } in
-    let none : c.new-cause.result ≡ no_account = search rules in
+    let first : Standing = record { history = c.args.book.now; lines = 0; cause = no_diagnostic } in
+    let none : c.new-cause.result ≡ no_diagnostic = search rules in
     subst (λ (cause : Account). Done a a first (record { history = c.args.book.now; lines = 0; cause = cause })) (sym none) (none_done a first)
 
 pub loop-cause-preserved : goal.loop-cause-preserved

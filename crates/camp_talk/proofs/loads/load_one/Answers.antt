@@ -1,4 +1,4 @@
-use Rattle.camp_talk.proofs.Words.{◌≡◌, true, false, Bool, subst, arith, rules, sym, ap, ◌∙◌, ReadsCommand, tells_failure}
+use Rattle.camp_talk.proofs.Words.{◌≡◌, true, false, Bool, subst, arith, rules, sym, ap, ◌∙◌, ReadsCommand, reports_failure}
 use Rattle.camp_talk.proofs.Firsts.{command_long}
 use Rattle.camp_talk.proofs.Loading.{one_done, one_fails, one_wants}
 use Rattle.camp_talk.proofs.loads.load_one.Goals as goal
@@ -6,21 +6,21 @@ use Rattle.camp_talk.proofs.loads.load_one.Goals as goal
 pub returns-in_default-clause-loads : goal.returns-in_default-clause-loads
 returns-in_default-clause-loads g c = one_wants c.in-Ok.ensures.hears c.in_default.is c.in-Ok.ensures.line
 
-pub returns-then-tells_failure-clause-loads : goal.returns-then-tells_failure-clause-loads
-returns-then-tells_failure-clause-loads g c =
-    let failure : tells_failure c.in-Ok-said.text.items ≡ true =
-    ap tells_failure (sym c.deref.ensures.value) ∙ sym c.tells_failure.ensures ∙ c.if-tells_failure.true in
+pub returns-then-reports_failure-clause-loads : goal.returns-then-reports_failure-clause-loads
+returns-then-reports_failure-clause-loads g c =
+    let failure : reports_failure c.in-Ok-said.text.items ≡ true =
+    ap reports_failure (sym c.deref.ensures.value) ∙ sym c.reports_failure.ensures ∙ c.if-reports_failure.true in
     one_fails c.in-Ok.ensures.hears c.in-Ok-said.is failure c.in-Ok.ensures.line
 
 pub returns-clause-loads : goal.returns-clause-loads
 returns-clause-loads g c =
-    let well : tells_failure c.in-Ok-said.text.items ≡ false =
-    ap tells_failure (sym c.deref.ensures.value) ∙ sym c.tells_failure.ensures ∙ c.if-tells_failure.false in
+    let well : reports_failure c.in-Ok-said.text.items ≡ false =
+    ap reports_failure (sym c.deref.ensures.value) ∙ sym c.reports_failure.ensures ∙ c.if-reports_failure.false in
     one_done c.in-Ok.ensures.hears c.in-Ok-said.is well
 
 pub returns-clause-counts : goal.returns-clause-counts
 returns-clause-counts g c =
     let hears = c.in-Ok.ensures.hears in
     λ (more : c.in-Ok.heard.is_whole ≡ true).
-    let reads = subst (λ (w : Bool). ReadsCommand (g.R.Read.remaining c.args.reader.now) (g.R.Read.remaining c.hear.new.reader) w hears.command) more hears.reads in
+    let reads = subst (λ (w : Bool). ReadsCommand (g.R.Read.remaining c.args.reader.now) (g.R.Read.remaining c.execute_next.new.reader) w hears.command) more hears.reads in
     record { rises = omega (arith, hears.counts, command_long hears.command reads.1); counted = search rules }

@@ -1,4 +1,4 @@
-use Rattle.camp_talk.proofs.Words.{◌≡◌, ◌+◌, ℕ, Bool, List, length, true, ap, arith, rules, subst, ◌∙◌, Gives, ReadsCommand, as_read, asked_of, length-map, lines_in, lines_of}
+use Rattle.camp_talk.proofs.Words.{◌≡◌, ◌+◌, ℕ, Bool, List, length, true, ap, arith, rules, subst, ◌∙◌, Gives, ReadsCommand, as_read, parsed_lines, length-map, lines_in, lines_of}
 use Rattle.camp_talk.proofs.Firsts.{command_long}
 use Rattle.camp_talk.proofs.ViewLemmas.{not_writing}
 use Rattle.camp_talk.proofs.views.see.Goals as goal
@@ -14,12 +14,12 @@ returns-in-Ok-shown-clause-sees g c =
     let shown = c.in-Ok-shown.ensures.shows in
     let lines : length (lines_of command.bytes.items) ≡ length (lines_of read.command) =
     ap (λ (ls : List (List ℕ)). length ls) read.lines ∙ length-map (lines_of read.command) as_read in
-    let gives = subst (λ (ls : List (List ℕ)). Gives command.asked (asked_of ls)) read.lines c.in-Ok.ensures.asked in
+    let gives = subst (λ (ls : List (List ℕ)). Gives command.asked (parsed_lines ls)) read.lines c.in-Ok.ensures.asked in
     record {
       said = record { command = read.command; answer = shown.0 };
       reads = read.reads;
       sees = record {
-        shows = shown.2 (asked_of (lines_in read.command)) gives;
+        shows = shown.2 (parsed_lines (lines_in read.command)) gives;
         counts = c.in-Ok-shown.ensures.counts.0 ∙ ap (λ (n : ℕ). c.args.lines.now + n) lines;
       };
       grows = shown.1;

@@ -1,5 +1,0 @@
-use Rattle.camp_talk.proofs.Whys.{refusals_told}
-use Rattle.camp_talk.proofs.laws.refusals_are_told.Goals as goal
-
-pub returns : goal.returns
-returns c = record { law = refusals_told }

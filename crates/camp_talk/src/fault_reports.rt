@@ -1,0 +1,282 @@
+//! Why a command with a fault was not done.
+ghost use Rattle.std.specs.Prelude.{◌≡◌, ◌++◌, IfOk, codes, take};
+ghost use Rattle.camp_script.specs.Lines.{lines_of};
+ghost use Rattle.camp_talk.specs.Whys.{recovery_text, body_rule, is_consequence, cut_off, cut_text, own_fault_diagnostic, fault_diagnostic, fault_lines, hint_text, is_no_command, line_at, may_record, misnamed_text, most_shown, rule, shown_line, word_text};
+
+use crate::Account;
+use crate::asking::first_line;
+use crate::awaited::{Awaited, begins_command, is_record, recovery_of_line};
+use crate::questions::Reason;
+use crate::told::{both, joined};
+use crate::refusal_texts::cure;
+use crate::visible::visible;
+use bstr::ByteSlice;
+use camp_script::{FaultKind, LineFault, without_end};
+use camp_why::{Hint, find_hint, misnamed};
+use std::alloc::{AllocError, Global};
+
+/// The most bytes of a line that are shown.
+const SHOWN: usize = 200;
+
+/// Makes the diagnostic of a command with a fault. If that is the consequence of a fault before it, the
+/// diagnostic of that one stays.
+pub(crate) fn fault_diagnostic(
+    alloc: Global,
+    before: &Account,
+    fault: &LineFault,
+    command: &[u8],
+    answer: &[u8],
+) -> Result<Account, AllocError>
+    ensures { IfOk result (λ cause. cause ≡ fault_diagnostic before.now fault.now (lines_of command.now) answer.now) }
+{
+    let line = first_line(command);
+    if is_consequence(before.awaited(), fault.kind, line) {
+        return before.passed(alloc, line);
+    }
+    own_fault_diagnostic(alloc, fault, command, answer)
+}
+
+// Makes the diagnostic of a command with a fault of its own, with the lines that may follow it.
+fn own_fault_diagnostic(
+    alloc: Global,
+    fault: &LineFault,
+    command: &[u8],
+    answer: &[u8],
+) -> Result<Account, AllocError>
+    ensures { IfOk result (λ cause. cause ≡ own_fault_diagnostic fault.now (lines_of command.now) answer.now) }
+{
+    let awaited = cut_off(fault.line, fault.kind, first_line(command));
+    let line = line_at(command, fault.line);
+    let told = fault_lines(alloc, fault.kind, line, answer, awaited);
+    Account::of(told, awaited)
+}
+
+// True if a fault is the consequence of one before it: its line begins no command, and may be one of a body
+// or a group that was cut off.
+fn is_consequence(awaited: Awaited, kind: FaultKind, line: &[u8]) -> bool
+    ensures { result ≡ is_consequence awaited kind line.now }
+{
+    awaited.may_be(line) && is_no_command(kind, line)
+}
+
+// True if a line with a fault of a kind begins no command.
+fn is_no_command(kind: FaultKind, line: &[u8]) -> bool
+    ensures { result ≡ is_no_command kind line.now }
+{
+    kind == FaultKind::UnknownCommand && !begins_command(line)
+}
+
+// Returns the lines that may follow a command with a fault of a kind in the line of a number: if that is its
+// first, those that it was cut off from.
+fn cut_off(number: u64, kind: FaultKind, line: &[u8]) -> Awaited
+    ensures { result ≡ cut_off number kind line.now }
+{
+    if number == 1 && may_record(kind, line) {
+        return recovery_of_line(line);
+    }
+    Awaited::Nothing
+}
+
+// True if a line with a fault of a kind is a record, or may be one whose first word is misspelt.
+fn may_record(kind: FaultKind, line: &[u8]) -> bool
+    ensures { result ≡ may_record kind line.now }
+{
+    is_record(line) || is_no_command(kind, line)
+}
+
+// Returns the line of a number, counted from 1, or an empty one.
+fn line_at(command: &[u8], number: u64) -> &[u8]
+    ensures { result.now ≡ line_at number (lines_of command.now) }
+{
+    let before = number.saturating_sub(1) as usize;
+    match command.lines_with_terminator().nth(before) {
+        Some(line) => without_end(line),
+        None => &[],
+    }
+}
+
+// Renders the report on a command with a fault: its answer, the line, the hint on it, the rule, what to
+// write, and which lines after it are taken for its own.
+fn fault_lines(
+    alloc: Global,
+    kind: FaultKind,
+    line: &[u8],
+    answer: &[u8],
+    awaited: Awaited,
+) -> Result<Vec<u8>, AllocError>
+    ensures { IfOk result (λ text. text.items ≡ fault_lines kind line.now answer.now awaited) }
+{
+    let hint = hint_text(find_hint(kind, line)).as_bytes();
+    let awaited = recovery_text(awaited).as_bytes();
+    let rules = joined(alloc, &[hint, rule(kind).as_bytes(), awaited]);
+    let front = both(with_line(alloc, answer, line), word_text(alloc, kind, line));
+    both(front, rules)
+}
+
+// Renders that the lines after it are taken for its own, if it has some.
+fn recovery_text(awaited: Awaited) -> &'static str
+    ensures { result.now ≡ recovery_text awaited }
+{
+    match awaited {
+        Awaited::Nothing | Awaited::Signed => "",
+        Awaited::Body => {
+            "Behind it lines that begin no command are taken for its body, up to end.\n"
+        }
+        Awaited::Group | Awaited::GroupBody => {
+            "Behind it lines that begin no command are taken for its group, up to done.\n"
+        }
+    }
+}
+
+/// Renders an answer, followed by the line of its command after `>`, as much of it as is shown, by visible
+/// bytes.
+pub(crate) fn with_line(alloc: Global, answer: &[u8], line: &[u8]) -> Result<Vec<u8>, AllocError>
+    ensures { IfOk result (λ text. text.items ≡ answer.now ++ shown_line line.now) }
+{
+    let start = visible(alloc, shown(line))?;
+    let end = shown_end(line).as_bytes();
+    joined(alloc, &[answer, b">", start.as_slice(), end])
+}
+
+// Returns the start of a line, as much as is shown.
+fn shown(line: &[u8]) -> &[u8]
+    ensures { result.now ≡ take most_shown line.now }
+{
+    &line[..SHOWN.min(line.len())]
+}
+
+// Renders what follows the start of a line that is shown: a line feed and, if the line has more bytes, that
+// it has.
+fn shown_end(line: &[u8]) -> &str
+    ensures { result.now ≡ codes "\n" ++ cut_text line.now }
+{
+    if line.len() > SHOWN {
+        return "\nIts first 200 bytes are shown, and it has more.\n";
+    }
+    "\n"
+}
+
+// Renders which word has the fault, if it is one of many.
+fn word_text(alloc: Global, kind: FaultKind, line: &[u8]) -> Result<Vec<u8>, AllocError>
+    ensures { IfOk result (λ text. text.items ≡ word_text kind line.now) }
+{
+    match kind {
+        FaultKind::BadName => misnamed_text(alloc, misnamed(line)),
+        _ => Ok(Vec::new(alloc)),
+    }
+}
+
+fn misnamed_text(alloc: Global, word: &[u8]) -> Result<Vec<u8>, AllocError>
+    ensures { IfOk result (λ text. text.items ≡ misnamed_text word.now) }
+{
+    if word.len() > SHOWN {
+        return Vec::from_slice(alloc, b"A word of more than 200 bytes is no name.\n");
+    }
+    let word = visible(alloc, word)?;
+    joined(alloc, &[b"This is no name: ", word.as_slice(), b"\n"])
+}
+
+// Renders that a line of a body is empty.
+const EMPTY: &str = "It is empty: for an empty line of the file write - or + alone.\n\
+    If the body was to be over, a line that is just end is missing.\n";
+
+// Renders that a line of a body begins with a blank.
+const BLANK: &str = "It begins with a blank: the sign comes first, and end stands alone.\n\
+    If the body was to be over, a line that is just end is missing.\n";
+
+// Renders that an edit reaches too far.
+const TOO_FAR: &str =
+    "The edit reaches too far: LINE and the numbers of lines of both sides add up to too much.\n";
+
+// Renders that a line of a body has no sign.
+const NO_SIGN: &str =
+    "It has no sign, - or +. If the body was to be over, a line that is just end is missing.\n";
+
+// Renders the hint on the line.
+fn hint_text(hint: Hint) -> &'static str
+    ensures { result.now ≡ hint_text hint }
+{
+    match hint {
+        Hint::Nothing => "",
+        Hint::OfBody => {
+            "It begins with - or +, as a line of a body does, and no body has begun here.\n"
+        }
+        Hint::OfScript => "It is a line of scripts alone: a conversation has one client.\n",
+        Hint::NoChange => {
+            "The fourth word of a record is add, remove, edit or group; a name has no blank.\n"
+        }
+        Hint::NoCall => {
+            "Behind whatif stands branch, record, pull, obliterate, tree, conflicts or names.\n"
+        }
+        Hint::NoTopic => "Behind help stands the first word of a command, or refused.\n",
+        Hint::OfInner => "It is a line of a body or a group, and none has begun here.\n",
+        Hint::TooLong => {
+            "It has 4098 bytes, the second is ?: a line of more than 1048576 bytes is read like that.\n"
+        }
+        Hint::CarriageReturn => "It ends with a carriage return: end each line with LF alone.\n",
+        Hint::Strange => {
+            "It has a byte that is no printing ASCII character: commands, names and paths have none.\n"
+        }
+        Hint::Quotes => {
+            "It has a quotation mark: quotes do not join words, and no command or name has one.\n"
+        }
+        Hint::Capitals => "It has a capital letter: commands, names and end have none.\n",
+        Hint::Zero => "The number is 0, and the least is 1.\n",
+        Hint::ZeroInFront => "The number begins with 0: write it without a zero in front.\n",
+        Hint::Empty => EMPTY,
+        Hint::Blank => BLANK,
+        Hint::NoLine => "The body has no line: both sides are empty.\n",
+        Hint::TooFar => TOO_FAR,
+        Hint::MoreThanEnd => "It begins with end and is more: just end ends a body.\n",
+        Hint::OldAfterNew => "An old line stands behind a new one: all - come before all +.\n",
+        Hint::NoSign => NO_SIGN,
+    }
+}
+
+// Renders the broken rule, and what to write.
+fn rule(kind: FaultKind) -> &'static str
+    ensures { result.now ≡ rule kind }
+{
+    match kind {
+        FaultKind::UnknownCommand => {
+            "A line begins with a command; a record says BRANCH, NAME, and then add, remove, edit or group:\n\
+            help tells all. A name has no blank. A line of a body stands only behind an edit whose first\n\
+            line has no fault. A line of more than 1048576 bytes is no command.\n"
+        }
+        FaultKind::WrongNumberOfWords => {
+            "There are too few words, or too many; a name or a path has no blank. help COMMAND tells\n\
+            how a command is written.\n"
+        }
+        FaultKind::BadName => cure(Reason::BadName),
+        FaultKind::BadPath => cure(Reason::BadPath),
+        FaultKind::BadNumber => {
+            "LINE is a number from 1 to 1073741823 in 1 to 10 digits. LINE and the numbers of old and\n\
+            of new lines add up to 1073741824 at most. The number of a refusal is one from 1 to 14.\n"
+        }
+        FaultKind::BadLine => cure(Reason::BadLine),
+        other => body_rule(other),
+    }
+}
+
+// Renders the broken rule of a body or a group, or of a number of lines, and what to write.
+fn body_rule(kind: FaultKind) -> &'static str
+    ensures { result.now ≡ body_rule kind }
+{
+    match kind {
+        FaultKind::BadEdit => {
+            "A body has old lines, each behind -, then new ones, each behind +, one at least in\n\
+            all, and then a line that is just end.\n"
+        }
+        FaultKind::EditNotEnded => {
+            "The body of an edit ends with a line that is just end. Write it.\n"
+        }
+        FaultKind::TooManyClients => "A script has 63 lines client at most.\n",
+        FaultKind::TooManyCommands => "A section has 65536 commands that write at most.\n",
+        FaultKind::BadGroup => {
+            "A group has 1 to 64 changes: add PATH, remove PATH, or edit PATH LINE with its body.\n\
+            Then comes the line done.\n"
+        }
+        FaultKind::GroupNotEnded => "A group ends with the line done. Write it.\n",
+        _ => "",
+    }
+}

@@ -1,0 +1,24 @@
+//! The graph of a branch as a text.
+ghost use Rattle.std.specs.Prelude.{IfOk};
+ghost use Rattle.camp_talk.specs.Inside.Said.{RendersFound};
+ghost use Rattle.camp_talk.specs.Told.{graph_answer};
+
+use crate::told::{counted, unanswered};
+use camp_questions::{Picture, Unanswered, graph_text};
+use std::alloc::{AllocError, Global};
+
+/// Renders dependencies and conflicts in DOT.
+pub(crate) fn render_graph(
+    alloc: Global,
+    found: Result<Picture, Unanswered>,
+) -> Result<Vec<u8>, AllocError>
+    ensures { IfOk result (λ text. RendersFound graph_answer found text.items) }
+{
+    match found {
+        Ok(picture) => {
+            let text = graph_text(alloc, &picture)?;
+            counted(alloc, "graph", text.as_bytes())
+        }
+        Err(why) => unanswered(alloc, why),
+    }
+}

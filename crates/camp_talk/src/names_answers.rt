@@ -1,0 +1,42 @@
+//! Questions that are answered with names, as texts.
+ghost use Rattle.std.specs.Prelude.{◌≡◌, codes, IfOk};
+ghost use Rattle.camp_questions.specs.Files.{branch_names};
+ghost use Rattle.camp_talk.specs.Inside.Said.{RendersFound};
+ghost use Rattle.camp_talk.specs.Told.{names_answer};
+
+use crate::told::{counted, unanswered};
+use camp_questions::{Unanswered, branches};
+use camp_repo::{Names, State};
+use camp_script::append_names;
+use std::alloc::{AllocError, Global};
+
+/// Renders the names that answer a question, after the word of its command.
+pub(crate) fn render_found(
+    alloc: Global,
+    word: &str,
+    found: Result<Names, Unanswered>,
+) -> Result<Vec<u8>, AllocError>
+    ensures { IfOk result (λ text. RendersFound (names_answer word.now) found text.items) }
+{
+    match found {
+        Ok(names) => render_names(alloc, word, &names),
+        Err(why) => unanswered(alloc, why),
+    }
+}
+
+/// Renders the names of the branches.
+pub(crate) fn render_branches(alloc: Global, state: &State) -> Result<Vec<u8>, AllocError>
+    ensures { IfOk result (λ text. text.items ≡ names_answer (codes "branches") (branch_names state.now)) }
+{
+    let names = branches(alloc, state)?;
+    render_names(alloc, "branches", &names)
+}
+
+// Renders names after the word of their command.
+fn render_names(alloc: Global, word: &str, names: &Names) -> Result<Vec<u8>, AllocError>
+    ensures { IfOk result (λ text. text.items ≡ names_answer word.now names.now) }
+{
+    let mut lines = Vec::new(alloc);
+    append_names(&mut lines, names.as_slice())?;
+    counted(alloc, word, &lines)
+}

@@ -1,0 +1,369 @@
+//! What prevents a command that is refused: the branches that it names, and what exists and what does not.
+ghost use Rattle.std.specs.List.{flat_map};
+ghost use Rattle.std.specs.Prelude.{◌≡◌, ◌++◌, IfOk, OnOk, Some, codes, take};
+ghost use Rattle.camp_talk.specs.Against.{about, absent_sides, absent_text, branches_line, depends_cure, had_text, holders, holders_line, holds, lack_line, lack_text, lacked_text, lacks, more_names, most_names, names_line, new_text, nothing_text, other_target, role_word, record_cure, recorded_text, sides_text, target};
+
+use crate::questions::{Asked, Question, Reason};
+use crate::told::{append_parts, both, joined};
+use crate::refusal_texts::cure;
+use camp_base::Name;
+use camp_call::Call;
+use camp_repo::{Branch, State};
+use std::alloc::{AllocError, Global};
+
+/// The most names on a line.
+const MOST_NAMES: usize = 20;
+
+/// Where a command names a branch: as FROM, or as BRANCH.
+#[derive(Clone, Copy)]
+pub(crate) enum Place {
+    From,
+    Branch,
+}
+
+/// Renders the branches that a command names as FROM, as BRANCH and as TO.
+pub(crate) fn render_sides(alloc: Global, asked: &Asked) -> Result<Vec<u8>, AllocError>
+    ensures { IfOk result (λ text. text.items ≡ sides_text (about asked.now) (target asked.now)) }
+{
+    let Some((place, branch)) = about(asked) else {
+        return Ok(Vec::new(alloc));
+    };
+    let place = role_word(place).as_bytes();
+    let Some(to) = target(asked) else {
+        return joined(alloc, &[place, b" is ", branch.bytes(), b".\n"]);
+    };
+    let (from, to) = (branch.bytes(), to.bytes());
+    joined(alloc, &[place, b" is ", from, b", and TO is ", to, b".\n"])
+}
+
+/// Renders those of the branches that a command names that do not exist; and the branches that do.
+pub(crate) fn render_absent(
+    alloc: Global,
+    state: &State,
+    asked: &Asked,
+) -> Result<Vec<u8>, AllocError>
+    ensures { IfOk result (λ text.
+        text.items ≡ absent_sides state.now (about asked.now) (target asked.now) ++ branches_line state.now) }
+{
+    let mut text = Vec::new(alloc);
+    let place = about(asked);
+    let to = other_target(&place, target(asked));
+    if let Some((_, branch)) = &place {
+        append_absent(&mut text, state, branch)?;
+    }
+    if let Some(to) = &to {
+        append_absent(&mut text, state, to)?;
+    }
+    both(Ok(text), render_branches(alloc, state))
+}
+
+/// Renders that the branch that a call would create exists; and the branches.
+pub(crate) fn render_new(alloc: Global, state: &State, asked: &Asked) -> Result<Vec<u8>, AllocError>
+    ensures { IfOk result (λ text. text.items ≡ new_text state.now asked.now ++ branches_line state.now) }
+{
+    both(new_text(alloc, state, asked), render_branches(alloc, state))
+}
+
+/// Renders the branches.
+pub(crate) fn render_branches(alloc: Global, state: &State) -> Result<Vec<u8>, AllocError>
+    ensures { IfOk result (λ text. text.items ≡ branches_line state.now) }
+{
+    names_line(alloc, &[b"Branches:"], state.names())
+}
+
+/// Renders the branches that have the patch that a call would record.
+pub(crate) fn render_recorded(
+    alloc: Global,
+    state: &State,
+    asked: &Asked,
+) -> Result<Vec<u8>, AllocError>
+    ensures { IfOk result (λ text. text.items ≡ recorded_text state.now asked.now) }
+{
+    match asked {
+        Asked::Call(Call::Record { name, .. }) => render_holders(alloc, state, name),
+        _ => Ok(Vec::new(alloc)),
+    }
+}
+
+/// Renders that a branch lacks a patch that a command names, and which branches have it.
+pub(crate) fn render_lacked(
+    alloc: Global,
+    state: &State,
+    asked: &Asked,
+) -> Result<Vec<u8>, AllocError>
+    ensures { IfOk result (λ text. text.items ≡ lacked_text state.now asked.now (about asked.now)) }
+{
+    let Some((_, name)) = about(asked) else {
+        return Ok(Vec::new(alloc));
+    };
+    let Some(branch) = state.branch(&name) else {
+        return Ok(Vec::new(alloc));
+    };
+    match lacks(branch, asked) {
+        Some(patch) => lack_text(alloc, state, &name, &patch),
+        None => Ok(Vec::new(alloc)),
+    }
+}
+
+/// Renders the patches of FROM that a pull would bring, if TO has all.
+pub(crate) fn render_nothing(
+    alloc: Global,
+    state: &State,
+    asked: &Asked,
+) -> Result<Vec<u8>, AllocError>
+    ensures { IfOk result (λ text. text.items ≡ nothing_text state.now asked.now) }
+{
+    let Asked::Call(Call::Pull { from, names, .. }) = asked else {
+        return Ok(Vec::new(alloc));
+    };
+    let Some(theirs) = state.branch(from) else {
+        return Ok(Vec::new(alloc));
+    };
+    match names {
+        Some(names) => had_text(alloc, names.as_slice()),
+        None => {
+            let all = theirs.names()?;
+            had_text(alloc, &all)
+        }
+    }
+}
+
+fn had_text(alloc: Global, names: &[Name]) -> Result<Vec<u8>, AllocError>
+    ensures { IfOk result (λ text. text.items ≡ had_text (Some names.now)) }
+{
+    if names.is_empty() {
+        return Vec::from_slice(alloc, b"FROM has no patch.\n");
+    }
+    names_line(alloc, &[b"TO has already:"], names)
+}
+
+/// Renders the hint if the patch exists that a call would record.
+pub(crate) fn record_cure(state: &State, asked: &Asked) -> &'static str
+    ensures { result.now ≡ record_cure state.now asked.now }
+{
+    match asked {
+        Asked::Call(Call::Record { branch, name, .. }) => {
+            if holds(state, name, branch) {
+                return "Take another name.\n";
+            }
+            cure(Reason::PatchExists)
+        }
+        _ => cure(Reason::PatchExists),
+    }
+}
+
+/// Renders the hint if one patch depends on another.
+pub(crate) fn depends_cure(asked: &Asked) -> &'static str
+    ensures { result.now ≡ depends_cure asked.now }
+{
+    match asked {
+        Asked::Call(Call::Obliterate { .. }) => {
+            "List PATCH too; held tells all that has to go.\n"
+        }
+        _ => "List ON too; along tells all that a pull has to list.\n",
+    }
+}
+
+// Returns the branch TO, if it is another one than the branch that a command is about.
+fn other_target(place: &Option<(Place, Name)>, to: Option<Name>) -> Option<Name>
+    ensures { result ≡ other_target place.now to }
+{
+    let Some((_, branch)) = place else {
+        return to;
+    };
+    let Some(to) = to else {
+        return None;
+    };
+    if *branch == to {
+        return None;
+    }
+    Some(to)
+}
+
+// Returns the word for a branch in the form of a command.
+fn role_word(place: Place) -> &'static str
+    ensures { result.now ≡ role_word place }
+{
+    match place {
+        Place::From => "FROM",
+        Place::Branch => "BRANCH",
+    }
+}
+
+// Returns the branch from which a command takes something, or that it is about.
+fn about(asked: &Asked) -> Option<(Place, Name)>
+    ensures { result ≡ about asked.now }
+{
+    match asked {
+        Asked::Call(Call::Branch { from, .. } | Call::Pull { from, .. })
+        | Asked::Question(Question::Missing { from, .. } | Question::Along { from, .. }) => {
+            Some((Place::From, *from))
+        }
+        Asked::Call(
+            Call::Record { branch, .. }
+            | Call::Obliterate { branch, .. }
+            | Call::Tree(branch)
+            | Call::Conflicts(branch)
+            | Call::Names(branch),
+        )
+        | Asked::Question(
+            Question::Needs { branch, .. }
+            | Question::Held { branch, .. }
+            | Question::Show { branch, .. }
+            | Question::Annotate { branch, .. }
+            | Question::Open(branch)
+            | Question::Side { branch, .. }
+            | Question::Marks { branch, .. }
+            | Question::File { branch, .. }
+            | Question::Graph { branch, .. },
+        ) => Some((Place::Branch, *branch)),
+        _ => None,
+    }
+}
+
+// Returns the branch that a command names as TO.
+fn target(asked: &Asked) -> Option<Name>
+    ensures { result ≡ target asked.now }
+{
+    match asked {
+        Asked::Call(Call::Pull { to, .. })
+        | Asked::Question(Question::Missing { to, .. } | Question::Along { to, .. }) => Some(*to),
+        _ => None,
+    }
+}
+
+// Returns the first patch that a command names and a branch lacks.
+fn lacks(branch: &Branch, asked: &Asked) -> Option<Name>
+    ensures { result ≡ lacks branch.now asked.now }
+{
+    match asked {
+        Asked::Call(
+            Call::Pull {
+                names: Some(names),
+                ..
+            }
+            | Call::Obliterate { names, .. },
+        )
+        | Asked::Question(
+            Question::Needs { names, .. }
+            | Question::Held { names, .. }
+            | Question::Along { names, .. }
+            | Question::Graph { names, .. },
+        ) => branch.first_lacked(names.as_slice()),
+        Asked::Question(Question::Show { name, .. } | Question::Side { name, .. }) => {
+            branch.first_lacked(&[*name])
+        }
+        _ => None,
+    }
+}
+
+// Appends that there is no branch of a name, if there is none.
+fn append_absent(text: &mut Vec<u8>, state: &State, branch: &Name) -> Result<(), AllocError>
+    ensures { OnOk result (text.new.items ≡ text.old.items ++ absent_text state.now branch.now) }
+{
+    if state.branch(branch).is_some() {
+        return Ok(());
+    }
+    append_parts(text, &[b"There is no branch ", branch.bytes(), b".\n"])
+}
+
+// Appends that the branch that a call would create exists, if it does.
+fn new_text(alloc: Global, state: &State, asked: &Asked) -> Result<Vec<u8>, AllocError>
+    ensures { IfOk result (λ text. text.items ≡ new_text state.now asked.now) }
+{
+    match asked {
+        Asked::Call(Call::Branch { new, .. }) if state.branch(new).is_some() => {
+            joined(alloc, &[b"There is a branch ", new.bytes(), b".\n"])
+        }
+        _ => Ok(Vec::new(alloc)),
+    }
+}
+
+// Appends that a branch lacks a patch, and which branches have it.
+fn lack_text(
+    alloc: Global,
+    state: &State,
+    branch: &Name,
+    patch: &Name,
+) -> Result<Vec<u8>, AllocError>
+    ensures { IfOk result (λ text. text.items ≡ lack_text state.now branch.now (Some patch.now)) }
+{
+    both(
+        lack_line(alloc, branch, patch),
+        render_holders(alloc, state, patch),
+    )
+}
+
+fn lack_line(alloc: Global, branch: &Name, patch: &Name) -> Result<Vec<u8>, AllocError>
+    ensures { IfOk result (λ text. text.items ≡ lack_line branch.now patch.now) }
+{
+    let (branch, patch) = (branch.bytes(), patch.bytes());
+    joined(
+        alloc,
+        &[b"Branch ", branch, b" has no patch ", patch, b".\n"],
+    )
+}
+
+fn render_holders(alloc: Global, state: &State, patch: &Name) -> Result<Vec<u8>, AllocError>
+    ensures { IfOk result (λ text. text.items ≡ holders_line patch.now (holders state.now patch.now)) }
+{
+    let holders = holders(alloc, state, patch)?;
+    holders_line(alloc, patch, &holders)
+}
+
+// Returns the branches that have a patch.
+fn holders(alloc: Global, state: &State, patch: &Name) -> Result<Vec<Name>, AllocError>
+    ensures { IfOk result (λ names. names.items ≡ holders state.now patch.now) }
+{
+    let mut names = Vec::from_slice(alloc, state.names())?;
+    names.retain(|branch| holds(state, patch, branch));
+    Ok(names)
+}
+
+fn holds(state: &State, patch: &Name, branch: &Name) -> bool
+    ensures { result ≡ holds state.now patch.now branch.now }
+{
+    match state.branch(branch) {
+        Some(branch) => branch.has_patch(patch),
+        None => false,
+    }
+}
+
+// Appends the branches that have a patch, or that there is none.
+fn holders_line(alloc: Global, patch: &Name, branches: &[Name]) -> Result<Vec<u8>, AllocError>
+    ensures { IfOk result (λ text. text.items ≡ holders_line patch.now branches.now) }
+{
+    if branches.is_empty() {
+        return joined(alloc, &[b"No branch has ", patch.bytes(), b".\n"]);
+    }
+    names_line(alloc, &[b"Branches with ", patch.bytes(), b":"], branches)
+}
+
+// Appends words followed by names: at most a limit, then `..` if there are more.
+fn names_line(alloc: Global, words: &[&[u8]], names: &[Name]) -> Result<Vec<u8>, AllocError>
+    ensures { IfOk result (λ text. text.items ≡ names_line (flat_map (λ part. part.now) words.now) names.now) }
+{
+    let mut text = joined(alloc, words)?;
+    let told = first_names(names);
+    for name in told {
+        append_parts(&mut text, &[b" ", name.bytes()])?;
+    }
+    text.extend_from_slice(more_names(names).as_bytes())?;
+    Ok(text)
+}
+
+// Appends that there are more names than are shown, if there are, and the end of the line.
+fn more_names(names: &[Name]) -> &'static str
+    ensures { result.now ≡ more_names names.now ++ codes "\n" }
+{
+    if names.len() > MOST_NAMES {
+        return " ..\n";
+    }
+    "\n"
+}
+
+fn first_names(names: &[Name]) -> &[Name]
+    ensures { result.now ≡ take most_names names.now }
+{
+    &names[..MOST_NAMES.min(names.len())]
+}

@@ -1,0 +1,69 @@
+//! The answers to questions.
+ghost use Rattle.std.specs.Prelude.{IfOk};
+ghost use Rattle.camp_talk.specs.Told.{AnswersQuestionAt, AnswersQuestion};
+
+use crate::Question;
+use crate::told::counted_text;
+use crate::conflict_answers::{render_marks, render_open, render_side};
+use crate::what_if_answers::render_foreseen;
+use crate::graph_answers::render_graph;
+use crate::help_answers::render_help;
+use crate::file_answers::{render_annotated, render_file};
+use crate::names_answers::{render_branches, render_found};
+use crate::show_answers::render_shown;
+use camp_questions::{
+    along, annotate, file, held_by, marks, missing, needs, open_pairs, picture_of, show, side,
+};
+use camp_repo::{Book, Call, State};
+use camp_script::{history_text, kept_text};
+use std::alloc::{AllocError, Global};
+
+/// Renders the answer to a question about the repository of a book.
+pub fn answer_question(
+    alloc: Global,
+    book: &Book<State>,
+    question: &Question,
+) -> Result<Vec<u8>, AllocError>
+    ensures text { IfOk result (λ text. AnswersQuestion book.now question.now text.items) }
+{
+    answer_at(alloc, book.history(), book.state(), question)
+}
+
+/// Renders the answer at the state after a history.
+pub(crate) fn answer_at(
+    alloc: Global,
+    history: &[(u32, Call)],
+    state: &State,
+    question: &Question,
+) -> Result<Vec<u8>, AllocError>
+    ensures { IfOk result (λ text. AnswersQuestionAt history.now state.now question.now text.items) }
+{
+    match question {
+        Question::Needs { branch, names } => {
+            render_found(alloc, "needs", needs(state, branch, names.as_slice()))
+        }
+        Question::Held { branch, names } => {
+            render_found(alloc, "held", held_by(state, branch, names.as_slice()))
+        }
+        Question::Missing { from, to } => render_found(alloc, "missing", missing(state, from, to)),
+        Question::Show { branch, name } => render_shown(alloc, show(state, branch, name)),
+        Question::Annotate { branch, path } => {
+            render_annotated(alloc, annotate(state, branch, path))
+        }
+        Question::Along { from, to, names } => {
+            render_found(alloc, "along", along(state, from, to, names.as_slice()))
+        }
+        Question::Open(branch) => render_open(alloc, open_pairs(state, branch)),
+        Question::Side { branch, name } => render_side(alloc, side(state, branch, name)),
+        Question::Marks { branch, path } => render_marks(alloc, marks(state, branch, path)),
+        Question::File { branch, path } => render_file(alloc, file(state, branch, path)),
+        Question::Branches => render_branches(alloc, state),
+        Question::Graph { branch, names } => {
+            render_graph(alloc, picture_of(state, branch, names.as_slice()))
+        }
+        Question::WhatIf(call) => render_foreseen(alloc, state, call),
+        Question::History => history_text(alloc, history),
+        Question::Keep => counted_text(alloc, "keep", kept_text(alloc, history)),
+        Question::Help(topic) => render_help(alloc, *topic),
+    }
+}
