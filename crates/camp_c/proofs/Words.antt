@@ -16,7 +16,7 @@ unfoldable pub use contract.Running.{tables_of}
 pub use prog.Memory.{Memory}
 pub use prog.Routine.{Routine}
 pub use prog.Wp.{WpFn, Tables}
-pub use types.ByLocal.{alloc_all, pass_all, free_all, find_hint, get, get_in, sets, lands_last, env, lands_as}
+pub use types.ByLocal.{alloc_all, pass_all, free_all, look_at, get, get_in, sets, lands_last, env, lands_as}
 pub use types.Kit.{rewrite, Item, ‵, raw, ◌⊛◌, ◌$◌, ◌∵◌, !, qed, by, move, drop, use1, join, split, fsplit, fjoin, suffices, done, fpack, feq_i, at_ret, some, later, split3, pick, await, fpick, feq_l}
 pub use types.Logic.{Logic, sem}
 pub use types.Part.{whole, sub, agg}
@@ -32,8 +32,8 @@ pub use denote.Triple.Clauses.{Ended, Clauses}
 pub use denote.Triple.Spec.{triple_of}
 pub use denote.Triple.Statement.{Triple, Contract}
 pub use denote.Triple.Table.{entered}
-pub use denote.Triple.Walked.{says, FailsBuffered, stay_dropped, walk_of, ends_at, BuffersAnswers-dropped, walk_Meets}
-pub use Rattle.std.proofs.alloc.Calls.{α, handle_tells, token, BuffersAnswers-blank}
+pub use denote.Triple.Walked.{says, Stays, stay_dropped, walk_of, ends_at, Goes-dropped, walk_Meets}
+pub use Rattle.std.proofs.alloc.Calls.{α, handle_tells, token, Goes-blank}
 pub use Rattle.std.specs.Prelude.{Option, Some, None, IsSome}
 pub use Rattle.std_alloc.proofs.BoxSteps.Form.{D, B, word, box_typed, Bx, R, P, args, box_ty, τ}
 pub use Rattle.std_alloc.proofs.BoxSteps.Steps.{box_out, box_in}

@@ -6,25 +6,25 @@ use Rattle.camp_repo.specs.Limits.{Bounds}
 use Rattle.camp_repo.specs.declared.faults.LimitFault.{LimitFault}
 use Rattle.camp_session.specs.Sessions.{Asks, Repository, Sees, Snapshot, Views, new_repository}
 use Rattle.camp_talk.specs.declared.faults.TalkFault.{TalkFault}
-use Rattle.camp_c.specs.declared.kept.Kept.{Kept}
-use Rattle.camp_c.specs.declared.kept.Kept.TheVariants.{Session, View}
+use Rattle.camp_c.specs.declared.objects.OpenObject.{OpenObject}
+use Rattle.camp_c.specs.declared.objects.OpenObject.TheVariants.{Session, View}
 
 -- the value of a handle
-abbrev pub Stand : Type 0
-Stand = Option Kept
+abbrev pub HandleState : Type 0
+HandleState = Option OpenObject
 
 -- nothing is done, and the value of the handle is unchanged
-abbrev pub IsRefused : Stand → ℤ → Stand → Type 0
+abbrev pub IsRefused : HandleState → ℤ → HandleState → Type 0
 IsRefused old code now = (code ≡ pos 1) × (now ≡ old)
 
 -- a closed handle is opened on a new repository with these limits, or memory ran out
-abbrev pub OpensRepository : Bounds → Stand → ℤ → Stand → Type 0
+abbrev pub OpensRepository : Bounds → HandleState → ℤ → HandleState → Type 0
 OpensRepository limits None code now =
     ((code ≡ pos 0) × (now ≡ Some (Session (new_repository limits)))) ⊎ ((code ≡ pos 2) × (now ≡ None))
 OpensRepository limits old code now = IsRefused old code now
 
 -- the same if the numbers are limits; else the handle stays closed, if it is, and a code says so
-abbrev pub OpensWithin : Result Bounds LimitFault → Stand → ℤ → Stand → Type 0
+abbrev pub OpensWithin : Result Bounds LimitFault → HandleState → ℤ → HandleState → Type 0
 OpensWithin (Ok limits) old code now = OpensRepository limits old code now
 OpensWithin (Err fault) None code now = (code ≡ pos 3) × (now ≡ None)
 OpensWithin (Err fault) old code now = IsRefused old code now
@@ -35,49 +35,49 @@ code_of (Ok done) = pos 0
 code_of (Err why) = pos 2
 
 -- a repository was asked a text
-pub record AsksOne (old : Repository) (text : List ℕ) (code : ℤ) (now : Stand) : Type 0 where
+pub record AsksOne (old : Repository) (text : List ℕ) (code : ℤ) (now : HandleState) : Type 0 where
   pub outcome : Result (Unit {0}) TalkFault
   pub new : Repository
   pub asks : Asks old text outcome new
-  pub tells : code ≡ code_of outcome
-  pub stands : now ≡ Some (Session new)
+  pub reports : code ≡ code_of outcome
+  pub state_is : now ≡ Some (Session new)
 
 -- the repository of a handle is asked a text; a handle without one is unchanged
-abbrev pub AsksRepository : Stand → List ℕ → ℤ → Stand → Type 0
+abbrev pub AsksRepository : HandleState → List ℕ → ℤ → HandleState → Type 0
 AsksRepository (Some (Session old)) text code now = AsksOne old text code now
 AsksRepository old text code now = IsRefused old code now
 
 -- a view was asked a text
-pub record SeesOne (old : Snapshot) (text : List ℕ) (code : ℤ) (now : Stand) : Type 0 where
+pub record SeesOne (old : Snapshot) (text : List ℕ) (code : ℤ) (now : HandleState) : Type 0 where
   pub outcome : Result (Unit {0}) TalkFault
   pub new : Snapshot
   pub sees : Sees old text outcome new
-  pub tells : code ≡ code_of outcome
-  pub stands : now ≡ Some (View new)
+  pub reports : code ≡ code_of outcome
+  pub state_is : now ≡ Some (View new)
 
 -- the view of a handle is asked a text; a handle without one is unchanged
-abbrev pub AsksView : Stand → List ℕ → ℤ → Stand → Type 0
+abbrev pub AsksView : HandleState → List ℕ → ℤ → HandleState → Type 0
 AsksView (Some (View old)) text code now = SeesOne old text code now
 AsksView old text code now = IsRefused old code now
 
 -- the answer to the last text of a repository
-abbrev pub answer_of : Stand → List ℕ
+abbrev pub answer_of : HandleState → List ℕ
 answer_of (Some (Session repository)) = repository.answer
 answer_of other = []
 
 -- the answer to the last text of a view
-abbrev pub answer_of_view : Stand → List ℕ
+abbrev pub answer_of_view : HandleState → List ℕ
 answer_of_view (Some (View view)) = view.answer
 answer_of_view other = []
 
 -- a view was made of a repository, or memory ran out
-abbrev pub OpensOne : Repository → ℤ → Stand → Type 0
+abbrev pub OpensOne : Repository → ℤ → HandleState → Type 0
 OpensOne repository code now =
     ((code ≡ pos 0) × (view : Snapshot) × Views repository view × (now ≡ Some (View view)))
     ⊎ ((code ≡ pos 2) × (now ≡ None))
 
 -- a closed handle is opened on a view of the repository of another
-abbrev pub OpensView : Stand → Stand → ℤ → Stand → Type 0
+abbrev pub OpensView : HandleState → HandleState → ℤ → HandleState → Type 0
 OpensView (Some (Session repository)) None code now = OpensOne repository code now
 OpensView other old code now = IsRefused old code now
 
@@ -86,7 +86,7 @@ abbrev pub again : Snapshot → Snapshot
 again view = record { state = view.state; answer = [] }
 
 -- a closed handle is opened on a view of what another view shows
-abbrev pub OpensViewAgain : Stand → Stand → ℤ → Stand → Type 0
+abbrev pub OpensViewAgain : HandleState → HandleState → ℤ → HandleState → Type 0
 OpensViewAgain (Some (View view)) None code now =
     ((code ≡ pos 0) × (now ≡ Some (View (again view)))) ⊎ ((code ≡ pos 2) × (now ≡ None))
 OpensViewAgain other old code now = IsRefused old code now

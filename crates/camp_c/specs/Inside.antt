@@ -1,10 +1,10 @@
 -- Definitions that only private functions use.
 use Rattle.std.specs.Prelude.{◌≡◌, ◌⊎◌, ℤ, pos, Some, None, Result, Ok, Err}
 use Rattle.camp_session.specs.Sessions.{Snapshot}
-use Rattle.camp_c.specs.Handles.{Stand}
-use Rattle.camp_c.specs.declared.kept.Kept.TheVariants.{View}
+use Rattle.camp_c.specs.Handles.{HandleState}
+use Rattle.camp_c.specs.declared.objects.OpenObject.TheVariants.{View}
 
 -- a closed handle is opened on a view, if there is one, or memory ran out
-abbrev pub Shows : {E : Type 0} → Result Snapshot E → ℤ → Stand → Type 0
+abbrev pub Shows : {E : Type 0} → Result Snapshot E → ℤ → HandleState → Type 0
 Shows (Ok view) code now = ((code ≡ pos 0) × (now ≡ Some (View view))) ⊎ ((code ≡ pos 2) × (now ≡ None))
 Shows (Err error) code now = (code ≡ pos 2) × (now ≡ None)

@@ -7,7 +7,7 @@ use denote.RawPtr.{Ptr}
 use Rattle.std.specs.Box.Ownership.{box_owns}
 use Rattle.std.specs.Global.{Global}
 use Rattle.std_heap.specs.contracts.GlobalAllocator.TheImpl.{ghosts}
-use Rattle.camp_c.specs.contracts.kept.Kept.{the_row}
+use Rattle.camp_c.specs.contracts.objects.OpenObject.{the_row}
 
 -- the value of an open handle
 abbrev pub Held : Type 0

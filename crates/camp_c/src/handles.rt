@@ -2,7 +2,7 @@
 ghost use Rattle.std.specs.Prelude.{◌≡◌, Option, Some, None, IsSome, MatchOption, is_some};
 ghost use Rattle.camp_c.specs.Owned.{Held, held_coded, keeper_owns};
 
-use crate::kept::Kept;
+use crate::objects::OpenObject;
 use crate::parts::Parts;
 use std::alloc::Global;
 use std::marker::Model;
@@ -22,7 +22,7 @@ impl Model for Keeper {
 }
 
 impl Keeper {
-    fn of_parts(parts: Parts<Kept, Global>) -> Keeper
+    fn of_parts(parts: Parts<OpenObject, Global>) -> Keeper
         ensures { result.held ≡ Some parts.value }
     {
         let Parts { ptr, alloc } = parts;
@@ -32,13 +32,13 @@ impl Keeper {
         }
     }
 
-    fn into_parts(self) -> Parts<Kept, Global>
+    fn into_parts(self) -> Parts<OpenObject, Global>
         requires { IsSome self.held }
         ensures { self.held ≡ Some result.value }
     {
         let Keeper { at, alloc } = self;
         Parts {
-            ptr: at as *mut Kept,
+            ptr: at as *mut OpenObject,
             alloc,
         }
     }
@@ -68,7 +68,7 @@ unsafe impl Send for Keeper {}
 pub struct Handle {
     pub is_open: bool,
     pub keeper: Keeper,
-    pub ghost tells: { is_open ≡ is_some keeper.held },
+    pub ghost open_is: { is_open ≡ is_some keeper.held },
 }
 
 impl Handle {
@@ -79,9 +79,9 @@ impl Handle {
     }
 
     /// Takes out the value of a handle, which is then closed.
-    pub(crate) fn take(&mut self, alloc: Global) -> Option<Box<Kept>>
+    pub(crate) fn take(&mut self, alloc: Global) -> Option<Box<OpenObject>>
         ensures closed { self.new.keeper.held ≡ None }
-        ensures kept { MatchOption result (self.old.keeper.held ≡ None) (λ kept. self.old.keeper.held ≡ Some kept.value) }
+        ensures object { MatchOption result (self.old.keeper.held ≡ None) (λ object. self.old.keeper.held ≡ Some object.value) }
     {
         let Handle { is_open, keeper } = mem::replace(self, Handle::closed(alloc));
         if is_open {
@@ -92,20 +92,20 @@ impl Handle {
     }
 
     /// Opens a closed handle on the value in a box.
-    pub(crate) fn put(&mut self, kept: Box<Kept>)
+    pub(crate) fn put(&mut self, object: Box<OpenObject>)
         requires { self.old.keeper.held ≡ None }
-        ensures { self.new.keeper.held ≡ Some kept.value }
+        ensures { self.new.keeper.held ≡ Some object.value }
     {
-        let Handle { is_open: _, keeper } = mem::replace(self, Handle::open(kept));
+        let Handle { is_open: _, keeper } = mem::replace(self, Handle::open(object));
         keeper.discard();
     }
 
-    fn open(kept: Box<Kept>) -> Handle
-        ensures { result.keeper.held ≡ Some kept.value }
+    fn open(object: Box<OpenObject>) -> Handle
+        ensures { result.keeper.held ≡ Some object.value }
     {
         Handle {
             is_open: true,
-            keeper: Keeper::of_parts(Parts::of(kept)),
+            keeper: Keeper::of_parts(Parts::of(object)),
         }
     }
 

@@ -3,7 +3,7 @@
 
 mod codes;
 mod handles;
-mod kept;
+mod objects;
 mod parts;
 mod repositories;
 mod views;

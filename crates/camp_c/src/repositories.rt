@@ -3,12 +3,12 @@ ghost use Rattle.std.specs.Prelude.{◌≡◌, ◌++◌, None, Some, length, tak
 ghost use Rattle.camp_c.specs.Handles.{AsksRepository, OpensRepository, OpensWithin, answer_of};
 ghost use Rattle.camp_repo.specs.Limits.{bounded, default_bounds};
 ghost use Rattle.camp_session.specs.Sessions.{new_repository};
-ghost use Rattle.camp_c.specs.declared.kept.Kept.TheVariants.{Session as OfSession};
+ghost use Rattle.camp_c.specs.declared.objects.OpenObject.TheVariants.{Session as OfSession};
 
+use camp_session::{Limits, Session};
 use crate::codes::{CLOSED, DONE, LIMITS, MEMORY};
 use crate::handles::Handle;
-use crate::kept::Kept;
-use camp_session::{Limits, Session};
+use crate::objects::OpenObject;
 use std::alloc::{AllocError, Global};
 
 /// Opens a closed handle on a new repository with the default limits: one branch `main` without a patch.
@@ -41,13 +41,13 @@ fn open(alloc: Global, handle: &mut Handle, limits: Limits) -> i32
     ensures { OpensRepository limits handle.old.keeper.held result handle.new.keeper.held }
 {
     match handle.take(alloc) {
-        Some(kept) => {
-            handle.put(kept);
+        Some(object) => {
+            handle.put(object);
             CLOSED
         }
         None => match begin(alloc, limits) {
-            Ok(kept) => {
-                handle.put(kept);
+            Ok(object) => {
+                handle.put(object);
                 DONE
             }
             Err(_) => MEMORY,
@@ -55,11 +55,11 @@ fn open(alloc: Global, handle: &mut Handle, limits: Limits) -> i32
     }
 }
 
-fn begin(alloc: Global, limits: Limits) -> Result<Box<Kept>, AllocError>
-    ensures { IfOk result (λ kept. kept.value ≡ OfSession (new_repository limits)) }
+fn begin(alloc: Global, limits: Limits) -> Result<Box<OpenObject>, AllocError>
+    ensures { IfOk result (λ object. object.value ≡ OfSession (new_repository limits)) }
 {
     let session = Session::with_limits(alloc, limits)?;
-    Ok(Box::new(alloc, Kept::Session(session))?)
+    Ok(Box::new(alloc, OpenObject::Session(session))?)
 }
 
 /// Executes the commands of a text, which is a conversation of its own.
@@ -67,11 +67,11 @@ fn begin(alloc: Global, limits: Limits) -> Result<Box<Kept>, AllocError>
 pub extern "C" fn camp_ask(alloc: Global, handle: &mut Handle, text: &[u8]) -> i32
     ensures { AsksRepository handle.old.keeper.held text.now result handle.new.keeper.held }
 {
-    let Some(mut kept) = handle.take(alloc) else {
+    let Some(mut object) = handle.take(alloc) else {
         return CLOSED;
     };
-    let code = kept.ask(alloc, text);
-    handle.put(kept);
+    let code = object.ask(alloc, text);
+    handle.put(object);
     code
 }
 
@@ -81,11 +81,11 @@ pub extern "C" fn camp_answer_length(alloc: Global, handle: &mut Handle) -> usiz
     ensures same { handle.new.keeper.held ≡ handle.old.keeper.held }
     ensures length { result ≡ length (answer_of handle.old.keeper.held) }
 {
-    let Some(kept) = handle.take(alloc) else {
+    let Some(object) = handle.take(alloc) else {
         return 0;
     };
-    let length = kept.answer().len();
-    handle.put(kept);
+    let length = object.answer().len();
+    handle.put(object);
     length
 }
 
@@ -97,11 +97,11 @@ pub extern "C" fn camp_answer(alloc: Global, handle: &mut Handle, buffer: &mut [
     ensures count { result ≡ min (length buffer.old) (length (answer_of handle.old.keeper.held)) }
     ensures bytes { buffer.new ≡ take result (answer_of handle.old.keeper.held) ++ drop result buffer.old }
 {
-    let Some(kept) = handle.take(alloc) else {
+    let Some(object) = handle.take(alloc) else {
         return 0;
     };
-    let count = copy_front(kept.answer(), buffer);
-    handle.put(kept);
+    let count = copy_front(object.answer(), buffer);
+    handle.put(object);
     count
 }
 
@@ -120,5 +120,5 @@ pub(crate) fn copy_front(from: &[u8], to: &mut [u8]) -> usize
 pub extern "C" fn camp_close(alloc: Global, handle: &mut Handle)
     ensures { handle.new.keeper.held ≡ None }
 {
-    let _kept = handle.take(alloc);
+    let _object = handle.take(alloc);
 }

@@ -2,13 +2,13 @@
 ghost use Rattle.std.specs.Prelude.{◌≡◌, ◌++◌, None, Some, length, take, drop, min, IfOk, IsOkAnd};
 ghost use Rattle.camp_c.specs.Handles.{AsksView, OpensView, OpensViewAgain, answer_of_view};
 ghost use Rattle.camp_c.specs.Inside.{Shows};
-ghost use Rattle.camp_c.specs.declared.kept.Kept.TheVariants.{View as OfView};
+ghost use Rattle.camp_c.specs.declared.objects.OpenObject.TheVariants.{View as OfView};
 
+use camp_session::View;
 use crate::codes::{CLOSED, DONE, MEMORY};
 use crate::handles::Handle;
-use crate::kept::Kept;
+use crate::objects::OpenObject;
 use crate::repositories::copy_front;
-use camp_session::View;
 use std::alloc::{AllocError, Global};
 
 /// Opens a closed handle on a view of a repository as it is now.
@@ -17,45 +17,45 @@ pub extern "C" fn camp_look(alloc: Global, handle: &mut Handle, view: &mut Handl
     ensures same { handle.new.keeper.held ≡ handle.old.keeper.held }
     ensures opens { OpensView handle.old.keeper.held view.old.keeper.held result view.new.keeper.held }
 {
-    let Some(kept) = handle.take(alloc) else {
+    let Some(object) = handle.take(alloc) else {
         return CLOSED;
     };
-    let code = look(alloc, &kept, view);
-    handle.put(kept);
+    let code = open_view(alloc, &object, view);
+    handle.put(object);
     code
 }
 
-fn look(alloc: Global, kept: &Kept, handle: &mut Handle) -> i32
-    ensures { OpensView (Some kept.now) handle.old.keeper.held result handle.new.keeper.held }
+fn open_view(alloc: Global, object: &OpenObject, handle: &mut Handle) -> i32
+    ensures { OpensView (Some object.now) handle.old.keeper.held result handle.new.keeper.held }
 {
-    let Kept::Session(session) = kept else {
+    let OpenObject::Session(session) = object else {
         return CLOSED;
     };
     if handle.is_open() {
         return CLOSED;
     }
-    show(alloc, session.view(alloc), handle)
+    open_shown(alloc, session.view(alloc), handle)
 }
 
 // Opens a closed handle on a view, if there is one.
-fn show(alloc: Global, view: Result<View, AllocError>, handle: &mut Handle) -> i32
+fn open_shown(alloc: Global, view: Result<View, AllocError>, handle: &mut Handle) -> i32
     requires { handle.old.keeper.held ≡ None }
     ensures { Shows view result handle.new.keeper.held }
 {
     match boxed(alloc, view) {
-        Ok(kept) => {
-            handle.put(kept);
+        Ok(object) => {
+            handle.put(object);
             DONE
         }
         Err(_) => MEMORY,
     }
 }
 
-fn boxed(alloc: Global, view: Result<View, AllocError>) -> Result<Box<Kept>, AllocError>
-    ensures { IfOk result (λ kept. IsOkAnd view (λ view. kept.value ≡ OfView view)) }
+fn boxed(alloc: Global, view: Result<View, AllocError>) -> Result<Box<OpenObject>, AllocError>
+    ensures { IfOk result (λ object. IsOkAnd view (λ view. object.value ≡ OfView view)) }
 {
     let view = view?;
-    Ok(Box::new(alloc, Kept::View(view))?)
+    Ok(Box::new(alloc, OpenObject::View(view))?)
 }
 
 /// Asks questions of a view. Nothing but its answer changes.
@@ -63,11 +63,11 @@ fn boxed(alloc: Global, view: Result<View, AllocError>) -> Result<Box<Kept>, All
 pub extern "C" fn camp_view_ask(alloc: Global, view: &mut Handle, text: &[u8]) -> i32
     ensures { AsksView view.old.keeper.held text.now result view.new.keeper.held }
 {
-    let Some(mut kept) = view.take(alloc) else {
+    let Some(mut object) = view.take(alloc) else {
         return CLOSED;
     };
-    let code = kept.ask_view(alloc, text);
-    view.put(kept);
+    let code = object.ask_view(alloc, text);
+    view.put(object);
     code
 }
 
@@ -77,11 +77,11 @@ pub extern "C" fn camp_view_answer_length(alloc: Global, view: &mut Handle) -> u
     ensures same { view.new.keeper.held ≡ view.old.keeper.held }
     ensures length { result ≡ length (answer_of_view view.old.keeper.held) }
 {
-    let Some(kept) = view.take(alloc) else {
+    let Some(object) = view.take(alloc) else {
         return 0;
     };
-    let length = kept.answer_of_view().len();
-    view.put(kept);
+    let length = object.answer_of_view().len();
+    view.put(object);
     length
 }
 
@@ -93,11 +93,11 @@ pub extern "C" fn camp_view_answer(alloc: Global, view: &mut Handle, buffer: &mu
     ensures count { result ≡ min (length buffer.old) (length (answer_of_view view.old.keeper.held)) }
     ensures bytes { buffer.new ≡ take result (answer_of_view view.old.keeper.held) ++ drop result buffer.old }
 {
-    let Some(kept) = view.take(alloc) else {
+    let Some(object) = view.take(alloc) else {
         return 0;
     };
-    let count = copy_front(kept.answer_of_view(), buffer);
-    view.put(kept);
+    let count = copy_front(object.answer_of_view(), buffer);
+    view.put(object);
     count
 }
 
@@ -107,24 +107,24 @@ pub extern "C" fn camp_view_again(alloc: Global, view: &mut Handle, other: &mut 
     ensures same { view.new.keeper.held ≡ view.old.keeper.held }
     ensures opens { OpensViewAgain view.old.keeper.held other.old.keeper.held result other.new.keeper.held }
 {
-    let Some(kept) = view.take(alloc) else {
+    let Some(object) = view.take(alloc) else {
         return CLOSED;
     };
-    let code = open_same_view(alloc, &kept, other);
-    view.put(kept);
+    let code = open_same_view(alloc, &object, other);
+    view.put(object);
     code
 }
 
-fn open_same_view(alloc: Global, kept: &Kept, handle: &mut Handle) -> i32
-    ensures { OpensViewAgain (Some kept.now) handle.old.keeper.held result handle.new.keeper.held }
+fn open_same_view(alloc: Global, object: &OpenObject, handle: &mut Handle) -> i32
+    ensures { OpensViewAgain (Some object.now) handle.old.keeper.held result handle.new.keeper.held }
 {
-    let Kept::View(view) = kept else {
+    let OpenObject::View(view) = object else {
         return CLOSED;
     };
     if handle.is_open() {
         return CLOSED;
     }
-    show(alloc, view.again(alloc), handle)
+    open_shown(alloc, view.again(alloc), handle)
 }
 
 /// Closes a view.
@@ -132,5 +132,5 @@ fn open_same_view(alloc: Global, kept: &Kept, handle: &mut Handle) -> i32
 pub extern "C" fn camp_view_close(alloc: Global, view: &mut Handle)
     ensures { view.new.keeper.held ≡ None }
 {
-    let _kept = view.take(alloc);
+    let _object = view.take(alloc);
 }

@@ -7,42 +7,42 @@ use Rattle.camp_kept.specs.Keeping.{AreFirst, Holds, IsStoreOf, LeavesKept, stor
 use Rattle.camp_kept.specs.declared.faults.KeptFault.{KeptFault}
 use Rattle.camp_kept.specs.declared.kept.Kept.{Kept}
 use Rattle.camp_kept.proofs.Committing.{holds_leave}
-use Rattle.camp_kept_talk.specs.Going.{AllAreDurable, AfterStep, AfterFlush, BuffersAnswers, IsUnwritten, MayBeDurable, Settles, FailsBuffered, StopsWithFault, StopsNotDurable, StopsUnwritten, TalksKept, write_as_memory}
-use Rattle.camp_kept_talk.specs.Promises.{Promises, Told, durable_at_least}
+use Rattle.camp_kept_talk.specs.Buffering.{AfterFlush, AfterStep, AllAreDurable, BuffersAnswers, FailsBuffered, FlushesAnswers, IsUnwritten, MayBeDurable, StopsNotDurable, StopsUnwritten, StopsWithFault, TalksKept, write_as_memory}
+use Rattle.camp_kept_talk.specs.Promises.{AnswersWritten, Promises, durable_at_least}
 use Rattle.camp_kept_talk.specs.declared.faults.StoredFault.{StoredFault}
 use Rattle.camp_kept_talk.specs.declared.faults.StoredFault.TheVariants as fault
-use Rattle.camp_kept_talk.proofs.Answering.{IsLast, appends_behind, appends_known, appends_some, at_least_front, holds_kept, holds_kept_all, holds_trans, keeps_behind, last_read, told_more, told_of, told_of_all, told_trans, told_unseen}
+use Rattle.camp_kept_talk.proofs.Answering.{IsLast, all_answers_written, answers_written, appends_after, appends_known, appends_some, at_least_front, holds_kept, holds_kept_all, holds_trans, keeps_after, last_read, written_more, written_trans, written_unknown}
 use Rattle.camp_kept_talk.proofs.Stopping.{leaves_durable}
 use Rattle.camp_kept.proofs.Parts.{part_grows, part_self, part_through}
 use Rattle.camp_store.specs.Logs.{KeepsTexts}
-use Rattle.camp_talk.specs.Accounts.{Account}
-use Rattle.camp_talk.specs.Answers.{Answers, Standing}
+use Rattle.camp_talk.specs.Diagnostics.{Diagnostic}
+use Rattle.camp_talk.specs.Answers.{Answers, SessionState}
 use Rattle.camp_talk.specs.Entries.{Entries}
-use Rattle.camp_talk.specs.Talks.{AppendsSome, EndsWithStep, Exchange, ReadsWithin, Turns}
-use Rattle.camp_talk.specs.Talks.{Holds as HasAnswered}
+use Rattle.camp_talk.specs.Talks.{AppendsSome, EndsWithStep, Exchange, ReadsWithin, TakesStep}
+use Rattle.camp_talk.specs.Talks.{HasAnswered}
 use Rattle.camp_talk.specs.declared.faults.TalkFault.{TalkFault}
 use Rattle.camp_talk.specs.declared.faults.TalkFault.TheVariants as talk
 use Rattle.camp_talk.proofs.Firsts.{command_read}
 use Rattle.camp_talk.proofs.Growing.{answers_grow}
-use Rattle.camp_talk.proofs.Turns.{begins_so, holds_on}
+use Rattle.camp_talk.proofs.TakesStep.{begins_so, holds_on}
 
 -- the state of a conversation over a book
-abbrev pub at : Entries → ℕ → Account → Standing
-at history lines cause = record { history = history; lines = lines; cause = cause }
+abbrev pub at : Entries → ℕ → Diagnostic → SessionState
+at history lines diagnostic = record { history = history; lines = lines; diagnostic = diagnostic }
 
 -- a reader that was not asked has the same content
 reads_none : (b : Option (List ℕ)) → ReadsWithin b b
 reads_none b = record { some = []; reads = Consumes-nil b; is = tt }
 
-module _ {D : Type 0} (seen : D → List ℕ) (may_leave : D → List ℕ → Type 0) (durable : Stored) (a old now : Option (List ℕ)) (first : Standing) (kept : Kept D) where
+module _ {D : Type 0} (seen : D → List ℕ) (may_leave : D → List ℕ → Type 0) (durable : Stored) (a old now : Option (List ℕ)) (first : SessionState) (kept : Kept D) where
   -- at first
-  pub begins : (lines : ℕ) (cause : Account) → AreFirst durable kept → Holds seen may_leave durable kept
-      → BuffersAnswers seen may_leave durable a a now now [] (at kept.book lines cause) (at kept.book lines cause) kept
-  begins lines cause front holds = record {
-    middle = at kept.book lines cause;
+  pub begins : (lines : ℕ) (diagnostic : Diagnostic) → AreFirst durable kept → Holds seen may_leave durable kept
+      → BuffersAnswers seen may_leave durable a a now now [] (at kept.book lines diagnostic) (at kept.book lines diagnostic) kept
+  begins lines diagnostic front holds = record {
+    middle = at kept.book lines diagnostic;
     left = a;
-    told = record { said = []; follow = refl; reads = Consumes-nil a; writes = Appends-nil now };
-    behind = begins_so a (Some []) (at kept.book lines cause);
+    written = record { exchanges = []; follow = refl; reads = Consumes-nil a; writes = Appends-nil now };
+    pending = begins_so a (Some []) (at kept.book lines diagnostic);
     calls = durable;
     holds = holds;
     still = part_self durable;
@@ -50,153 +50,153 @@ module _ {D : Type 0} (seen : D → List ℕ) (may_leave : D → List ℕ → Ty
     within = front;
   }
 
-  module _ (b : Option (List ℕ)) (held : List ℕ) (lines : ℕ) (cause : Account) (goes : BuffersAnswers seen may_leave durable a b old now held first (at kept.book lines cause) kept) where
+  module _ (b : Option (List ℕ)) (held : List ℕ) (lines : ℕ) (diagnostic : Diagnostic) (buffers : BuffersAnswers seen may_leave durable a b old now held first (at kept.book lines diagnostic) kept) where
     pub stays : FailsBuffered seen may_leave durable a b old now held first kept
     stays = record {
-      middle = goes.middle;
-      last = at kept.book lines cause;
-      left = goes.left;
+      middle = buffers.middle;
+      last = at kept.book lines diagnostic;
+      left = buffers.left;
       right = b;
-      told = goes.told;
-      behind = told_of goes.left b (Some []) (Some held) goes.middle (at kept.book lines cause) goes.behind;
+      written = buffers.written;
+      pending = answers_written buffers.left b (Some []) (Some held) buffers.middle (at kept.book lines diagnostic) buffers.pending;
       reads = reads_none b;
-      calls = goes.calls;
-      holds = goes.holds;
-      still = goes.still;
-      since = goes.since;
-      within = goes.within;
+      calls = buffers.calls;
+      holds = buffers.holds;
+      still = buffers.still;
+      since = buffers.since;
+      within = buffers.within;
       is = refl;
     }
 
     -- everything is persisted and written, and the conversation continues
     pub settled : (new : Kept D) (after : Option (List ℕ)) (rest : List ℕ) → AllAreDurable seen may_leave kept new → rest ≡ [] → Appends now after held → new.book ≡ kept.book
-        → BuffersAnswers seen may_leave durable a b old after rest first (at new.book lines cause) new
+        → BuffersAnswers seen may_leave durable a b old after rest first (at new.book lines diagnostic) new
     settled new after rest keeps none grows same = record {
-      middle = at new.book lines cause;
+      middle = at new.book lines diagnostic;
       left = b;
-      told = told_now;
-      behind = subst (λ (l : List ℕ). HasAnswered b b (Some []) (Some l) (at new.book lines cause) (at new.book lines cause)) (sym none) (begins_so b (Some []) (at new.book lines cause));
+      written = written_now;
+      pending = subst (λ (l : List ℕ). HasAnswered b b (Some []) (Some l) (at new.book lines diagnostic) (at new.book lines diagnostic)) (sym none) (begins_so b (Some []) (at new.book lines diagnostic));
       calls = stored_in kept;
-      holds = keeps goes.calls goes.within goes.holds;
-      still = part_through goes.still goes.within;
-      since = at_least_front told_now.said durable (stored_in new) (stored_in kept) (part_through goes.still goes.within)
+      holds = keeps buffers.calls buffers.within buffers.holds;
+      still = part_through buffers.still buffers.within;
+      since = at_least_front written_now.exchanges durable (stored_in new) (stored_in kept) (part_through buffers.still buffers.within)
           (subst (λ (h : Entries). IsFrontOf (stored_of h) (stored_in kept)) (sym same) (part_self (stored_in kept)));
       within = subst (λ (h : Entries). IsFrontOf (stored_in kept) (stored_of h)) (sym same) (part_self (stored_in kept));
     }
       where
-        told_now : HasAnswered a b old after first (at new.book lines cause)
-        told_now = subst (λ (h : Entries). HasAnswered a b old after first (at h lines cause)) (sym same)
-            (holds_trans a goes.left b old now after held first goes.middle (at kept.book lines cause) goes.told goes.behind grows)
+        written_now : HasAnswered a b old after first (at new.book lines diagnostic)
+        written_now = subst (λ (h : Entries). HasAnswered a b old after first (at h lines diagnostic)) (sym same)
+            (holds_trans a buffers.left b old now after held first buffers.middle (at kept.book lines diagnostic) buffers.written buffers.pending grows)
 
     module _ (c : Option (List ℕ)) (more : List ℕ) (new : Kept D) (same_log : new.log ≡ kept.log) (same_count : new.count ≡ kept.count) where
-      holds_still : Holds seen may_leave goes.calls new
+      holds_still : Holds seen may_leave buffers.calls new
       holds_still = record {
-        accepted = goes.holds.accepted;
-        keeps = subst (λ log. KeepsTexts seen may_leave (store_texts goes.calls) log) (sym same_log) goes.holds.keeps;
-        count_is = same_count ∙ goes.holds.count_is;
+        accepted = buffers.holds.accepted;
+        keeps = subst (λ log. KeepsTexts seen may_leave (store_texts buffers.calls) log) (sym same_log) buffers.holds.keeps;
+        count_is = same_count ∙ buffers.holds.count_is;
       }
 
       -- a command was answered into the buffer
-      pub turned : (after : ℕ) (learnt : Account) → Turns b c (Some held) (Some more) (at kept.book lines cause) (Ok true) (at new.book after learnt)
+      pub turned : (after : ℕ) (learnt : Diagnostic) → TakesStep b c (Some held) (Some more) (at kept.book lines diagnostic) (Ok true) (at new.book after learnt)
           → BuffersAnswers seen may_leave durable a c old now more first (at new.book after learnt) new
-      turned after learnt turns = record {
-        middle = goes.middle;
-        left = goes.left;
-        told = goes.told;
-        behind = holds_on goes.left b c (Some []) (Some held) (Some more) goes.middle (at kept.book lines cause) (at new.book after learnt) goes.behind turns;
-        calls = goes.calls;
+      turned after learnt takes_step = record {
+        middle = buffers.middle;
+        left = buffers.left;
+        written = buffers.written;
+        pending = holds_on buffers.left b c (Some []) (Some held) (Some more) buffers.middle (at kept.book lines diagnostic) (at new.book after learnt) buffers.pending takes_step;
+        calls = buffers.calls;
         holds = holds_still;
-        still = goes.still;
-        since = goes.since;
-        within = part_through goes.within (part_grows kept.book new.book (answers_grow (at kept.book lines cause) _ _ (at new.book after learnt) turns.answers));
+        still = buffers.still;
+        since = buffers.since;
+        within = part_through buffers.within (part_grows kept.book new.book (answers_grow (at kept.book lines diagnostic) _ _ (at new.book after learnt) takes_step.answers));
       }
 
       -- one was answered, perhaps in part
-      one_more : (said : Exchange) (next : Standing) → IsLast (OnSome b (IsAtEnd c)) said.command → Answers (at kept.book lines cause) said.command said.answer next
-          → Consumes b c said.command → AppendsSome (Some held) (Some more) said.answer → next.history ≡ new.book → FailsBuffered seen may_leave durable a c old now more first new
-      one_more said next kind answers reads writes is = record {
-        middle = goes.middle;
+      one_more : (exchange : Exchange) (next : SessionState) → IsLast (OnSome b (IsAtEnd c)) exchange.command → Answers (at kept.book lines diagnostic) exchange.command exchange.answer next
+          → Consumes b c exchange.command → AppendsSome (Some held) (Some more) exchange.answer → next.history ≡ new.book → FailsBuffered seen may_leave durable a c old now more first new
+      one_more exchange next kind answers reads writes is = record {
+        middle = buffers.middle;
         last = next;
-        left = goes.left;
+        left = buffers.left;
         right = c;
-        told = goes.told;
-        behind = told_more goes.left b c held more goes.middle (at kept.book lines cause) next said goes.behind kind answers reads writes;
+        written = buffers.written;
+        pending = written_more buffers.left b c held more buffers.middle (at kept.book lines diagnostic) next exchange buffers.pending kind answers reads writes;
         reads = reads_none c;
-        calls = goes.calls;
+        calls = buffers.calls;
         holds = holds_still;
-        still = goes.still;
-        since = goes.since;
-        within = part_through goes.within (part_grows kept.book next.history (answers_grow (at kept.book lines cause) said.command said.answer next answers));
+        still = buffers.still;
+        since = buffers.since;
+        within = part_through buffers.within (part_grows kept.book next.history (answers_grow (at kept.book lines diagnostic) exchange.command exchange.answer next answers));
         is = is;
       }
 
       -- none could be read
       none_more : ReadsWithin b c → Keeps (Some held) (Some more) → new.book ≡ kept.book → FailsBuffered seen may_leave durable a c old now more first new
       none_more reads keeps same = record {
-        middle = goes.middle;
-        last = at kept.book lines cause;
-        left = goes.left;
+        middle = buffers.middle;
+        last = at kept.book lines diagnostic;
+        left = buffers.left;
         right = b;
-        told = goes.told;
-        behind = told_of goes.left b (Some []) (Some more) goes.middle (at kept.book lines cause) (holds_kept goes.left b (Some []) (Some held) (Some more) goes.middle (at kept.book lines cause) goes.behind keeps);
+        written = buffers.written;
+        pending = answers_written buffers.left b (Some []) (Some more) buffers.middle (at kept.book lines diagnostic) (holds_kept buffers.left b (Some []) (Some held) (Some more) buffers.middle (at kept.book lines diagnostic) buffers.pending keeps);
         reads = reads;
-        calls = goes.calls;
+        calls = buffers.calls;
         holds = holds_still;
-        still = goes.still;
-        since = goes.since;
-        within = goes.within;
+        still = buffers.still;
+        since = buffers.since;
+        within = buffers.within;
         is = sym same;
       }
 
-      pub stopped : (after : ℕ) (learnt : Account) (why : TalkFault) → Turns b c (Some held) (Some more) (at kept.book lines cause) (Err why) (at new.book after learnt) → FailsBuffered seen may_leave durable a c old now more first new
-      stopped after learnt talk.Memory turns = none_more turns.none turns.keeps (ap (λ (s : Standing). s.history) turns.same)
-      stopped after learnt (talk.Read error) turns = none_more turns.none turns.keeps (ap (λ (s : Standing). s.history) turns.same)
-      stopped after learnt talk.Internal turns = none_more (record { some = turns.none.some; reads = turns.none.reads; is = turns.none.is }) turns.keeps (ap (λ (s : Standing). s.history) turns.same)
-      stopped after learnt (talk.Write error) turns =
-          one_more turns.said turns.behind (last_read b c turns.whole turns.said.command turns.reads) turns.answers (command_read b c turns.whole turns.said.command turns.reads) turns.writes (sym (ap (λ (s : Standing). s.history) turns.same))
+      pub stopped : (after : ℕ) (learnt : Diagnostic) (why : TalkFault) → TakesStep b c (Some held) (Some more) (at kept.book lines diagnostic) (Err why) (at new.book after learnt) → FailsBuffered seen may_leave durable a c old now more first new
+      stopped after learnt talk.Memory takes_step = none_more takes_step.none takes_step.keeps (ap (λ (s : SessionState). s.history) takes_step.same)
+      stopped after learnt (talk.Read error) takes_step = none_more takes_step.none takes_step.keeps (ap (λ (s : SessionState). s.history) takes_step.same)
+      stopped after learnt talk.Internal takes_step = none_more (record { some = takes_step.none.some; reads = takes_step.none.reads; is = takes_step.none.is }) takes_step.keeps (ap (λ (s : SessionState). s.history) takes_step.same)
+      stopped after learnt (talk.Write error) takes_step =
+          one_more takes_step.exchange takes_step.reached (last_read b c takes_step.whole takes_step.exchange.command takes_step.reads) takes_step.answers (command_read b c takes_step.whole takes_step.exchange.command takes_step.reads) takes_step.writes (sym (ap (λ (s : SessionState). s.history) takes_step.same))
 
-      pub ended : (after : ℕ) (learnt : Account) → Turns b c (Some held) (Some more) (at kept.book lines cause) (Ok false) (at new.book after learnt) → FailsBuffered seen may_leave durable a c old now more first new
-      ended after learnt turns =
-          one_more turns.said (at new.book after learnt) (last_read b c false turns.said.command turns.reads) turns.answers turns.reads.0 (appends_some (Some held) (Some more) turns.said.answer turns.writes) refl
+      pub ended : (after : ℕ) (learnt : Diagnostic) → TakesStep b c (Some held) (Some more) (at kept.book lines diagnostic) (Ok false) (at new.book after learnt) → FailsBuffered seen may_leave durable a c old now more first new
+      ended after learnt takes_step =
+          one_more takes_step.exchange (at new.book after learnt) (last_read b c false takes_step.exchange.command takes_step.reads) takes_step.answers takes_step.reads.0 (appends_some (Some held) (Some more) takes_step.exchange.answer takes_step.writes) refl
 
       -- and once everything is written, the conversation is one without buffering
-      ends_as : (after : ℕ) (learnt : Account) (then : Option (List ℕ)) (turn : Result Bool TalkFault) → Turns b c (append_known now held) then (at kept.book lines cause) turn (at new.book after learnt)
-          → EndsWithStep a c old then first turn new.book
-      ends_as after learnt then turn turns = record {
+      ends_as : (after : ℕ) (learnt : Diagnostic) (then : Option (List ℕ)) (take_step : Result Bool TalkFault) → TakesStep b c (append_known now held) then (at kept.book lines diagnostic) take_step (at new.book after learnt)
+          → EndsWithStep a c old then first take_step new.book
+      ends_as after learnt then take_step takes_step = record {
         left = b;
         held = append_known now held;
-        middle = at kept.book lines cause;
+        middle = at kept.book lines diagnostic;
         last = at new.book after learnt;
-        holds = holds_trans a goes.left b old now (append_known now held) held first goes.middle (at kept.book lines cause) goes.told goes.behind (appends_known now held);
-        turns = turns;
+        holds = holds_trans a buffers.left b old now (append_known now held) held first buffers.middle (at kept.book lines diagnostic) buffers.written buffers.pending (appends_known now held);
+        takes_step = takes_step;
         leaves = refl;
       }
 
-      pub ends_so : (after : ℕ) (learnt : Account) (then : Option (List ℕ)) → Turns b c (Some held) (Some more) (at kept.book lines cause) (Ok false) (at new.book after learnt) → Appends now then more
+      pub ends_so : (after : ℕ) (learnt : Diagnostic) (then : Option (List ℕ)) → TakesStep b c (Some held) (Some more) (at kept.book lines diagnostic) (Ok false) (at new.book after learnt) → Appends now then more
           → EndsWithStep a c old then first (Ok false) new.book
-      ends_so after learnt then turns grows = ends_as after learnt then (Ok false) (record {
-        said = turns.said;
-        reads = turns.reads;
-        answers = turns.answers;
-        writes = appends_behind now then held more turns.said.answer turns.writes grows;
+      ends_so after learnt then takes_step grows = ends_as after learnt then (Ok false) (record {
+        exchange = takes_step.exchange;
+        reads = takes_step.reads;
+        answers = takes_step.answers;
+        writes = appends_after now then held more takes_step.exchange.answer takes_step.writes grows;
       })
 
-      pub breaks_so : (after : ℕ) (learnt : Account) (then : Option (List ℕ)) (why : TalkFault) → Turns b c (Some held) (Some more) (at kept.book lines cause) (Err why) (at new.book after learnt) → Appends now then more
+      pub breaks_so : (after : ℕ) (learnt : Diagnostic) (then : Option (List ℕ)) (why : TalkFault) → TakesStep b c (Some held) (Some more) (at kept.book lines diagnostic) (Err why) (at new.book after learnt) → Appends now then more
           → EndsWithStep a c old then first (Err why) new.book
-      breaks_so after learnt then talk.Memory turns grows =
-          ends_as after learnt then (Err talk.Memory) (record { none = turns.none; keeps = keeps_behind now then held more turns.keeps grows; same = turns.same })
-      breaks_so after learnt then (talk.Read error) turns grows =
-          ends_as after learnt then (Err (talk.Read error)) (record { none = turns.none; keeps = keeps_behind now then held more turns.keeps grows; same = turns.same })
-      breaks_so after learnt then talk.Internal turns grows =
-          ends_as after learnt then (Err talk.Internal) (record { none = turns.none; keeps = keeps_behind now then held more turns.keeps grows; same = turns.same })
-      breaks_so after learnt then (talk.Write error) turns grows = ends_as after learnt then (Err (talk.Write error)) (record {
-        whole = turns.whole;
-        said = turns.said;
-        reads = turns.reads;
-        behind = turns.behind;
-        answers = turns.answers;
-        same = turns.same;
-        writes = (turns.writes.0, turns.writes.1, turns.writes.2, appends_behind now then held more turns.writes.0 turns.writes.3 grows);
+      breaks_so after learnt then talk.Memory takes_step grows =
+          ends_as after learnt then (Err talk.Memory) (record { none = takes_step.none; keeps = keeps_after now then held more takes_step.keeps grows; same = takes_step.same })
+      breaks_so after learnt then (talk.Read error) takes_step grows =
+          ends_as after learnt then (Err (talk.Read error)) (record { none = takes_step.none; keeps = keeps_after now then held more takes_step.keeps grows; same = takes_step.same })
+      breaks_so after learnt then talk.Internal takes_step grows =
+          ends_as after learnt then (Err talk.Internal) (record { none = takes_step.none; keeps = keeps_after now then held more takes_step.keeps grows; same = takes_step.same })
+      breaks_so after learnt then (talk.Write error) takes_step grows = ends_as after learnt then (Err (talk.Write error)) (record {
+        whole = takes_step.whole;
+        exchange = takes_step.exchange;
+        reads = takes_step.reads;
+        reached = takes_step.reached;
+        answers = takes_step.answers;
+        same = takes_step.same;
+        writes = (takes_step.writes.0, takes_step.writes.1, takes_step.writes.2, appends_after now then held more takes_step.writes.0 takes_step.writes.3 grows);
       })
 
   module _ (come : Option (List ℕ)) (held : List ℕ) (stays : FailsBuffered seen may_leave durable a come old now held first kept) where
@@ -216,18 +216,18 @@ module _ {D : Type 0} (seen : D → List ℕ) (may_leave : D → List ℕ → Ty
           record {
             left = stays.right;
             last = stays.last;
-            told = told_now;
+            written = written_now;
             crash = λ c left. (
               stored_in kept,
               holds_leave seen may_leave (stored_in kept) new all c left,
-              at_least_front (told_now.said ++ told_now.more) durable (stored_of stays.last.history) (stored_in kept) (part_through stays.still within_book)
+              at_least_front (written_now.exchanges ++ written_now.more) durable (stored_of stays.last.history) (stored_in kept) (part_through stays.still within_book)
                   (subst (λ (h : Entries). IsFrontOf (stored_of h) (stored_in kept)) (sym stays.is) (part_self (stored_in kept))),
               subst (λ (h : Entries). IsFrontOf (stored_in kept) (stored_of h)) (sym same) (part_self (stored_in kept)),
             );
           }
         where
-          told_now : Told a stays.right old after first stays.last
-          told_now = told_trans a stays.left stays.right old now after held first stays.middle stays.last stays.told stays.behind grows
+          written_now : AnswersWritten a stays.right old after first stays.last
+          written_now = written_trans a stays.left stays.right old now after held first stays.middle stays.last stays.written stays.pending grows
 
       -- it is not known whether they are persisted
       left_some : (answered : List Exchange) → IsFrontOf (durable_at_least answered durable (stored_of stays.middle.history)) stays.calls
@@ -249,15 +249,15 @@ module _ {D : Type 0} (seen : D → List ℕ) (may_leave : D → List ℕ → Ty
       -- and nothing is written
       promised_some : MayBeDurable seen may_leave kept new → Keeps now after → Promises seen may_leave durable a old after first new
       promised_some may keeps =
-          let told_so : HasAnswered a stays.left old after first stays.middle = holds_kept a stays.left old now after first stays.middle stays.told keeps in
-          let told_now : Told a stays.left old after first stays.middle = told_of a stays.left old after first stays.middle told_so in
+          let written_so : HasAnswered a stays.left old after first stays.middle = holds_kept a stays.left old now after first stays.middle stays.written keeps in
+          let written_now : AnswersWritten a stays.left old after first stays.middle = answers_written a stays.left old after first stays.middle written_so in
           record {
             left = stays.left;
             last = stays.middle;
-            told = told_now;
-            crash = λ c left. left_some (told_now.said ++ told_now.more)
+            written = written_now;
+            crash = λ c left. left_some (written_now.exchanges ++ written_now.more)
                 (subst (λ (l : List Exchange). IsFrontOf (durable_at_least l durable (stored_of stays.middle.history)) stays.calls)
-                (sym (told_of_all a stays.left old after first stays.middle told_so ∙ holds_kept_all a stays.left old now after first stays.middle stays.told keeps)) stays.since)
+                (sym (all_answers_written a stays.left old after first stays.middle written_so ∙ holds_kept_all a stays.left old now after first stays.middle stays.written keeps)) stays.since)
                 c (may stays.calls within_book stays.holds c left);
           }
 
@@ -269,7 +269,7 @@ module _ {D : Type 0} (seen : D → List ℕ) (may_leave : D → List ℕ → Ty
       unwritten keeps grows = record {
         last = stays.last;
         right = stays.right;
-        told = told_trans a stays.left stays.right old now after held first stays.middle stays.last stays.told stays.behind grows;
+        written = written_trans a stays.left stays.right old now after held first stays.middle stays.last stays.written stays.pending grows;
         reads = stays.reads;
         is = last_is;
         holds = holds_all new same keeps;
@@ -283,98 +283,98 @@ module _ {D : Type 0} (seen : D → List ℕ) (may_leave : D → List ℕ → Ty
         last = stays.last;
         left = stays.left;
         right = stays.right;
-        told = holds_kept a stays.left old now after first stays.middle stays.told keeps;
-        behind = told_unseen stays.left stays.right (Some []) (Some held) stays.middle stays.last stays.behind;
+        written = holds_kept a stays.left old now after first stays.middle stays.written keeps;
+        pending = written_unknown stays.left stays.right (Some []) (Some held) stays.middle stays.last stays.pending;
         reads = stays.reads;
         is = last_is;
         calls = stays.calls;
         still = stays.still;
         since = subst (λ (l : List Exchange). IsFrontOf (durable_at_least l durable (stored_of stays.middle.history)) stays.calls)
-            (sym (holds_kept_all a stays.left old now after first stays.middle stays.told keeps)) stays.since;
+            (sym (holds_kept_all a stays.left old now after first stays.middle stays.written keeps)) stays.since;
         within = subst (λ (h : Entries). IsFrontOf stays.calls (stored_of h)) (sym same) within_book;
         crash = λ c left. subst (λ (h : Entries). IsStoreOf stays.calls c ⊎ IsStoreOf (stored_of h) c) (sym same) (may stays.calls within_book stays.holds c left);
         leaves = leaves_durable seen may_leave why stays.calls kept new stays.holds leaves;
       }
 
       -- if everything is flushed
-      pub promised : (done : Unit {0}) (rest : List ℕ) → Settles seen may_leave kept held now (Ok done) new rest after
+      pub promised : (done : Unit {0}) (rest : List ℕ) → FlushesAnswers seen may_leave kept held now (Ok done) new rest after
           → Promises seen may_leave durable a old after first new × Holds seen may_leave (stored_in new) new
-      promised done rest settles = (promised_all settles.0 (appends_some now after held settles.2), holds_all new same settles.0)
+      promised done rest flushes = (promised_all flushes.0 (appends_some now after held flushes.2), holds_all new same flushes.0)
 
       -- if flushing fails
-      pub stops_so : (why : StoredFault) (rest : List ℕ) → Settles seen may_leave kept held now (Err why) new rest after
+      pub stops_so : (why : StoredFault) (rest : List ℕ) → FlushesAnswers seen may_leave kept held now (Err why) new rest after
           → StopsWithFault seen may_leave durable a come old after first why new
-      stops_so (fault.Kept why) rest settles = (promised_some settles.0 settles.1, unkept why settles.0 settles.1 settles.2)
-      stops_so (fault.Talk why) rest settles = absurd settles
-      stops_so (fault.Frame why) rest settles = absurd settles
-      stops_so (fault.Write error) rest settles = (promised_all settles.0 settles.1, unwritten settles.0 settles.1)
+      stops_so (fault.Kept why) rest flushes = (promised_some flushes.0 flushes.1, unkept why flushes.0 flushes.1 flushes.2)
+      stops_so (fault.Talk why) rest flushes = absurd flushes
+      stops_so (fault.Frame why) rest flushes = absurd flushes
+      stops_so (fault.Write error) rest flushes = (promised_all flushes.0 flushes.1, unwritten flushes.0 flushes.1)
 
 -- whatever the result of flushing
-pub settled_first : {D : Type 0} (seen : D → List ℕ) (may_leave : D → List ℕ → Type 0) (durable : Stored) (a b old now after : Option (List ℕ)) (first : Standing) (kept new : Kept D) (held rest : List ℕ) (lines : ℕ) (cause : Account)
-    (result : Result (Unit {0}) StoredFault) → BuffersAnswers seen may_leave durable a b old now held first (at kept.book lines cause) kept → Settles seen may_leave kept held now result new rest after
-    → new.book ≡ kept.book → AfterFlush seen may_leave durable a b old after rest first (at new.book lines cause) result new
-settled_first seen may_leave durable a b old now after first kept new held rest lines cause (Ok done) goes settles same =
-    settled seen may_leave durable a old now first kept b held lines cause goes new after rest settles.0 settles.1 settles.2 same
-settled_first seen may_leave durable a b old now after first kept new held rest lines cause (Err why) goes settles same =
-    stops_so seen may_leave durable a old now first kept b held (stays seen may_leave durable a old now first kept b held lines cause goes) new after same why rest settles
+pub flushed_first : {D : Type 0} (seen : D → List ℕ) (may_leave : D → List ℕ → Type 0) (durable : Stored) (a b old now after : Option (List ℕ)) (first : SessionState) (kept new : Kept D) (held rest : List ℕ) (lines : ℕ) (diagnostic : Diagnostic)
+    (result : Result (Unit {0}) StoredFault) → BuffersAnswers seen may_leave durable a b old now held first (at kept.book lines diagnostic) kept → FlushesAnswers seen may_leave kept held now result new rest after
+    → new.book ≡ kept.book → AfterFlush seen may_leave durable a b old after rest first (at new.book lines diagnostic) result new
+flushed_first seen may_leave durable a b old now after first kept new held rest lines diagnostic (Ok done) buffers flushes same =
+    settled seen may_leave durable a old now first kept b held lines diagnostic buffers new after rest flushes.0 flushes.1 flushes.2 same
+flushed_first seen may_leave durable a b old now after first kept new held rest lines diagnostic (Err why) buffers flushes same =
+    stops_so seen may_leave durable a old now first kept b held (stays seen may_leave durable a old now first kept b held lines diagnostic buffers) new after same why rest flushes
 
 -- whatever the result of a step after which everything is flushed
-module _ {D : Type 0} (seen : D → List ℕ) (may_leave : D → List ℕ → Type 0) (durable : Stored) (a b d old now : Option (List ℕ)) (first : Standing) (kept asked : Kept D) (held more : List ℕ) (lines after : ℕ) (cause learnt : Account)
-    (goes : BuffersAnswers seen may_leave durable a b old now held first (at kept.book lines cause) kept) (same_log : asked.log ≡ kept.log) (same_count : asked.count ≡ kept.count)
-    (new : Kept D) (same : new.book ≡ asked.book) (rest : List ℕ) (then : Option (List ℕ)) where
-  module _ (turns : Turns b d (Some held) (Some more) (at kept.book lines cause) (Ok false) (at asked.book after learnt)) where
-    stays_ended : FailsBuffered seen may_leave durable a d old now more first asked
-    stays_ended = ended seen may_leave durable a old now first kept b held lines cause goes d more asked same_log same_count after learnt turns
+module _ {D : Type 0} (seen : D → List ℕ) (may_leave : D → List ℕ → Type 0) (durable : Stored) (a b d old now : Option (List ℕ)) (first : SessionState) (kept executed : Kept D) (held more : List ℕ) (lines after : ℕ) (diagnostic learnt : Diagnostic)
+    (buffers : BuffersAnswers seen may_leave durable a b old now held first (at kept.book lines diagnostic) kept) (same_log : executed.log ≡ kept.log) (same_count : executed.count ≡ kept.count)
+    (new : Kept D) (same : new.book ≡ executed.book) (rest : List ℕ) (then : Option (List ℕ)) where
+  module _ (takes_step : TakesStep b d (Some held) (Some more) (at kept.book lines diagnostic) (Ok false) (at executed.book after learnt)) where
+    ended_with_buffer : FailsBuffered seen may_leave durable a d old now more first executed
+    ended_with_buffer = ended seen may_leave durable a old now first kept b held lines diagnostic buffers d more executed same_log same_count after learnt takes_step
 
     -- at the end of the input
-    pub comes_end : (done : Unit {0}) → Settles seen may_leave asked more now (Ok done) new rest then
+    pub ends_step : (done : Unit {0}) → FlushesAnswers seen may_leave executed more now (Ok done) new rest then
         → AfterStep seen may_leave durable a d old then rest first (at new.book after learnt) (Ok false) new
-    comes_end done settles =
-        let both = promised seen may_leave durable a old now first asked d more stays_ended new then same done rest settles in (
+    ends_step done flushes =
+        let both = promised seen may_leave durable a old now first executed d more ended_with_buffer new then same done rest flushes in (
           both.0,
           subst (λ (h : Entries). EndsWithStep a d old then first (Ok false) h) (sym same)
-              (ends_so seen may_leave durable a old now first kept b held lines cause goes d more asked same_log same_count after learnt then turns settles.2),
+              (ends_so seen may_leave durable a old now first kept b held lines diagnostic buffers d more executed same_log same_count after learnt then takes_step flushes.2),
           both.1,
         )
 
-    pub comes_end_unsettled : (why : StoredFault) → Settles seen may_leave asked more now (Err why) new rest then → StopsWithFault seen may_leave durable a d old then first why new
-    comes_end_unsettled why settles = stops_so seen may_leave durable a old now first asked d more stays_ended new then same why rest settles
+    pub ends_unflushed : (why : StoredFault) → FlushesAnswers seen may_leave executed more now (Err why) new rest then → StopsWithFault seen may_leave durable a d old then first why new
+    ends_unflushed why flushes = stops_so seen may_leave durable a old now first executed d more ended_with_buffer new then same why rest flushes
 
-  module _ (wrong : TalkFault) (turns : Turns b d (Some held) (Some more) (at kept.book lines cause) (Err wrong) (at asked.book after learnt)) where
-    stays_stopped : FailsBuffered seen may_leave durable a d old now more first asked
-    stays_stopped = stopped seen may_leave durable a old now first kept b held lines cause goes d more asked same_log same_count after learnt wrong turns
+  module _ (wrong : TalkFault) (takes_step : TakesStep b d (Some held) (Some more) (at kept.book lines diagnostic) (Err wrong) (at executed.book after learnt)) where
+    stopped_with_buffer : FailsBuffered seen may_leave durable a d old now more first executed
+    stopped_with_buffer = stopped seen may_leave durable a old now first kept b held lines diagnostic buffers d more executed same_log same_count after learnt wrong takes_step
 
     -- at a fault
-    pub comes_fault : (told : TalkFault) → told ≡ write_as_memory wrong → (done : Unit {0}) → Settles seen may_leave asked more now (Ok done) new rest then
-        → StopsWithFault seen may_leave durable a d old then first (fault.Talk told) new
-    comes_fault told told_is done settles =
-        let both = promised seen may_leave durable a old now first asked d more stays_stopped new then same done rest settles in (
+    pub fails_step : (reported : TalkFault) → reported ≡ write_as_memory wrong → (done : Unit {0}) → FlushesAnswers seen may_leave executed more now (Ok done) new rest then
+        → StopsWithFault seen may_leave durable a d old then first (fault.Talk reported) new
+    fails_step reported reported_is done flushes =
+        let both = promised seen may_leave durable a old now first executed d more stopped_with_buffer new then same done rest flushes in (
           both.0,
           record {
             why = wrong;
-            told_is = told_is;
+            reported_is = reported_is;
             ends = subst (λ (h : Entries). EndsWithStep a d old then first (Err wrong) h) (sym same)
-                (breaks_so seen may_leave durable a old now first kept b held lines cause goes d more asked same_log same_count after learnt then wrong turns settles.2);
+                (breaks_so seen may_leave durable a old now first kept b held lines diagnostic buffers d more executed same_log same_count after learnt then wrong takes_step flushes.2);
           },
           both.1,
         )
 
-    pub comes_unsettled : (why : StoredFault) → Settles seen may_leave asked more now (Err why) new rest then → StopsWithFault seen may_leave durable a d old then first why new
-    comes_unsettled why settles = stops_so seen may_leave durable a old now first asked d more stays_stopped new then same why rest settles
+    pub fails_unflushed : (why : StoredFault) → FlushesAnswers seen may_leave executed more now (Err why) new rest then → StopsWithFault seen may_leave durable a d old then first why new
+    fails_unflushed why flushes = stops_so seen may_leave durable a old now first executed d more stopped_with_buffer new then same why rest flushes
 
 -- the rest of a commit
-pub settles_so : {D : Type 0} (seen : D → List ℕ) (may_leave : D → List ℕ → Type 0) (old new : Kept D) (held now : List ℕ) (before after : Option (List ℕ)) (result : Result (Unit {0}) StoredFault)
+pub flushes_so : {D : Type 0} (seen : D → List ℕ) (may_leave : D → List ℕ → Type 0) (old new : Kept D) (held now : List ℕ) (before after : Option (List ℕ)) (result : Result (Unit {0}) StoredFault)
     → AllAreDurable seen may_leave old new
     → MatchResult result (λ done. (now ≡ []) × Appends before after held) (λ why. IsUnwritten why × AppendsSome before after held)
-    → Settles seen may_leave old held before result new now after
-settles_so seen may_leave old new held now before after (Ok done) keeps goes = (keeps, goes.0, goes.1)
-settles_so seen may_leave old new held now before after (Err (fault.Kept why)) keeps goes = absurd goes.0
-settles_so seen may_leave old new held now before after (Err (fault.Talk why)) keeps goes = absurd goes.0
-settles_so seen may_leave old new held now before after (Err (fault.Frame why)) keeps goes = absurd goes.0
-settles_so seen may_leave old new held now before after (Err (fault.Write error)) keeps goes = (keeps, goes.1)
+    → FlushesAnswers seen may_leave old held before result new now after
+flushes_so seen may_leave old new held now before after (Ok done) keeps buffers = (keeps, buffers.0, buffers.1)
+flushes_so seen may_leave old new held now before after (Err (fault.Kept why)) keeps buffers = absurd buffers.0
+flushes_so seen may_leave old new held now before after (Err (fault.Talk why)) keeps buffers = absurd buffers.0
+flushes_so seen may_leave old new held now before after (Err (fault.Frame why)) keeps buffers = absurd buffers.0
+flushes_so seen may_leave old new held now before after (Err (fault.Write error)) keeps buffers = (keeps, buffers.1)
 
 -- the fault of a turn is the fault of the conversation
-pub talk_stops : {D : Type 0} (seen : D → List ℕ) (may_leave : D → List ℕ → Type 0) (durable : Stored) (a d old now : Option (List ℕ)) (first : Standing) (kept : Kept D)
+pub talk_stops : {D : Type 0} (seen : D → List ℕ) (may_leave : D → List ℕ → Type 0) (durable : Stored) (a d old now : Option (List ℕ)) (first : SessionState) (kept : Kept D)
     (result : Result (Unit {0}) StoredFault) (why : StoredFault) → IsErrAnd result (λ fault. fault ≡ why) → StopsWithFault seen may_leave durable a d old now first why kept
     → TalksKept seen may_leave durable a d old now first result kept
 talk_stops seen may_leave durable a d old now first kept (Ok done) why is stops = absurd is

@@ -6,7 +6,7 @@ use Rattle.camp_kept.specs.Accepting.{Stored, stored_of}
 use Rattle.camp_kept.specs.Keeping.{AreFirst, Holds, IsStoreOf, LeavesKept, stored_in, store_texts}
 use Rattle.camp_kept.specs.declared.faults.KeptFault.{KeptFault}
 use Rattle.camp_kept.specs.declared.kept.Kept.{Kept}
-use Rattle.camp_kept_talk.specs.Going.{AllAreDurable, MayBeDurable, Settles}
+use Rattle.camp_kept_talk.specs.Buffering.{AllAreDurable, FlushesAnswers, MayBeDurable}
 use Rattle.camp_kept.proofs.Parts.{part_grows, part_self, part_through}
 use Rattle.camp_kept_talk.specs.Laws.{KeptRequestsAreServedInTurn}
 use Rattle.camp_kept_talk.specs.Promises.{durable_at_least}
@@ -24,28 +24,28 @@ use Rattle.camp_talk.specs.declared.frames.FrameFault.{FrameFault}
 use Rattle.camp_talk.proofs.Growing.{serves_grow}
 use Rattle.camp_talk.proofs.Served.{served_in_turn as served_so}
 
-module _ {D : Type 0} (seen : D → List ℕ) (may_leave : D → List ℕ → Type 0) (durable : Stored) (a b before : Option (List ℕ)) (old asked : Kept D) (held : List ℕ)
-    (same_log : asked.log ≡ old.log) (same_count : asked.count ≡ old.count) (front : AreFirst durable old) (holds : Holds seen may_leave durable old) where
+module _ {D : Type 0} (seen : D → List ℕ) (may_leave : D → List ℕ → Type 0) (durable : Stored) (a b before : Option (List ℕ)) (old executed : Kept D) (held : List ℕ)
+    (same_log : executed.log ≡ old.log) (same_count : executed.count ≡ old.count) (front : AreFirst durable old) (holds : Holds seen may_leave durable old) where
   -- asking the book does not change the disk
-  holds_asked : Holds seen may_leave durable asked
-  holds_asked = record {
+  holds_executed : Holds seen may_leave durable executed
+  holds_executed = record {
     accepted = holds.accepted;
     keeps = subst (λ log. KeepsTexts seen may_leave (store_texts durable) log) (sym same_log) holds.keeps;
     count_is = same_count ∙ holds.count_is;
   }
 
   -- there is no more
-  pub serves_no_more : Serves a b (Some []) (Some held) old.book (Ok false) asked.book → ServesKept seen may_leave a b before before durable old (Ok false) asked
-  serves_no_more serves = (record { reads = serves.reads; ends = serves.ends; keeps = Keeps-refl before; same = serves.same }, holds_asked)
+  pub serves_no_more : Serves a b (Some []) (Some held) old.book (Ok false) executed.book → ServesKept seen may_leave a b before before durable old (Ok false) executed
+  serves_no_more serves = (record { reads = serves.reads; ends = serves.ends; keeps = Keeps-refl before; same = serves.same }, holds_executed)
 
-  module _ (came : Result Bool FrameFault) (serves : Serves a b (Some []) (Some held) old.book came asked.book) where
-    first_asked : AreFirst durable asked
-    first_asked = part_through front (part_grows old.book asked.book (serves_grow a b (Some []) (Some held) old.book came asked.book serves))
+  module _ (came : Result Bool FrameFault) (serves : Serves a b (Some []) (Some held) old.book came executed.book) where
+    first_executed : AreFirst durable executed
+    first_executed = part_through front (part_grows old.book executed.book (serves_grow a b (Some []) (Some held) old.book came executed.book serves))
 
-    module _ (new : Kept D) (same : new.book ≡ asked.book) where
-      pub all_kept : AllAreDurable seen may_leave asked new → Holds seen may_leave (stored_in new) new
+    module _ (new : Kept D) (same : new.book ≡ executed.book) where
+      pub all_kept : AllAreDurable seen may_leave executed new → Holds seen may_leave (stored_in new) new
       all_kept keeps =
-          subst (λ (h : Entries). Holds seen may_leave (stored_of h) new) (sym same) (keeps durable first_asked holds_asked)
+          subst (λ (h : Entries). Holds seen may_leave (stored_of h) new) (sym same) (keeps durable first_executed holds_executed)
 
       held_so : ServesHeld a b old.book came new.book
       held_so = record { frame = held; serves = subst (λ (h : Entries). Serves a b (Some []) (Some held) old.book came h) (sym same) serves }
@@ -53,62 +53,62 @@ module _ {D : Type 0} (seen : D → List ℕ) (may_leave : D → List ℕ → Ty
       pub unkept : ServesUnkept a b old.book new.book
       unkept = record { came = came; held = held_so }
 
-      pub may_keep : MayBeDurable seen may_leave asked new → MayKeep seen may_leave durable new
+      pub may_keep : MayBeDurable seen may_leave executed new → MayKeep seen may_leave durable new
       may_keep may c leaves =
           subst (λ (h : Entries). IsStoreOf durable c ⊎ IsStoreOf (stored_of h) c) (sym same)
-          (may durable first_asked holds_asked c leaves)
+          (may durable first_executed holds_executed c leaves)
 
-  module _ (serves : Serves a b (Some []) (Some held) old.book (Ok true) asked.book) (new : Kept D) (same : new.book ≡ asked.book) (now : List ℕ) (after : Option (List ℕ)) where
+  module _ (serves : Serves a b (Some []) (Some held) old.book (Ok true) executed.book) (new : Kept D) (same : new.book ≡ executed.book) (now : List ℕ) (after : Option (List ℕ)) where
     -- an answer is written after the calls
-    pub serves_so : (done : Unit {0}) → Settles seen may_leave asked held before (Ok done) new now after → ServesKept seen may_leave a b before after durable old (Ok true) new
-    serves_so done settles = (
+    pub serves_so : (done : Unit {0}) → FlushesAnswers seen may_leave executed held before (Ok done) new now after → ServesKept seen may_leave a b before after durable old (Ok true) new
+    serves_so done flushes = (
       record {
         service = serves.service;
         is = serves.is;
         reads = serves.reads;
         answers = subst (λ (h : Entries). AnswersRequest old.book serves.service.request serves.service.answer h) (sym same) serves.answers;
-        writes = subst (λ (l : List ℕ). Appends before after l) serves.writes settles.2;
+        writes = subst (λ (l : List ℕ). Appends before after l) serves.writes flushes.2;
       },
-      all_kept (Ok true) serves new same settles.0,
+      all_kept (Ok true) serves new same flushes.0,
     )
 
     -- or not
-    pub serves_not : (why : StoredFault) → Settles seen may_leave asked held before (Err why) new now after → ServesKept seen may_leave a b before after durable old (Err why) new
-    serves_not (fault.Kept why) settles = (
-      settles.1,
+    pub serves_not : (why : StoredFault) → FlushesAnswers seen may_leave executed held before (Err why) new now after → ServesKept seen may_leave a b before after durable old (Err why) new
+    serves_not (fault.Kept why) flushes = (
+      flushes.1,
       unkept (Ok true) serves new same,
-      may_keep (Ok true) serves new same settles.0,
-      leaves_durable seen may_leave why durable asked new holds_asked settles.2,
+      may_keep (Ok true) serves new same flushes.0,
+      leaves_durable seen may_leave why durable executed new holds_executed flushes.2,
     )
-    serves_not (fault.Talk why) settles = absurd settles
-    serves_not (fault.Frame why) settles = absurd settles
-    serves_not (fault.Write error) settles = (
+    serves_not (fault.Talk why) flushes = absurd flushes
+    serves_not (fault.Frame why) flushes = absurd flushes
+    serves_not (fault.Write error) flushes = (
       record {
         service = serves.service;
         is = serves.is;
         reads = serves.reads;
         answers = subst (λ (h : Entries). AnswersRequest old.book serves.service.request serves.service.answer h) (sym same) serves.answers;
-        writes = subst (λ (l : List ℕ). AppendsSome before after l) serves.writes settles.1;
+        writes = subst (λ (l : List ℕ). AppendsSome before after l) serves.writes flushes.1;
       },
-      all_kept (Ok true) serves new same settles.0,
+      all_kept (Ok true) serves new same flushes.0,
     )
 
-  module _ (why : FrameFault) (serves : Serves a b (Some []) (Some held) old.book (Err why) asked.book) (new : Kept D) (same : new.book ≡ asked.book) where
+  module _ (why : FrameFault) (serves : Serves a b (Some []) (Some held) old.book (Err why) executed.book) (new : Kept D) (same : new.book ≡ executed.book) where
     -- a request could not be served
-    pub serves_none : (told : FrameFault) → told ≡ frame_write_as_memory why → AllAreDurable seen may_leave asked new → ServesKept seen may_leave a b before before durable old (Err (fault.Frame told)) new
-    serves_none told told_is keeps = (
+    pub serves_none : (reported : FrameFault) → reported ≡ frame_write_as_memory why → AllAreDurable seen may_leave executed new → ServesKept seen may_leave a b before before durable old (Err (fault.Frame reported)) new
+    serves_none reported reported_is keeps = (
       Keeps-refl before,
-      record { why = why; told_is = told_is; held = held_so (Err why) serves new same },
+      record { why = why; reported_is = reported_is; held = held_so (Err why) serves new same },
       all_kept (Err why) serves new same keeps,
     )
 
-    pub serves_unkept : (told : KeptFault) → MayBeDurable seen may_leave asked new → LeavesKept told asked new
-        → ServesKept seen may_leave a b before before durable old (Err (fault.Kept told)) new
-    serves_unkept told may leaves = (
+    pub serves_unkept : (reported : KeptFault) → MayBeDurable seen may_leave executed new → LeavesKept reported executed new
+        → ServesKept seen may_leave a b before before durable old (Err (fault.Kept reported)) new
+    serves_unkept reported may leaves = (
       Keeps-refl before,
       unkept (Err why) serves new same,
       may_keep (Err why) serves new same may,
-      leaves_durable seen may_leave told durable asked new holds_asked leaves,
+      leaves_durable seen may_leave reported durable executed new holds_executed leaves,
     )
 
 -- the place of a service, over any durable repository
@@ -137,5 +137,5 @@ turns_too seen may_leave durable first last (next ∷ over) front holds leads =
 
 pub served_in_turn : {D : Type 0} (seen : D → List ℕ) (may_leave : D → List ℕ → Type 0) → KeptRequestsAreServedInTurn seen may_leave
 served_in_turn seen may_leave durable first last over front holds leads =
-    let turns = turns_too seen may_leave durable first last over front holds leads in
-    (served_so (counter first) (counter last) (map counter over) turns.0, turns.1)
+    let takes_step = turns_too seen may_leave durable first last over front holds leads in
+    (served_so (counter first) (counter last) (map counter over) takes_step.0, takes_step.1)

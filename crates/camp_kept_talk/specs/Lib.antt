@@ -1,4 +1,4 @@
-pub mod Going
+pub mod Buffering
 pub mod Laws
 pub mod Promises
 pub mod Serving

@@ -5,27 +5,27 @@ use Rattle.std.specs.Io.KnownBytes.{Consumes, IsAtEnd}
 use Rattle.camp_kept.specs.Accepting.{IsFrontOf, Stored, stored_of}
 use Rattle.camp_kept.specs.Keeping.{IsStoreOf, stored_in, disk_in}
 use Rattle.camp_kept.specs.declared.kept.Kept.{Kept}
-use Rattle.camp_talk.specs.Answers.{Answers, Standing}
+use Rattle.camp_talk.specs.Answers.{Answers, SessionState}
 use Rattle.camp_talk.specs.Cutting.{IsCommand, IsLeft}
-use Rattle.camp_talk.specs.Talks.{AppendsSome, Exchange, Follow}
+use Rattle.camp_talk.specs.Talks.{AnswersInOrder, AppendsSome, Exchange}
 
 -- one more command was answered, or none: a whole one or, if the input has ended, what that leaves of one
-abbrev pub AnswersLast : Type 0 → Standing → List Exchange → Standing → Type 0
+abbrev pub AnswersLast : Type 0 → SessionState → List Exchange → SessionState → Type 0
 AnswersLast Ended middle [] last = middle ≡ last
-AnswersLast Ended middle (said ∷ []) last =
-    (IsCommand said.command ⊎ (IsLeft said.command × Ended)) × Answers middle said.command said.answer last
-AnswersLast Ended middle (said ∷ other ∷ others) last = ⊥
+AnswersLast Ended middle (exchange ∷ []) last =
+    (IsCommand exchange.command ⊎ (IsLeft exchange.command × Ended)) × Answers middle exchange.command exchange.answer last
+AnswersLast Ended middle (exchange ∷ other ∷ others) last = ⊥
 
 -- exactly these commands, and perhaps a last one, were read and answered one after the other; and these bytes of
 -- their answers were written: all, or a prefix
-pub record Told (remaining left old new : Option (List ℕ)) (first last : Standing) : Type 0 where
-  pub said : List Exchange
-  pub middle : Standing
-  pub follow : Follow first said middle
+pub record AnswersWritten (remaining left old new : Option (List ℕ)) (first last : SessionState) : Type 0 where
+  pub exchanges : List Exchange
+  pub middle : SessionState
+  pub follow : AnswersInOrder first exchanges middle
   pub more : List Exchange
   pub ends : AnswersLast (OnSome remaining (IsAtEnd left)) middle more last
-  pub reads : Consumes remaining left (flat_map (λ exchange. exchange.command) (said ++ more))
-  pub writes : AppendsSome old new (flat_map (λ exchange. exchange.answer) (said ++ more))
+  pub reads : Consumes remaining left (flat_map (λ exchange. exchange.command) (exchanges ++ more))
+  pub writes : AppendsSome old new (flat_map (λ exchange. exchange.answer) (exchanges ++ more))
 
 -- the calls that are durable at least: before anything was answered those that were durable at first, and after that
 -- all that were accepted until then
@@ -38,10 +38,10 @@ module _ {D : Type 0} (seen : D → List ℕ) (may_leave : D → List ℕ → Ty
   -- where these first calls were durable: nothing but answers to commands was written; and whatever a crash leaves is
   -- a store of a prefix of the accepted calls. It includes those that were durable and, once a command was answered,
   -- all that were accepted up to the last of these commands.
-  pub record Promises (durable : Stored) (remaining old new : Option (List ℕ)) (first : Standing) (kept : Kept D) : Type 0 where
+  pub record Promises (durable : Stored) (remaining old new : Option (List ℕ)) (first : SessionState) (kept : Kept D) : Type 0 where
     pub left : Option (List ℕ)
-    pub last : Standing
-    pub told : Told remaining left old new first last
+    pub last : SessionState
+    pub written : AnswersWritten remaining left old new first last
     pub crash : (c : List ℕ) → may_leave (disk_in kept) c
-        → (calls : Stored) × IsStoreOf calls c × IsFrontOf (durable_at_least (told.said ++ told.more) durable (stored_of last.history)) calls
+        → (calls : Stored) × IsStoreOf calls c × IsFrontOf (durable_at_least (written.exchanges ++ written.more) durable (stored_of last.history)) calls
         × IsFrontOf calls (stored_in kept)

@@ -4,7 +4,7 @@ use Rattle.std.specs.Io.KnownBytes.{Keeps}
 use Rattle.camp_kept.specs.Accepting.{Stored}
 use Rattle.camp_kept.specs.Keeping.{AreFirst, Holds, IsStoreOf, stored_in, disk_in}
 use Rattle.camp_kept.specs.declared.kept.Kept.{Kept}
-use Rattle.camp_kept_talk.specs.Going.{write_as_memory}
+use Rattle.camp_kept_talk.specs.Buffering.{write_as_memory}
 use Rattle.camp_kept_talk.specs.Stopping.{LeavesDurable}
 use Rattle.camp_kept_talk.specs.declared.faults.StoredFault.{StoredFault}
 use Rattle.camp_kept_talk.specs.declared.faults.StoredFault.TheVariants as fault
@@ -27,9 +27,9 @@ frame_write_as_memory Cut = Cut
 frame_write_as_memory (Talk why) = Talk (write_as_memory why)
 
 -- serving a request had a fault before anything was written, and it is reported like this
-pub record ServesNone (remaining rest : Option (List ℕ)) (before : Entries) (told : FrameFault) (after : Entries) : Type 0 where
+pub record ServesNone (remaining rest : Option (List ℕ)) (before : Entries) (reported : FrameFault) (after : Entries) : Type 0 where
   pub why : FrameFault
-  pub told_is : told ≡ frame_write_as_memory why
+  pub reported_is : reported ≡ frame_write_as_memory why
   pub held : ServesHeld remaining rest before (Err why) after
 
 -- serving a request had this result, before its calls could not be persisted

@@ -7,7 +7,7 @@ ghost use Rattle.camp_kept_talk.specs.Stopping.{CountsStored, StaysStopped, stop
 ghost use Rattle.camp_talk.specs.Talks.{HasGrown};
 
 use crate::StoredFault;
-use crate::settling::settle;
+use crate::flushing::commit_and_flush;
 use camp_kept::{Disk, Kept};
 use camp_talk::{Dialogue, FrameFault, TalkFault, serve};
 use std::alloc::Global;
@@ -34,7 +34,7 @@ pub fn serve_kept<D: Disk, R: BufRead, W: Write>(
 {
     let mut frame = Vec::new(alloc);
     match serve(alloc, &mut kept.book, served, reader, &mut frame) {
-        Ok(true) => match settle(alloc, kept, &mut frame, writer) {
+        Ok(true) => match commit_and_flush(alloc, kept, &mut frame, writer) {
             Ok(()) => Ok(true),
             Err(fault) => Err(fault),
         },
@@ -100,7 +100,7 @@ impl<D: Disk, R: BufRead, W: Write> Dialogue for FramedStore<D, R, W> {
 
     ghost left = { λ it. 2 ^ 64 - it.served };
 
-    fn turn(&mut self) -> Result<bool, StoredFault> {
+    fn take_step(&mut self) -> Result<bool, StoredFault> {
         serve_kept(
             self.alloc,
             &mut self.kept,

@@ -3,16 +3,16 @@
 #![tactic(auto)]
 
 mod faults;
+mod flushing;
 mod frames;
 mod laws;
 mod readiness;
-mod settling;
+mod steps;
 mod talks;
-mod turns;
 
 pub use camp_kept::{Disk, Inspection, Kept, KeptFault, inspect};
 pub use faults::StoredFault;
 pub use frames::{FramedStore, serve_kept};
 pub use laws::kept_requests_are_served_in_turn;
+pub use steps::{AnswerBuffer, take_stored_step};
 pub use talks::talk_kept;
-pub use turns::{AnswerBuffer, take_stored_step};

@@ -8,11 +8,11 @@ pub(crate) fn begin_with_command(bytes: &[u8]) -> bool {
     let Some(feed) = bytes.find(b"\n") else {
         return false;
     };
-    let (line, behind) = bytes.split_at(feed);
+    let (line, rest) = bytes.split_at(feed);
     if line.find(b"group").is_some() {
-        return have_group(behind);
+        return have_group(rest);
     }
-    line.find(b"edit").is_none() || behind.find(b"\nend\n").is_some()
+    line.find(b"edit").is_none() || rest.find(b"\nend\n").is_some()
 }
 
 // A line `done` after a line `end` ends a group, whatever comes before; and so does the first one if there is

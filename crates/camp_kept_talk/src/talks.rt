@@ -3,13 +3,13 @@ ghost use Rattle.std.specs.Prelude.{◌≡◌, [], Err, false};
 ghost use Rattle.std.specs.Io.Buffered.{reader_remaining};
 ghost use Rattle.camp_kept.specs.Accepting.{Stored};
 ghost use Rattle.camp_kept.specs.Keeping.{AreFirst, Holds, disk_in, may_commit};
-ghost use Rattle.camp_kept_talk.specs.Going.{TalksKept};
+ghost use Rattle.camp_kept_talk.specs.Buffering.{TalksKept};
 ghost use Rattle.camp_kept_talk.specs.Stopping.{CountsStored, StaysStopped, stopped_fault};
-ghost use Rattle.camp_talk.specs.Accounts.{no_diagnostic};
+ghost use Rattle.camp_talk.specs.Diagnostics.{no_diagnostic};
 
 use crate::StoredFault;
 use crate::readiness::begin_with_command;
-use crate::turns::{AnswerBuffer, take_stored_step};
+use crate::steps::{AnswerBuffer, take_stored_step};
 use camp_kept::{Disk, Kept};
 use std::alloc::Global;
 use std::io::{BufReader, Read, Write};
@@ -27,7 +27,7 @@ pub fn talk_kept<D: Disk, R: Read, W: Write>(
 ) -> Result<(), StoredFault>
     ensures promises { (durable : Stored) → AreFirst durable kept.old → Holds D.Disk.seen D.Disk.may_leave durable kept.old
         → TalksKept D.Disk.seen D.Disk.may_leave durable (reader_remaining R.remaining reader.old) (reader_remaining R.remaining reader.new) (W.contents writer.old) (W.contents writer.new)
-        (record { history = kept.old.book; lines = 0; cause = no_diagnostic }) result kept.new }
+        (record { history = kept.old.book; lines = 0; diagnostic = no_diagnostic }) result kept.new }
     ensures stopped { may_commit kept.old ≡ false → StaysStopped kept.old kept.new writer.old writer.new × (result ≡ Err stopped_fault) }
     ensures faults { CountsStored result (D.Disk.faults (disk_in kept.old)) (D.Disk.faults (disk_in kept.new)) }
     ensures clean { D.Disk.is_clean (disk_in kept.new) ≡ D.Disk.is_clean (disk_in kept.old) }

@@ -40,7 +40,7 @@ fn main(rt: HostRuntime) -> ExitCode {
 fn exit_code(rt: &HostRuntime, ended: Result<(), Stop<'_>>) -> ExitCode {
     match ended {
         Ok(()) => ExitCode::SUCCESS,
-        Err(stop) => ExitCode::from(stop.tell(rt)),
+        Err(stop) => ExitCode::from(stop.report(rt)),
     }
 }
 

@@ -1,7 +1,7 @@
 //! A conversation with a person: a prompt asks for each line.
 ghost use Rattle.std.specs.Prelude.{◌-◌, ◌^◌};
 
-use camp_talk::{Account, Book, Dialogue, State, TalkFault, turn};
+use camp_talk::{Book, Diagnostic, Dialogue, State, TalkFault, take_step};
 use std::alloc::Global;
 use std::io::{self, BufRead, Read, Write};
 
@@ -17,7 +17,7 @@ pub(crate) struct Prompted<R, W> {
     /// The number of lines that were read.
     lines: u64,
     /// The diagnostic of the last fault or refusal.
-    cause: Account,
+    diagnostic: Diagnostic,
     reader: Prompting<R, W>,
     writer: W,
 }
@@ -29,7 +29,7 @@ impl<R: BufRead, W: Write> Prompted<R, W> {
             alloc,
             book,
             lines: 0,
-            cause: Account::new(alloc),
+            diagnostic: Diagnostic::new(alloc),
             reader: Prompting::new(alloc, reader, prompts),
             writer,
         }
@@ -43,13 +43,13 @@ impl<R: BufRead, W: Write> Dialogue for Prompted<R, W> {
 
     ghost left = { λ it. 2 ^ 64 - it.lines };
 
-    fn turn(&mut self) -> Result<bool, TalkFault> {
+    fn take_step(&mut self) -> Result<bool, TalkFault> {
         self.reader.begin();
-        turn(
+        take_step(
             self.alloc,
             &mut self.book,
             &mut self.lines,
-            &mut self.cause,
+            &mut self.diagnostic,
             &mut self.reader,
             &mut self.writer,
         )
@@ -58,7 +58,7 @@ impl<R: BufRead, W: Write> Dialogue for Prompted<R, W> {
 
 /// The line that is read next.
 #[derive(Clone, Copy, Drop)]
-enum Place {
+enum NextLine {
     /// The first line of a command.
     Command,
     /// A further line of a body or a group.
@@ -72,7 +72,7 @@ enum Place {
 pub(crate) struct Prompting<R, W> {
     reader: R,
     prompts: W,
-    place: Place,
+    next_line: NextLine,
     /// The rest of the line that was read last, with its line feed; without one if the input ends after it.
     line: Vec<u8>,
 }
@@ -82,7 +82,7 @@ impl<R: BufRead, W: Write> Prompting<R, W> {
         let mut prompting = Prompting {
             reader,
             prompts,
-            place: Place::Command,
+            next_line: NextLine::Command,
             line: Vec::new(alloc),
         };
         prompting.show(GREETING);
@@ -91,7 +91,7 @@ impl<R: BufRead, W: Write> Prompting<R, W> {
 
     /// Starts a command.
     pub(crate) fn begin(&mut self) {
-        self.place = Place::Command;
+        self.next_line = NextLine::Command;
     }
 
     // Shows a text. If this fails, the fault is reported when the next answer can't be written.
@@ -103,22 +103,24 @@ impl<R: BufRead, W: Write> Prompting<R, W> {
 
     // Asks for the next line by a prompt, and reads it. There is none at the end of the input, and at a command `quit`.
     fn ask_line(&mut self) -> io::Result<()> {
-        match self.place {
-            Place::Command => self.show(b"camp> "),
-            Place::Inside => self.show(b"....> "),
-            Place::End => {}
+        match self.next_line {
+            NextLine::Command => self.show(b"camp> "),
+            NextLine::Inside => self.show(b"....> "),
+            NextLine::End => {}
         }
         self.line.clear();
         if self.reader.read_until(b'\n', &mut self.line)? == 0 {
             self.show(b"\n");
         }
-        if matches!(self.place, Place::Command) && self.line.trim_ascii() == b"quit".as_slice() {
+        if matches!(self.next_line, NextLine::Command)
+            && self.line.trim_ascii() == b"quit".as_slice()
+        {
             self.line.clear();
         }
-        self.place = if self.line.ends_with(b"\n") {
-            Place::Inside
+        self.next_line = if self.line.ends_with(b"\n") {
+            NextLine::Inside
         } else {
-            Place::End
+            NextLine::End
         };
         Ok(())
     }

@@ -36,7 +36,7 @@ const PROGRAM: &str = "camp_shell";
 
 impl Stop<'_> {
     /// Reports why, and returns the exit status.
-    pub(crate) fn tell<R: Print + Eprint>(&self, rt: &R) -> u8 {
+    pub(crate) fn report<R: Print + Eprint>(&self, rt: &R) -> u8 {
         match self {
             Stop::Words(fault) => fault.tell(rt, PROGRAM),
             Stop::Open(file, error) => {
@@ -68,7 +68,9 @@ impl Stop<'_> {
                     3,
                 )
             }
-            Stop::Talk(fault) | Stop::Frame(FrameFault::Talk(fault)) => report_talk_fault(rt, fault),
+            Stop::Talk(fault) | Stop::Frame(FrameFault::Talk(fault)) => report_talk_fault(
+                rt, fault,
+            ),
             Stop::Frame(fault) => tell_fault(rt, PROGRAM, fault, fault.status()),
             Stop::NoName(branch) => {
                 tell_fault(rt, PROGRAM, &format_args!("refused 4 {branch}"), 1)

@@ -6,7 +6,8 @@ use crate::stops::Stop;
 use crate::words::{Form, Wish};
 use crate::{buffered, export_branch, form_at, load_file};
 use camp_kept_talk::{
-    Disk, FramedStore, AnswerBuffer, Kept, KeptFault, StoredFault, inspect, take_stored_step, talk_kept,
+    AnswerBuffer, Disk, FramedStore, Kept, KeptFault, StoredFault, inspect, take_stored_step,
+    talk_kept,
 };
 use camp_talk::{Dialogue, Limits, TalkFault, talk};
 use sqlite_std_file::{File, OpenError, Unknown, open};
@@ -89,7 +90,7 @@ impl<D: Disk, R: BufRead, W: Write> Dialogue for PromptedStore<D, R, W> {
 
     ghost left = { λ it. 2 ^ 64 - it.held.lines };
 
-    fn turn(&mut self) -> Result<bool, StoredFault> {
+    fn take_step(&mut self) -> Result<bool, StoredFault> {
         self.reader.begin();
         take_stored_step(
             self.alloc,
@@ -183,7 +184,7 @@ pub(crate) fn check_store<'a>(rt: &HostRuntime, store: &'a str) -> Result<(), St
     let digest = hex::encode(rt.alloc(), &found.digest)?;
     let calls = found.calls;
     let len = bytes.len();
-    let told = if found.left_out > 0 {
+    let printed = if found.left_out > 0 {
         println!(rt;
             "calls {calls}\nbytes {len}\ndigest {digest}\nend {}",
             found.left_out
@@ -191,7 +192,7 @@ pub(crate) fn check_store<'a>(rt: &HostRuntime, store: &'a str) -> Result<(), St
     } else {
         println!(rt; "calls {calls}\nbytes {len}\ndigest {digest}\nend whole")
     };
-    match told {
+    match printed {
         Ok(()) => Ok(()),
         Err(error) => Err(Stop::Talk(TalkFault::Write(error))),
     }

@@ -7,47 +7,47 @@ use Rattle.camp_questions.specs.Answers.{AnswerOf, Tells, TellsOrWants}
 use Rattle.camp_questions.specs.declared.faults.Unanswered.{Unanswered}
 use Rattle.camp_questions.specs.declared.faults.Unanswered.TheVariants as fault
 use Rattle.camp_repo.specs.States.{Contents}
-use Rattle.camp_talk.specs.Accounts.{Account}
-use Rattle.camp_talk.specs.Inside.Said.{RendersFound}
-use Rattle.camp_talk.specs.declared.awaited.Awaited.{Awaited}
+use Rattle.camp_talk.specs.Diagnostics.{Diagnostic}
+use Rattle.camp_talk.specs.Inside.Responses.{RendersFound}
+use Rattle.camp_talk.specs.declared.recovery.Recovery.{Recovery}
 
-module _ {A Z E : Type 0} (text_of : A → List ℕ) (ComesTo : AnswerOf A → Type 0) where
+module _ {A Z E : Type 0} (text_of : A → List ℕ) (IsAnswer : AnswerOf A → Type 0) where
   -- the text reports what was found, which is the result of the question
-  found_told : (found : Result A Unanswered) (said : Result (Vec ℕ Z) E)
-      → ((answer : A) → found ≡ Ok answer → ComesTo (Ok answer))
-      → ((refusal : Refusal) → found ≡ Err (fault.Refused refusal) → ComesTo (Err refusal))
-      → IfOk said (λ text. RendersFound text_of found text.items) → IfOk said (λ text. RendersAnswer text_of ComesTo text.items)
-  found_told (Ok answer) (Ok text) answers refuses is =
-      record { answer = Ok answer; comes = answers answer refl; tells = is }
-  found_told (Err why) (Ok text) answers refuses (refusal, is, tells) =
-      record { answer = Err refusal; comes = refuses refusal (ap Err is); tells = tells }
-  found_told (Ok answer) (Err error) answers refuses is = tt
-  found_told (Err why) (Err error) answers refuses is = tt
+  found_rendered : (found : Result A Unanswered) (response : Result (Vec ℕ Z) E)
+      → ((answer : A) → found ≡ Ok answer → IsAnswer (Ok answer))
+      → ((refusal : Refusal) → found ≡ Err (fault.Refused refusal) → IsAnswer (Err refusal))
+      → IfOk response (λ text. RendersFound text_of found text.items) → IfOk response (λ text. RendersAnswer text_of IsAnswer text.items)
+  found_rendered (Ok answer) (Ok text) answers refuses is =
+      record { answer = Ok answer; is_answer = answers answer refl; reports = is }
+  found_rendered (Err why) (Ok text) answers refuses (refusal, is, reports) =
+      record { answer = Err refusal; is_answer = refuses refusal (ap Err is); reports = reports }
+  found_rendered (Ok answer) (Err error) answers refuses is = tt
+  found_rendered (Err why) (Err error) answers refuses is = tt
 
-  pub tells_told : (found : Result A Unanswered) (said : Result (Vec ℕ Z) E) → Tells ComesTo found
-      → IfOk said (λ text. RendersFound text_of found text.items) → IfOk said (λ text. RendersAnswer text_of ComesTo text.items)
-  tells_told found said tells =
-      found_told found said (λ answer is. subst (Tells ComesTo) is tells) (λ refusal is. subst (Tells ComesTo) is tells)
+  pub answer_rendered : (found : Result A Unanswered) (response : Result (Vec ℕ Z) E) → Tells IsAnswer found
+      → IfOk response (λ text. RendersFound text_of found text.items) → IfOk response (λ text. RendersAnswer text_of IsAnswer text.items)
+  answer_rendered found response reports =
+      found_rendered found response (λ answer is. subst (Tells IsAnswer) is reports) (λ refusal is. subst (Tells IsAnswer) is reports)
 
-  pub wants_told : (found : Result A Unanswered) (said : Result (Vec ℕ Z) E) → TellsOrWants ComesTo found
-      → IfOk said (λ text. RendersFound text_of found text.items) → IfOk said (λ text. RendersAnswer text_of ComesTo text.items)
-  wants_told found said tells =
-      found_told found said (λ answer is. subst (TellsOrWants ComesTo) is tells) (λ refusal is. subst (TellsOrWants ComesTo) is tells)
+  pub answer_rendered_or_memory : (found : Result A Unanswered) (response : Result (Vec ℕ Z) E) → TellsOrWants IsAnswer found
+      → IfOk response (λ text. RendersFound text_of found text.items) → IfOk response (λ text. RendersAnswer text_of IsAnswer text.items)
+  answer_rendered_or_memory found response reports =
+      found_rendered found response (λ answer is. subst (TellsOrWants IsAnswer) is reports) (λ refusal is. subst (TellsOrWants IsAnswer) is reports)
 
-pub along_told : {Z E : Type 0} (text_of : List (List ℕ) → List ℕ) (state : Contents) (from to : List ℕ) (names : List (List ℕ))
-    → (found : Result (List (List ℕ)) Unanswered) (said : Result (Vec ℕ Z) E) → TellsAlong state from to names found
-    → IfOk said (λ text. RendersFound text_of found text.items) → IfOk said (λ text. RendersAnswer text_of (AreAlong state from to names) text.items)
-along_told text_of state from to names found said tells =
-    found_told text_of (AreAlong state from to names) found said (λ answer is. subst (TellsAlong state from to names) is tells) (λ refusal is. subst (TellsAlong state from to names) is tells)
+pub along_rendered : {Z E : Type 0} (text_of : List (List ℕ) → List ℕ) (state : Contents) (from to : List ℕ) (names : List (List ℕ))
+    → (found : Result (List (List ℕ)) Unanswered) (response : Result (Vec ℕ Z) E) → TellsAlong state from to names found
+    → IfOk response (λ text. RendersFound text_of found text.items) → IfOk response (λ text. RendersAnswer text_of (AreAlong state from to names) text.items)
+along_rendered text_of state from to names found response reports =
+    found_rendered text_of (AreAlong state from to names) found response (λ answer is. subst (TellsAlong state from to names) is reports) (λ refusal is. subst (TellsAlong state from to names) is reports)
 
-abbrev kept_with : Awaited → List ℕ → Account
-kept_with awaited told = record { told = told; awaited = awaited }
+abbrev kept_with : Recovery → List ℕ → Diagnostic
+kept_with recovery report = record { report = report; recovery = recovery }
 
 -- lines that were made are stored, with the lines that may still come
-pub diagnostic_made : {Z E F : Type 0} (made : Result (Vec ℕ Z) E) (said : Result Account F) (told : List ℕ) (awaited : Awaited)
-    → IfOk made (λ text. text.items ≡ told)
-    → IfOk said (λ account. MatchResult made (λ text. account ≡ record { told = text.items; awaited = awaited }) (λ _. ⊥))
-    → IfOk said (λ account. account ≡ record { told = told; awaited = awaited })
-diagnostic_made (Ok text) (Ok account) told awaited is kept = kept ∙ ap (kept_with awaited) is
-diagnostic_made (Err error) (Ok account) told awaited is kept = absurd kept
-diagnostic_made made (Err error) told awaited is kept = tt
+pub diagnostic_made : {Z E F : Type 0} (made : Result (Vec ℕ Z) E) (response : Result Diagnostic F) (report : List ℕ) (recovery : Recovery)
+    → IfOk made (λ text. text.items ≡ report)
+    → IfOk response (λ diagnostic. MatchResult made (λ text. diagnostic ≡ record { report = text.items; recovery = recovery }) (λ _. ⊥))
+    → IfOk response (λ diagnostic. diagnostic ≡ record { report = report; recovery = recovery })
+diagnostic_made (Ok text) (Ok diagnostic) report recovery is kept = kept ∙ ap (kept_with recovery) is
+diagnostic_made (Err error) (Ok diagnostic) report recovery is kept = absurd kept
+diagnostic_made made (Err error) report recovery is kept = tt

@@ -15,9 +15,9 @@ use Rattle.camp_script.proofs.CanonicalLines.{words_of-joined}
 use Rattle.camp_script.proofs.CommandCuts.{first_takes_by_words, nothing_wanted, wanted_words}
 use Rattle.camp_script.proofs.CalledLines.{body_lines, change_lines, ends_called, first_words_of, head_are, lines_behind, lines_called, record_rest, record_words, regrouped_lines, text_reads, words_called}
 use Rattle.camp_talk.proofs.LineReads.{as_read_short}
-use Rattle.camp_talk.specs.Asking.{parsed_words}
+use Rattle.camp_talk.specs.Parsing.{parsed_words}
 use Rattle.camp_talk.specs.Laws.{IsReadWhole}
-use Rattle.camp_talk.specs.declared.questions.Asked.TheVariants as asked
+use Rattle.camp_talk.specs.declared.questions.ParsedCommand.TheVariants as parsed
 
 -- ---- what belongs to the first line of a call
 
@@ -67,11 +67,11 @@ group_wanted [] others h =
     head_wanted (codes "done") (codes "done" ∷ []) others (words_of-joined (codes "done") [] (refl, tt)) ∙ ap (λ ls. codes "done" ∷ ls) (nothing_wanted others)
 group_wanted (change ∷ changes) others h =
     let done = codes "done" ∷ [] in
-    let behind = flat_map change_lines changes ++ done in
-    let whole : flat_map change_lines (change ∷ changes) ++ done ≡ change_lines change ++ behind =
+    let after = flat_map change_lines changes ++ done in
+    let whole : flat_map change_lines (change ∷ changes) ++ done ≡ change_lines change ++ after =
     ap (λ ls. ls ++ done) (flat_map-cons change_lines change changes) ∙ append_assoc (change_lines change) (flat_map change_lines changes) done in
-    ap (λ ls. wanted_lines want.Group (ls ++ others)) whole ∙ ap (wanted_lines want.Group) (append_assoc (change_lines change) behind others)
-    ∙ change_wanted change (behind ++ others) h.0 ∙ ap (λ ls. change_lines change ++ ls) (group_wanted changes others h.1) ∙ sym whole
+    ap (λ ls. wanted_lines want.Group (ls ++ others)) whole ∙ ap (wanted_lines want.Group) (append_assoc (change_lines change) after others)
+    ∙ change_wanted change (after ++ others) h.0 ∙ ap (λ ls. change_lines change ++ ls) (group_wanted changes others h.1) ∙ sym whole
 
 record_wanted : (branch name : List ℕ) (changes : List Primitive) (others : List (List ℕ)) → AllByRecursion IsChange changes
     → wanted_lines (wanted_words (record_words branch name changes)) (record_rest changes ++ others) ≡ record_rest changes
@@ -93,7 +93,7 @@ foresees : (c : Call) → begins_with (codes "whatif") (first_words_of c) ≡ fa
 foresees (call.Record branch name (change ∷ [])) = refl
 foresees other = refl
 
-asks : (c : Call) → parsed_words (first_words_of c) (Ok ((c ∷ []) ∷ [])) ≡ Ok (asked.Call c)
+asks : (c : Call) → parsed_words (first_words_of c) (Ok ((c ∷ []) ∷ [])) ≡ Ok (parsed.Call c)
 asks (call.Record branch name (change ∷ [])) = refl
 asks other = refl
 
@@ -137,7 +137,7 @@ module _ (c : Call) (can : IsScriptCall c) (short : IsReadWhole c) where
   }
 
   -- and it is this call
-  pub asks_call : parsed_command (call_text c) ≡ Ok (asked.Call c)
+  pub asks_call : parsed_command (call_text c) ≡ Ok (parsed.Call c)
   asks_call =
       ap parsed_lines lines_are
       ∙ ap (λ words. parsed_words words (script_in (first ∷ lines_behind c))) (words_called c can)

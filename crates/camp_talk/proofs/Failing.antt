@@ -1,5 +1,5 @@
 -- An answer is a failure exactly if its command has a fault, it was refused, or memory ran out.
-use Rattle.camp_talk.proofs.Words.{◌≡◌, inl, inr, ℕ, true, false, List, Option, None, Some, Result, Ok, Err, refl, sym, ap, subst, ◌∙◌, true≢false, Call, LineFault, reply_text, Standing, Tells, parsed_command, Entries, reports_failure, Asked}
+use Rattle.camp_talk.proofs.Words.{◌≡◌, inl, inr, ℕ, true, false, List, Option, None, Some, Result, Ok, Err, refl, sym, ap, subst, ◌∙◌, true≢false, Call, LineFault, reply_text, SessionState, AnswersParsed, parsed_command, Entries, reports_failure, ParsedCommand}
 use Rattle.std.specs.Prelude.{◌↔◌}
 use Rattle.camp_base.specs.Trees.{Lines}
 use Rattle.camp_call.specs.declared.replies.Refusal.{Refusal}
@@ -13,8 +13,8 @@ use Rattle.camp_questions.specs.declared.marking.Marked.{Marked}
 use Rattle.camp_questions.specs.declared.marking.Marked.TheVariants as marked
 use Rattle.camp_repo.specs.States.{Contents}
 use Rattle.camp_talk.specs.Laws.{Failed, FailuresAreReported}
-use Rattle.camp_talk.specs.Told.{RendersAnswer, AnswersQuestionAt, annotated_answer, file_answer, marks_answer, told}
-use Rattle.camp_talk.specs.declared.questions.Asked.TheVariants as asked
+use Rattle.camp_talk.specs.QuestionAnswers.{AnswersQuestionAt, RendersAnswer, annotated_answer, answer_or_refusal, file_answer, marks_answer}
+use Rattle.camp_talk.specs.declared.questions.ParsedCommand.TheVariants as parsed
 use Rattle.camp_talk.specs.declared.questions.Question.{Question}
 use Rattle.camp_talk.specs.declared.questions.Question.TheVariants as question
 
@@ -42,12 +42,12 @@ reply_fails (reply.Refused refusal) = refused refusal
 reply_fails other = plain (reply_text other) refl
 
 module _ {A : Type 0} (text_of : A → List ℕ) (none : (answer : A) → reports_failure (text_of answer) ≡ false) where
-  answer_fails : (answer : AnswerOf A) → Refuses (told text_of answer)
+  answer_fails : (answer : AnswerOf A) → Refuses (answer_or_refusal text_of answer)
   answer_fails (Ok answer) = plain (text_of answer) (none answer)
   answer_fails (Err refusal) = refused refusal
 
-  told_fails : (ComesTo : AnswerOf A → Type 0) (text : List ℕ) → RendersAnswer text_of ComesTo text → Refuses text
-  told_fails ComesTo text is = subst Refuses (sym is.tells) (answer_fails is.answer)
+  refusal_fails : (IsAnswer : AnswerOf A → Type 0) (text : List ℕ) → RendersAnswer text_of IsAnswer text → Refuses text
+  refusal_fails IsAnswer text is = subst Refuses (sym is.reports) (answer_fails is.answer)
 
 annotated_plain : (answer : Annotated) → reports_failure (annotated_answer answer) ≡ false
 annotated_plain (annotated.File lines names) = refl
@@ -62,28 +62,28 @@ file_plain None = refl
 file_plain (Some lines) = refl
 
 question_fails : (history : List (ℕ × Call)) (state : Contents) (q : Question) (text : List ℕ) → AnswersQuestionAt history state q text → Refuses text
-question_fails history state (question.Annotate branch path) text is = told_fails _ annotated_plain _ text is
-question_fails history state (question.Marks branch path) text is = told_fails _ marks_plain _ text is
-question_fails history state (question.File branch path) text is = told_fails _ file_plain _ text is
+question_fails history state (question.Annotate branch path) text is = refusal_fails _ annotated_plain _ text is
+question_fails history state (question.Marks branch path) text is = refusal_fails _ marks_plain _ text is
+question_fails history state (question.File branch path) text is = refusal_fails _ file_plain _ text is
 question_fails history state question.Branches text is = subst Refuses (sym is) (plain _ refl)
 question_fails history state (question.WhatIf call) text is = subst Refuses (sym is.2) (plain _ refl)
 question_fails history state question.History text is = subst Refuses (sym is) (plain _ refl)
 question_fails history state question.Keep text is = subst Refuses (sym is) (plain _ refl)
 question_fails history state (question.Help topic) text is = subst Refuses (sym is) (plain _ refl)
-question_fails history state other text is = told_fails _ (λ answer. refl) _ text is
+question_fails history state other text is = refusal_fails _ (λ answer. refl) _ text is
 
 -- the answer to a parsed command
-asked_fails : (before : Standing) (a : Result Asked LineFault) (text : List ℕ) (now : Entries) → Tells before a text now → (reports_failure text ≡ true) ↔ Failed a text
-asked_fails before (Err fault) text now tells = (λ e. tt, λ w. ap reports_failure tells.0)
-asked_fails before (Ok asked.Nothing) text now tells = (λ e. true≢false (sym e ∙ ap reports_failure tells.0), λ w. absurd w)
-asked_fails before (Ok (asked.Call call)) text now tells = subst Refuses (sym tells.tells) (reply_fails tells.reply)
-asked_fails before (Ok (asked.Question q)) text now tells = question_fails before.history.calls tells.0.0 q text tells.0.2
-asked_fails before (Ok asked.Why) text now tells = (λ e. true≢false (sym e ∙ ap reports_failure tells.0), λ w. absurd w)
+parsed_fails : (before : SessionState) (a : Result ParsedCommand LineFault) (text : List ℕ) (now : Entries) → AnswersParsed before a text now → (reports_failure text ≡ true) ↔ Failed a text
+parsed_fails before (Err fault) text now reports = (λ e. tt, λ w. ap reports_failure reports.0)
+parsed_fails before (Ok parsed.Nothing) text now reports = (λ e. true≢false (sym e ∙ ap reports_failure reports.0), λ w. absurd w)
+parsed_fails before (Ok (parsed.Call call)) text now reports = subst Refuses (sym reports.reports) (reply_fails reports.reply)
+parsed_fails before (Ok (parsed.Question q)) text now reports = question_fails before.history.calls reports.0.0 q text reports.0.2
+parsed_fails before (Ok parsed.Why) text now reports = (λ e. true≢false (sym e ∙ ap reports_failure reports.0), λ w. absurd w)
 
 pub failures_are_reported : FailuresAreReported
-failures_are_reported before command text after answers = elim answers.tells [
-  | inl tells ↦
-      let both = asked_fails before (parsed_command command) text after.history tells in (
+failures_are_reported before command text after answers = elim answers.reports [
+  | inl reports ↦
+      let both = parsed_fails before (parsed_command command) text after.history reports in (
         λ e. inl (both.0 e),
         λ w. elim w [
           | inl failed ↦ both.1 failed

@@ -2,7 +2,7 @@
 use Rattle.camp_talk.proofs.Words.{◌≡◌, ℕ, Bool, true, false, List, [], ◌∷◌, ◌++◌, length, map, Option, refl, sym, ap, subst, ◌∙◌, arith, lines_of, script_of_lines, CommandLines, Consumes, Consumes-trans, Ends, HasRead, IsCommand, IsLeft, ReadsCommand, ReadsHeld, ReadsLine, ReadsLines, ReadsNext, ReadsWithin, StopsAtLine, ended, with_last, TakesAll, append-nil, length-map, lines_in, ◌≤◌, as_read, call_part, first_of, script_in, taken, wants}
 use Rattle.camp_script.proofs.CommandCuts.{none_wanted, one_wanted, takes_wanted}
 use Rattle.camp_talk.proofs.Cuts.{EndsWithLine, ends_with_line, with_last-append}
-use Rattle.camp_talk.proofs.Parts.{behind, ends_behind, lines_are_read, lines_behind, lines_held, none_left}
+use Rattle.camp_talk.proofs.Parts.{ends_after, lines_after, lines_are_read, lines_held, none_left, reads_on}
 
 module _ (a b : Option (List ℕ)) (bytes : List ℕ) where
   -- lines that were read are a command, if exactly the others belong to the first
@@ -65,9 +65,9 @@ HandsOn a b true bytes command =
 HandsOn a b false bytes command = IsHanded a b false bytes command
 
 -- the first line that was read
-pub line_read : (a b : Option (List ℕ)) (bytes : List ℕ) {old : List ℕ} {told whole : Bool} → ReadsLine a b told old bytes → old ≡ [] → told ≡ whole → ReadsLine a b whole [] bytes
-line_read a b bytes {old} {told} {whole} line none is =
-    subst (λ (w : Bool). ReadsLine a b w [] bytes) is (subst (λ (old : List ℕ). ReadsLine a b told old bytes) none line)
+pub line_read : (a b : Option (List ℕ)) (bytes : List ℕ) {old : List ℕ} {at_end whole : Bool} → ReadsLine a b at_end old bytes → old ≡ [] → at_end ≡ whole → ReadsLine a b whole [] bytes
+line_read a b bytes {old} {at_end} {whole} line none is =
+    subst (λ (w : Bool). ReadsLine a b w [] bytes) is (subst (λ (old : List ℕ). ReadsLine a b at_end old bytes) none line)
 
 pub call_read : (x : CommandLines) {call first read : List ℕ} (bytes : List ℕ) → HasRead x call [] → call ≡ call_part first → first ≡ first_of (lines_of read) → read ≡ bytes
     → HasRead x (call_part (first_of (lines_of bytes))) []
@@ -102,17 +102,17 @@ module _ (a b c : Option (List ℕ)) (mid bytes : List ℕ) (x y : CommandLines)
   pub next_on : (whole : Bool) → ReadsNext b c whole mid bytes x y → HandsOn a c whole bytes y
   next_on true (line, then, goes) =
       let (first, rest, reads, has) = on in
-      (first, rest ++ line ∷ [], behind a b c [] mid bytes (first ∷ rest) (line ∷ []) [] reads then, goes (call_part first) rest has)
+      (first, rest ++ line ∷ [], reads_on a b c [] mid bytes (first ∷ rest) (line ∷ []) [] reads then, goes (call_part first) rest has)
   next_on false (last, then, goes, ends) =
       let (first, rest, reads, has) = on in
       let all = rest ++ with_last [] last in
       let now : HasRead y (call_part first) all = goes (call_part first) rest has in
-      let read : ReadsLines a c [] bytes ((first ∷ rest) ++ []) last = behind a b c [] mid bytes (first ∷ rest) [] last reads then in
+      let read : ReadsLines a c [] bytes ((first ∷ rest) ++ []) last = reads_on a b c [] mid bytes (first ∷ rest) [] last reads then in
       let same : with_last ((first ∷ rest) ++ []) last ≡ first ∷ all = with_last-append (first ∷ rest) [] last in
       let taken_is : taken first all ≡ all = ap (taken first) (sym (append-nil all)) ∙ now.takes [] ∙ append-nil all in
       record {
         held = is_left a c bytes ((first ∷ rest) ++ []) last read (subst TakesAll (sym same) taken_is)
-            (ends_behind a b c (ended reads.whole ++ reads.left) reads.consumes ends);
+            (ends_after a b c (ended reads.whole ++ reads.left) reads.consumes ends);
         first = call_part first;
         rest = all;
         has = now;
@@ -128,7 +128,7 @@ module _ (a b c : Option (List ℕ)) (mid bytes : List ℕ) (x y : CommandLines)
       record {
         some = (ended reads.whole ++ reads.left) ++ stops.some;
         reads = Consumes-trans a b c (ended reads.whole ++ reads.left) stops.some reads.consumes stops.reads;
-        is = subst TakesAll (sym (lines_behind a b [] mid (first ∷ rest) reads stops.some))
+        is = subst TakesAll (sym (lines_after a b [] mid (first ∷ rest) reads stops.some))
             (has.takes tail ∙ ap (λ (ls : List (List ℕ)). rest ++ ls) (one_wanted x.wanted more tail few));
       }
 

@@ -10,7 +10,7 @@ use Rattle.std.specs.Io.KnownBytes.{Keeps}
 use Rattle.camp_base.specs.Signs.{is_between, is_digit}
 use Rattle.camp_script.specs.Words.{count_of, value_of}
 use Rattle.camp_talk.proofs.Cuts.{lines-line}
-use Rattle.camp_talk.proofs.Parts.{ends_behind}
+use Rattle.camp_talk.proofs.Parts.{ends_after}
 use Rattle.camp_talk.specs.Engine.Framings.{BeginsWithFrame}
 use Rattle.std.proofs.Common.{◌+◌, length-drop, length-take-le, take-append-drop}
 use Rattle.std.specs.List.{position_or_len}
@@ -107,9 +107,9 @@ module _ (line : List ℕ) (is : IsLine line) where
       let digits = framed.digits in
       let joined : line ≡ digits ++ 10 ∷ (request ++ more) =
       same ∙ ap (λ bytes. bytes ++ more) framed.is ∙ append_assoc digits (10 ∷ request) more in
-      let behind = subst (All (λ byte. byte ≢ 10)) (ap (drop (length digits)) joined ∙ drop-append_seam digits (10 ∷ (request ++ more)))
+      let after = subst (All (λ byte. byte ≢ 10)) (ap (drop (length digits)) joined ∙ drop-append_seam digits (10 ∷ (request ++ more)))
       (All-drop (λ byte. byte ≢ 10) (length digits) line is) in
-      All-head (λ byte. byte ≢ 10) 10 (request ++ more) behind refl
+      All-head (λ byte. byte ≢ 10) 10 (request ++ more) after refl
 
   -- bytes end after it, with fewer than it says
   pub cut_request : (count : ℕ) (some : List ℕ) → count_of line ≡ Some count → length some < count → (request frame more : List ℕ)
@@ -249,7 +249,7 @@ module _ (a b : Option (List ℕ)) (old new : List ℕ) (takes : Takes a b 1_048
         length-append (takes.line ++ 10 ∷ []) request,
         length-append takes.line (10 ∷ []),
       );
-      ends = ends_behind a b c (takes.line ++ 10 ∷ []) takes.consumes ends;
+      ends = ends_after a b c (takes.line ++ 10 ∷ []) takes.consumes ends;
     }
 
     -- as many bytes as it says
@@ -298,7 +298,7 @@ module _ (a b c : Option (List ℕ)) (count : ℕ) (old new : List ℕ) where
   none_more room first few (reads, same, ends) = (
     subst (Consumes a c) (append-nil old ∙ sym same) (Consumes-trans a b c old [] first reads),
     omega (arith, few, ap (λ (bytes : List ℕ). length bytes) same),
-    ends_behind a b c old first ends,
+    ends_after a b c old first ends,
   )
 
 -- ---- what stands in a buffer

@@ -1,7 +1,7 @@
 -- Groups grow by a step, until they are over.
 use Rattle.std.proofs.Common.{◌≡◌, ℕ, ◌+◌, List, [], ◌∷◌, ◌++◌, length, None, Some, Ok, refl, sym, ◌∙◌, ap, subst, append-nil, append_assoc, length-append, arith}
 use Rattle.std.proofs.lemmas.Grind.{flat_map-append}
-use Rattle.camp_talk.specs.Engine.Groups.{Executes, Follows, Gathered, HasSteps, IsNoPause, IsOver, MayGoOn, RunsGroup, IfSteps, Step, TakesOne, responses}
+use Rattle.camp_talk.specs.Engine.Groups.{Executes, ExecutesInOrder, Gathered, HasSteps, IfSteps, IsNoPause, IsOver, MayGoOn, RunsGroup, Step, TakesOne, responses}
 use Rattle.camp_talk.specs.declared.engine.backends.Backend as backends
 use Rattle.camp_talk.specs.declared.engine.framings.Framing as framings
 use Rattle.camp_talk.specs.declared.engine.groups.GroupLimits.{GroupLimits}
@@ -25,10 +25,10 @@ module _ {B F Q A E H : Type 0} (backend : backends.Ghosts B Q A E) (framing : f
   is_over halt.Memory steps fact no_pause holds = holds
 
   follows_more : (before : B) (from : F) (pending : List ℕ) (steps : List (Step Q A)) (after : B) (to : F) (step : Step Q A) (last : B) (end : F)
-      → Follows backend framing limits before from pending steps after to
+      → ExecutesInOrder backend framing limits before from pending steps after to
       → IfSteps steps (MayGoOn backend framing limits after to (pending ++ responses backend framing steps))
       → Executes backend framing after to step.request step.bytes (Ok step.response) last end
-      → Follows backend framing limits before from pending (steps ++ step ∷ []) last end
+      → ExecutesInOrder backend framing limits before from pending (steps ++ step ∷ []) last end
   follows_more before from pending [] after to step last end (same, same_too) ahead one = (
     last,
     end,

@@ -1,49 +1,49 @@
 -- Answering commands and requests removes no call from the history.
-use Rattle.camp_talk.proofs.Words.{◌≡◌, ◌⊎◌, inl, inr, ℕ, Bool, true, List, [], ◌∷◌, Option, Result, Ok, Err, sym, subst, LineFault, Answers, Standing, Tells, RunsOutOfMemory, parsed_command, Entries, Exchange, Follow, Asked}
+use Rattle.camp_talk.proofs.Words.{◌≡◌, ◌⊎◌, inl, inr, ℕ, Bool, true, List, [], ◌∷◌, Option, Result, Ok, Err, sym, subst, LineFault, Answers, SessionState, AnswersParsed, RunsOutOfMemory, parsed_command, Entries, Exchange, AnswersInOrder, ParsedCommand}
 use Rattle.camp_object.specs.Books.{IsEarlier}
 use Rattle.camp_object.proofs.SameBooks.{earlier_same, earlier_self, earlier_through}
-use Rattle.camp_talk.specs.Accounts.{no_diagnostic}
+use Rattle.camp_talk.specs.Diagnostics.{no_diagnostic}
 use Rattle.camp_talk.specs.Frames.{Serves}
 use Rattle.camp_talk.specs.Requests.{AnswersRequest, AnswersSome, AsksOneMore}
 use Rattle.camp_talk.specs.declared.faults.TalkFault.TheVariants as talk
 use Rattle.camp_talk.specs.declared.frames.FrameFault.{FrameFault}
 use Rattle.camp_talk.specs.declared.frames.FrameFault.TheVariants as frame
-use Rattle.camp_talk.specs.declared.questions.Asked.TheVariants as asked
+use Rattle.camp_talk.specs.declared.questions.ParsedCommand.TheVariants as parsed
 
-tells_grow : (before : Standing) (what : Result Asked LineFault) (text : List ℕ) (now : Entries) → Tells before what text now → IsEarlier before.history now
-tells_grow before (Ok (asked.Call call)) text now replies = record { first = replies.asks.first; calls = replies.asks.asks.grows }
-tells_grow before other text now tells = earlier_same before.history now tells.1
+tells_grow : (before : SessionState) (what : Result ParsedCommand LineFault) (text : List ℕ) (now : Entries) → AnswersParsed before what text now → IsEarlier before.history now
+tells_grow before (Ok (parsed.Call call)) text now replies = record { first = replies.asks.first; calls = replies.asks.asks.grows }
+tells_grow before other text now reports = earlier_same before.history now reports.1
 
-grows_so : (before : Standing) (command text : List ℕ) (now : Entries) → Tells before (parsed_command command) text now ⊎ RunsOutOfMemory before command text now → IsEarlier before.history now
-grows_so before command text now (inl tells) = tells_grow before (parsed_command command) text now tells
+grows_so : (before : SessionState) (command text : List ℕ) (now : Entries) → AnswersParsed before (parsed_command command) text now ⊎ RunsOutOfMemory before command text now → IsEarlier before.history now
+grows_so before command text now (inl reports) = tells_grow before (parsed_command command) text now reports
 grows_so before command text now (inr want) = earlier_same before.history now want.2
 
-pub answers_grow : (before : Standing) (command text : List ℕ) (after : Standing) → Answers before command text after → IsEarlier before.history after.history
-answers_grow before command text after answers = grows_so before command text after.history answers.tells
+pub answers_grow : (before : SessionState) (command text : List ℕ) (after : SessionState) → Answers before command text after → IsEarlier before.history after.history
+answers_grow before command text after answers = grows_so before command text after.history answers.reports
 
-follow_grow : (first : Standing) (said : List Exchange) (last : Standing) → Follow first said last → IsEarlier first.history last.history
-follow_grow first [] last follow = subst (λ (s : Standing). IsEarlier first.history s.history) follow (earlier_self first.history)
-follow_grow first (exchange ∷ said) last (next, command, answers, follow) =
-    earlier_through (answers_grow first exchange.command exchange.answer next answers) (follow_grow next said last follow)
+follow_grow : (first : SessionState) (exchanges : List Exchange) (last : SessionState) → AnswersInOrder first exchanges last → IsEarlier first.history last.history
+follow_grow first [] last follow = subst (λ (s : SessionState). IsEarlier first.history s.history) follow (earlier_self first.history)
+follow_grow first (exchange ∷ exchanges) last (next, command, answers, follow) =
+    earlier_through (answers_grow first exchange.command exchange.answer next answers) (follow_grow next exchanges last follow)
 
 -- the same of a request, whether or not it is answered whole
 request_grows : (before : Entries) (request answer : List ℕ) (now : Entries) → AnswersRequest before request answer now → IsEarlier before now
 request_grows before request answer now answers =
     subst (λ (l : Entries). IsEarlier before l) (sym answers.same)
-    (earlier_through (follow_grow (record { history = before; lines = 0; cause = no_diagnostic }) answers.said answers.middle answers.follow)
+    (earlier_through (follow_grow (record { history = before; lines = 0; diagnostic = no_diagnostic }) answers.exchanges answers.middle answers.follow)
     (answers_grow answers.middle answers.last.command answers.last.answer answers.after answers.answers))
 
 some_grow : (before : Entries) (request answer : List ℕ) (now : Entries) → AnswersSome before request answer now → IsEarlier before now
 some_grow before request answer now some = ends some.leaves
   where
     so_far : IsEarlier before some.middle.history
-    so_far = follow_grow (record { history = before; lines = 0; cause = no_diagnostic }) some.said some.middle some.follow
+    so_far = follow_grow (record { history = before; lines = 0; diagnostic = no_diagnostic }) some.exchanges some.middle some.follow
 
     ends : ((now ≡ some.middle.history) × (some.front ≡ [])) ⊎ AsksOneMore some.middle some.rest some.front now → IsEarlier before now
     ends (inl still) = subst (λ (l : Entries). IsEarlier before l) (sym still.0) so_far
     ends (inr more) =
         subst (λ (l : Entries). IsEarlier before l) (sym more.same)
-        (earlier_through so_far (answers_grow some.middle more.last.command more.last.answer more.behind more.answers))
+        (earlier_through so_far (answers_grow some.middle more.last.command more.last.answer more.reached more.answers))
 
 -- or even read
 pub serves_grow : (a b old new : Option (List ℕ)) (before : Entries) (came : Result Bool FrameFault) (after : Entries)

@@ -23,7 +23,7 @@ pub mod Served
 pub mod Skipped
 pub mod AnswerLemmas
 pub mod LeadsLemmas
-pub mod Turns
+pub mod StepLemmas
 pub mod ViewLemmas
 pub mod VisibleLemmas
-pub mod Whys
+pub mod Reports

@@ -3,7 +3,7 @@ use Rattle.camp_talk.proofs.Words.{◌≡◌, ◌≢◌, ℕ, zero, suc, ◌+◌
 use Rattle.std.proofs.lemmas.Bool.{eqb-false, ltb-false, ltb-true}
 use Rattle.std.proofs.lemmas.Bool.Decides.{nat_tests}
 use Rattle.camp_talk.proofs.Cuts.{lines-last, lines-line}
-use Rattle.camp_talk.proofs.Parts.{ends_behind}
+use Rattle.camp_talk.proofs.Parts.{ends_after}
 use Rattle.camp_talk.specs.declared.lines.Seen.TheVariants as seen
 
 -- ---- prefixes
@@ -143,12 +143,12 @@ module _ (a b c : Option (List ℕ)) (room : ℕ) (old mid new : List ℕ) where
       at : (s : Seen) → EndsAt b c s → EndsAt a c s
       at seen.Part ends = tt
       at seen.Line ends = tt
-      at seen.End ends = ends_behind a b c (first.line ++ []) first.consumes ends
+      at seen.End ends = ends_after a b c (first.line ++ []) first.consumes ends
 
   -- given the remaining capacity
-  pub taken_on : (start len : ℕ) {told met : Seen} → start ≡ length old → len ≡ length mid → Takes a b room seen.Part old mid → told ≡ met
-      → Takes b c (room - (len - start)) told mid new → Takes a c room met old new
-  taken_on start len {told} {met} starts ends first is then =
+  pub taken_on : (start len : ℕ) {shown met : Seen} → start ≡ length old → len ≡ length mid → Takes a b room seen.Part old mid → shown ≡ met
+      → Takes b c (room - (len - start)) shown mid new → Takes a c room met old new
+  taken_on start len {shown} {met} starts ends first is then =
       taken_behind (room - (len - start)) met first (omega arith) (subst (λ (seen : Seen). Takes b c (room - (len - start)) seen mid new) is then)
 
 -- ---- a line that is too long is shortened

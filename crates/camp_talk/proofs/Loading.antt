@@ -1,35 +1,35 @@
 -- Loading commands, one after the other.
-use Rattle.camp_talk.proofs.Words.{◌≡◌, ℕ, ◌+◌, Bool, true, false, List, [], ◌∷◌, ◌++◌, Option, Result, Ok, Err, Vec, refl, sym, ap, subst, ◌∙◌, append-nil, flat_map, Consumes, Consumes-nil, Consumes-trans, flat_map-append, All-append, All-cons, All-nil, LineFault, Answers, Standing, Tells, parsed_command, Entries, Exchange, Asked, DoesOne, ExecutesNext, LoadsOne, Done, Fails, ReadsCommand, ReportsSuccess, Wants, reports_failure}
-use Rattle.camp_talk.specs.declared.questions.Asked.TheVariants as asked
+use Rattle.camp_talk.proofs.Words.{◌≡◌, ℕ, ◌+◌, Bool, true, false, List, [], ◌∷◌, ◌++◌, Option, Result, Ok, Err, Vec, refl, sym, ap, subst, ◌∙◌, append-nil, flat_map, Consumes, Consumes-nil, Consumes-trans, flat_map-append, All-append, All-cons, All-nil, LineFault, Answers, SessionState, AnswersParsed, parsed_command, Entries, Exchange, ParsedCommand, DoesOne, ExecutesNext, LoadsOne, Done, Fails, ReadsCommand, ReportsSuccess, LacksMemory, reports_failure}
+use Rattle.camp_talk.specs.declared.questions.ParsedCommand.TheVariants as parsed
 use Rattle.camp_talk.proofs.NotDone.{by_reply}
-use Rattle.camp_talk.proofs.Turns.{answered, one_more}
+use Rattle.camp_talk.proofs.StepLemmas.{answered, one_more}
 
 -- ---- a failure changes nothing
 
-module _ (before : Standing) (text : List ℕ) (now : Entries) (fails : reports_failure text ≡ true) where
-  by_asked : (asked : Result Asked LineFault) → Tells before asked text now → now ≡ before.history
-  by_asked (Ok (asked.Call call)) tells = by_reply before.history now call reports_failure (λ at. refl) text fails tells.reply tells.tells tells.asks
-  by_asked other tells = tells.1
+module _ (before : SessionState) (text : List ℕ) (now : Entries) (fails : reports_failure text ≡ true) where
+  by_parsed : (parsed : Result ParsedCommand LineFault) → AnswersParsed before parsed text now → now ≡ before.history
+  by_parsed (Ok (parsed.Call call)) reports = by_reply before.history now call reports_failure (λ at. refl) text fails reports.reply reports.reports reports.asks
+  by_parsed other reports = reports.1
 
-pub failure_keeps : (before : Standing) (asked : Result Asked LineFault) (text : List ℕ) (now : Entries)
-    → Tells before asked text now → reports_failure text ≡ true → now ≡ before.history
-failure_keeps before asked text now tells fails = by_asked before text now fails asked tells
+pub failure_keeps : (before : SessionState) (parsed : Result ParsedCommand LineFault) (text : List ℕ) (now : Entries)
+    → AnswersParsed before parsed text now → reports_failure text ≡ true → now ≡ before.history
+failure_keeps before parsed text now reports fails = by_parsed before text now fails parsed reports
 
 -- ---- one command
 
-module _ (a b : Option (List ℕ)) (before after : Standing) where
+module _ (a b : Option (List ℕ)) (before after : SessionState) where
   -- it was done
   one_done_at : (whole : Bool) (command text : List ℕ) → ReadsCommand a b whole command → Answers before command text after
       → ReportsSuccess text → LoadsOne a b before (Ok whole) after
   one_done_at true command text (reads, is) answers well = record {
-    said = record { command = command; answer = text };
+    exchange = record { command = command; answer = text };
     is = is;
     answers = answers;
     well = well;
     reads = reads;
   }
   one_done_at false command text reads answers well = record {
-    said = record { command = command; answer = text };
+    exchange = record { command = command; answer = text };
     reads = reads;
     after = after;
     answers = answers;
@@ -37,59 +37,59 @@ module _ (a b : Option (List ℕ)) (before after : Standing) where
     same = refl;
   }
 
-module _ {a b : Option (List ℕ)} {before after : Standing} where
+module _ {a b : Option (List ℕ)} {before after : SessionState} where
   module _ {Z E : Type 0} where
-    pub one_done : {said : Result (Vec ℕ Z) E} {whole : Bool} {text : Vec ℕ Z} → ExecutesNext a b before whole said after → said ≡ Ok text
+    pub one_done : {response : Result (Vec ℕ Z) E} {whole : Bool} {text : Vec ℕ Z} → ExecutesNext a b before whole response after → response ≡ Ok text
         → ReportsSuccess text.items → LoadsOne a b before (Ok whole) after
-    one_done {said} {whole} {text} told is well =
-        let hears = subst (λ (said : Result (Vec ℕ Z) E). ExecutesNext a b before whole said after) is told in
-        one_done_at a b before after whole hears.command text.items hears.reads
-        (answered {Z = Z} {E = E} before after hears.command (Ok text) hears.says hears.counts) well
+    one_done {response} {whole} {text} response_is is well =
+        let executes_next = subst (λ (response : Result (Vec ℕ Z) E). ExecutesNext a b before whole response after) is response_is in
+        one_done_at a b before after whole executes_next.command text.items executes_next.reads
+        (answered {Z = Z} {E = E} before after executes_next.command (Ok text) executes_next.says executes_next.counts) well
 
-    pub one_fails : {said : Result (Vec ℕ Z) E} {whole : Bool} {text : Vec ℕ Z} {line : ℕ} → ExecutesNext a b before whole said after → said ≡ Ok text
+    pub one_fails : {response : Result (Vec ℕ Z) E} {whole : Bool} {text : Vec ℕ Z} {line : ℕ} → ExecutesNext a b before whole response after → response ≡ Ok text
         → reports_failure text.items ≡ true → line ≡ before.lines + 1 → Fails a b before line text.items after.history
-    one_fails {said} {whole} {text} told is failure at =
-        let hears = subst (λ (said : Result (Vec ℕ Z) E). ExecutesNext a b before whole said after) is told in
+    one_fails {response} {whole} {text} response_is is failure at =
+        let executes_next = subst (λ (response : Result (Vec ℕ Z) E). ExecutesNext a b before whole response after) is response_is in
         record {
           whole = whole;
-          command = hears.command;
-          reads = hears.reads;
-          tells = hears.says.0;
+          command = executes_next.command;
+          reads = executes_next.reads;
+          reports = executes_next.says.0;
           failure = failure;
           at = at;
-          same = failure_keeps before (parsed_command hears.command) text.items after.history hears.says.0 failure;
+          same = failure_keeps before (parsed_command executes_next.command) text.items after.history executes_next.says.0 failure;
         }
 
-    pub one_wants : {said : Result (Vec ℕ Z) E} {whole : Bool} {line : ℕ} {error : E} → ExecutesNext a b before whole said after → said ≡ Err error
-        → line ≡ before.lines + 1 → Wants a b before line after.history
-    one_wants {said} {whole} {line} {error} told is at =
-        let hears = subst (λ (said : Result (Vec ℕ Z) E). ExecutesNext a b before whole said after) is told in
-        record { whole = whole; command = hears.command; reads = hears.reads; at = at; asks = hears.says.0; same = hears.says.1 }
+    pub one_wants : {response : Result (Vec ℕ Z) E} {whole : Bool} {line : ℕ} {error : E} → ExecutesNext a b before whole response after → response ≡ Err error
+        → line ≡ before.lines + 1 → LacksMemory a b before line after.history
+    one_wants {response} {whole} {line} {error} response_is is at =
+        let executes_next = subst (λ (response : Result (Vec ℕ Z) E). ExecutesNext a b before whole response after) is response_is in
+        record { whole = whole; command = executes_next.command; reads = executes_next.reads; at = at; asks = executes_next.says.0; same = executes_next.says.1 }
 
 -- ---- commands
 
-pub none_done : (a : Option (List ℕ)) (first : Standing) → Done a a first first
+pub none_done : (a : Option (List ℕ)) (first : SessionState) → Done a a first first
 none_done a first = record {
-  said = [];
+  exchanges = [];
   follow = refl;
   well = All-nil (λ (exchange : Exchange). ReportsSuccess exchange.answer);
   reads = Consumes-nil a;
 }
 
-pub one_more_done : (a b c : Option (List ℕ)) (first middle last : Standing) → Done a b first middle → DoesOne b c middle last
+pub one_more_done : (a b c : Option (List ℕ)) (first middle last : SessionState) → Done a b first middle → DoesOne b c middle last
     → Done a c first last
 one_more_done a b c first middle last done more = record {
-  said = done.said ++ more.said ∷ [];
-  follow = one_more first middle last done.said more.said done.follow more.is more.answers;
-  well = All-append Well done.said (more.said ∷ []) done.well (All-cons Well more.said [] more.well (All-nil Well));
+  exchanges = done.exchanges ++ more.exchange ∷ [];
+  follow = one_more first middle last done.exchanges more.exchange done.follow more.is more.answers;
+  well = All-append Well done.exchanges (more.exchange ∷ []) done.well (All-cons Well more.exchange [] more.well (All-nil Well));
   reads = subst (Consumes a c) joined (Consumes-trans a b c _ _ done.reads more.reads);
 }
   where
     Well : Exchange → Type 0
     Well exchange = ReportsSuccess exchange.answer
 
-    joined : flat_map (λ (e : Exchange). e.command) done.said ++ more.said.command
-        ≡ flat_map (λ (e : Exchange). e.command) (done.said ++ more.said ∷ [])
+    joined : flat_map (λ (e : Exchange). e.command) done.exchanges ++ more.exchange.command
+        ≡ flat_map (λ (e : Exchange). e.command) (done.exchanges ++ more.exchange ∷ [])
     joined =
-        ap (λ bytes. flat_map (λ (e : Exchange). e.command) done.said ++ bytes) (sym (append-nil more.said.command))
-        ∙ sym (flat_map-append (λ (e : Exchange). e.command) done.said (more.said ∷ []))
+        ap (λ bytes. flat_map (λ (e : Exchange). e.command) done.exchanges ++ bytes) (sym (append-nil more.exchange.command))
+        ∙ sym (flat_map-append (λ (e : Exchange). e.command) done.exchanges (more.exchange ∷ []))

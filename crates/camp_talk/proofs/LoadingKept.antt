@@ -1,6 +1,6 @@
 -- Loads the text that stores a history, call by call.
-use Rattle.camp_talk.specs.Accounts.{no_diagnostic}
-use Rattle.camp_talk.proofs.Words.{◌≡◌, ◌⊎◌, inl, inr, ℕ, Bool, true, false, List, [], ◌∷◌, ◌++◌, length, map, drop, Option, None, Some, Result, Ok, Err, refl, sym, ap, subst, ◌∙◌, append_assoc, append-nil, map-append, drop-append_seam, true≢false, flat_map, All, All-head, All-tail, Call, LineFault, reply_text, Standing, Tells, RunsOutOfMemory, parsed_command, Entries, Exchange, Follow, IsCommand, IsLeft, ReadsCommand, Done, Fails, ReportsSuccess, reports_failure, Asked}
+use Rattle.camp_talk.specs.Diagnostics.{no_diagnostic}
+use Rattle.camp_talk.proofs.Words.{◌≡◌, ◌⊎◌, inl, inr, ℕ, Bool, true, false, List, [], ◌∷◌, ◌++◌, length, map, drop, Option, None, Some, Result, Ok, Err, refl, sym, ap, subst, ◌∙◌, append_assoc, append-nil, map-append, drop-append_seam, true≢false, flat_map, All, All-head, All-tail, Call, LineFault, reply_text, SessionState, AnswersParsed, RunsOutOfMemory, parsed_command, Entries, Exchange, AnswersInOrder, IsCommand, IsLeft, ReadsCommand, Done, Fails, ReportsSuccess, reports_failure, ParsedCommand}
 use Rattle.std.proofs.Common.{IsSome}
 use Rattle.std.proofs.lemmas.List.Concat.{flat_map-cons}
 use Rattle.std.specs.List.{AllByRecursion}
@@ -16,7 +16,7 @@ use Rattle.camp_repo.specs.Objects.{repository}
 use Rattle.camp_repo.specs.States.{Contents}
 use Rattle.camp_script.specs.Canonical.{IsScriptCall, call_text, section_text}
 use Rattle.camp_script.specs.Keeping.{calls_of, kept_text}
-use Rattle.camp_talk.specs.Laws.{RestoresHistory, IsReadWhole, KeepRestoresHistory, at_seat_0}
+use Rattle.camp_talk.specs.Laws.{IsReadWhole, KeepRestoresHistory, RestoresHistory, at_seat_0}
 use Rattle.camp_talk.specs.Loads.{Ends, EndsWell}
 use Rattle.camp_talk.specs.declared.faults.LoadFault.{LoadFault}
 use Rattle.camp_talk.specs.declared.faults.LoadFault.TheVariants.{Answer, Memory, Talk}
@@ -55,21 +55,21 @@ module _ (seen now : Entries) (c : Call) (accepted : CanBeNext seen c) where
 
   -- it is the last of the history, and its answer is no failure
   accepts : (answer : Reply) (text : List ℕ) → text ≡ reply_text answer → AsksBook repository 0 seen c (Ok answer) now → (now ≡ then_calls seen (c ∷ [])) × (reports_failure text ≡ false)
-  accepts (reply.Done at) text tells asks = (
+  accepts (reply.Done at) text reports asks = (
     same_book now (then_calls seen (c ∷ [])) asks.first (asks.asks.says.ends ∙ ap (λ (calls : Calls). calls ++ (0, c) ∷ []) (asks.asks.says.exact refl)),
-    ap reports_failure tells,
+    ap reports_failure reports,
   )
-  accepts other text tells asks = not_answered other (asks.asks.says.0.exact refl) asks.asks.says.1
+  accepts other text reports asks = not_answered other (asks.asks.says.0.exact refl) asks.asks.says.1
 
 -- the text of a call is answered
-module _ (c : Call) (can : IsScriptCall c) (short : IsReadWhole c) (before : Standing) (text : List ℕ) (now : Entries) (accepted : CanBeNext before.history c) where
-  answered_so : Tells before (parsed_command (call_text c)) text now → (now ≡ then_calls before.history (c ∷ [])) × (reports_failure text ≡ false)
-  answered_so tells =
-      let replies = subst (λ (asked : Result Asked LineFault). Tells before asked text now) (asks_call c can short) tells in
-      accepts before.history now c accepted replies.reply text replies.tells replies.asks
+module _ (c : Call) (can : IsScriptCall c) (short : IsReadWhole c) (before : SessionState) (text : List ℕ) (now : Entries) (accepted : CanBeNext before.history c) where
+  answered_so : AnswersParsed before (parsed_command (call_text c)) text now → (now ≡ then_calls before.history (c ∷ [])) × (reports_failure text ≡ false)
+  answered_so reports =
+      let replies = subst (λ (parsed : Result ParsedCommand LineFault). AnswersParsed before parsed text now) (asks_call c can short) reports in
+      accepts before.history now c accepted replies.reply text replies.reports replies.asks
 
-  done_so : Tells before (parsed_command (call_text c)) text now ⊎ RunsOutOfMemory before (call_text c) text now → ReportsSuccess text → now ≡ then_calls before.history (c ∷ [])
-  done_so (inl tells) well = (answered_so tells).0
+  done_so : AnswersParsed before (parsed_command (call_text c)) text now ⊎ RunsOutOfMemory before (call_text c) text now → ReportsSuccess text → now ≡ then_calls before.history (c ∷ [])
+  done_so (inl reports) well = (answered_so reports).0
   done_so (inr want) well = absurd (true≢false (ap reports_failure (sym want.1) ∙ well))
 
 -- ---- calls that are accepted one after the other
@@ -107,7 +107,7 @@ record Walked (calls : List Call) (before after : Entries) (left : List ℕ) : T
   accepted : AcceptedFrom after more
 
 abbrev commands_of : List Exchange → List ℕ
-commands_of said = flat_map (λ exchange. exchange.command) said
+commands_of exchanges = flat_map (λ exchange. exchange.command) exchanges
 
 -- the first call of the text was read
 behind_first : (c : Call) (calls : List Call) (command rest : List ℕ) → IsScriptCall c → IsReadWhole c → IsCommand command → section_text (c ∷ calls) ≡ command ++ rest
@@ -120,10 +120,10 @@ behind_first c calls command rest can short is same =
       sym (drop-append_seam (call_text c) (section_text calls)) ∙ ap (drop (length (call_text c))) (sym all ∙ ap (λ bytes. bytes ++ rest) one) ∙ drop-append_seam (call_text c) rest,
     )
 
-walk : (said : List Exchange) (first last : Standing) (calls : List Call) (left : List ℕ) → Follow first said last → All (λ exchange. ReportsSuccess exchange.answer) said
-    → section_text calls ≡ commands_of said ++ left → AllByRecursion IsScriptCall calls → AllByRecursion IsReadWhole calls → AcceptedFrom first.history calls → Walked calls first.history last.history left
+walk : (exchanges : List Exchange) (first last : SessionState) (calls : List Call) (left : List ℕ) → AnswersInOrder first exchanges last → All (λ exchange. ReportsSuccess exchange.answer) exchanges
+    → section_text calls ≡ commands_of exchanges ++ left → AllByRecursion IsScriptCall calls → AllByRecursion IsReadWhole calls → AcceptedFrom first.history calls → Walked calls first.history last.history left
 walk [] first last calls left follow well same can short accepted =
-    let history : last.history ≡ first.history = ap (λ (standing : Standing). standing.history) (sym follow) in
+    let history : last.history ≡ first.history = ap (λ (standing : SessionState). standing.history) (sym follow) in
     record {
       done = [];
       more = calls;
@@ -141,8 +141,8 @@ walk (exchange ∷ others) first last (c ∷ calls) left follow well same can sh
     let cons : commands_of (exchange ∷ others) ≡ exchange.command ++ commands_of others = flat_map-cons (λ (e : Exchange). e.command) exchange others in
     let next = follow.0 in
     let step = behind_first c calls exchange.command (commands_of others ++ left) can.0 short.0 follow.1 (same ∙ ap (λ bytes. bytes ++ left) cons ∙ append_assoc exchange.command (commands_of others) left) in
-    let tells = subst (λ (command : List ℕ). Tells first (parsed_command command) exchange.answer next.history ⊎ RunsOutOfMemory first command exchange.answer next.history) step.0 follow.2.tells in
-    let grown : next.history ≡ then_calls first.history (c ∷ []) = done_so c can.0 short.0 first exchange.answer next.history accepted.0 tells (All-head (λ (e : Exchange). ReportsSuccess e.answer) exchange others well) in
+    let reports = subst (λ (command : List ℕ). AnswersParsed first (parsed_command command) exchange.answer next.history ⊎ RunsOutOfMemory first command exchange.answer next.history) step.0 follow.2.reports in
+    let grown : next.history ≡ then_calls first.history (c ∷ []) = done_so c can.0 short.0 first exchange.answer next.history accepted.0 reports (All-head (λ (e : Exchange). ReportsSuccess e.answer) exchange others well) in
     let more = walk others next last calls left follow.3 (All-tail (λ (e : Exchange). ReportsSuccess e.answer) exchange others well) step.1 can.1 short.1 (subst (λ (h : Entries). AcceptedFrom h calls) (sym grown) accepted.1) in
     record {
       done = c ∷ more.done;
@@ -183,7 +183,7 @@ left_next (c ∷ others) command can short is same =
     let last = empty_section others can.1 short.1 none in
     record { is = inr (c, ap (λ (cs : List Call). c ∷ cs) last, sym same ∙ cons ∙ ap (λ bytes. call_text c ++ bytes) none ∙ append-nil (call_text c)) }
 
-module _ (first : Contents) (calls : List Call) (middle : Standing) (left : List ℕ) (walked : Walked calls (new_book first) middle.history left) where
+module _ (first : Contents) (calls : List Call) (middle : SessionState) (left : List ℕ) (walked : Walked calls (new_book first) middle.history left) where
   -- all the calls after the first state
   abbrev whole : Entries
   whole = record { first = first; calls = alone calls }
@@ -217,21 +217,21 @@ module _ (first : Contents) (calls : List Call) (middle : Standing) (left : List
   ends_well : (rest : Option (List ℕ)) (now : Entries) → EndsWell (Some left) rest middle now → now ≡ whole
   ends_well None now ends = absurd ends.reads.0
   ends_well (Some rest) now ends =
-      let command = ends.said.command in
+      let command = ends.exchange.command in
       let all : left ≡ command = ends.reads.0 ∙ ap (λ (bytes : List ℕ). command ++ bytes) ends.reads.2 ∙ append-nil command in
       by (left_next walked.more command walked.can walked.short ends.reads.1 (sym walked.left_is ∙ all)).is
     where
-      nothing : (command : List ℕ) → command ≡ [] → Tells middle (parsed_command command) ends.said.answer ends.after.history ⊎ RunsOutOfMemory middle command ends.said.answer ends.after.history → ends.after.history ≡ middle.history
-      nothing command none (inl tells) =
-          (subst (λ (bytes : List ℕ). Tells middle (parsed_command bytes) ends.said.answer ends.after.history) none tells).1
+      nothing : (command : List ℕ) → command ≡ [] → AnswersParsed middle (parsed_command command) ends.exchange.answer ends.after.history ⊎ RunsOutOfMemory middle command ends.exchange.answer ends.after.history → ends.after.history ≡ middle.history
+      nothing command none (inl reports) =
+          (subst (λ (bytes : List ℕ). AnswersParsed middle (parsed_command bytes) ends.exchange.answer ends.after.history) none reports).1
       nothing command none (inr want) = want.2
 
-      by : ((walked.more ≡ []) × (ends.said.command ≡ [])) ⊎ ((c : Call) × (walked.more ≡ c ∷ []) × (ends.said.command ≡ call_text c)) → now ≡ whole
-      by (inl (none, empty)) = ends.same ∙ nothing ends.said.command empty ends.answers.tells ∙ all_done none
+      by : ((walked.more ≡ []) × (ends.exchange.command ≡ [])) ⊎ ((c : Call) × (walked.more ≡ c ∷ []) × (ends.exchange.command ≡ call_text c)) → now ≡ whole
+      by (inl (none, empty)) = ends.same ∙ nothing ends.exchange.command empty ends.answers.reports ∙ all_done none
       by (inr (c, one, is)) =
           let (can, short, accepted) = facts c [] one in
-          let tells = subst (λ (command : List ℕ). Tells middle (parsed_command command) ends.said.answer ends.after.history ⊎ RunsOutOfMemory middle command ends.said.answer ends.after.history) is ends.answers.tells in
-          ends.same ∙ done_so c can short middle ends.said.answer ends.after.history accepted tells ends.well ∙ one_done c one
+          let reports = subst (λ (command : List ℕ). AnswersParsed middle (parsed_command command) ends.exchange.answer ends.after.history ⊎ RunsOutOfMemory middle command ends.exchange.answer ends.after.history) is ends.answers.reports in
+          ends.same ∙ done_so c can short middle ends.exchange.answer ends.after.history accepted reports ends.well ∙ one_done c one
 
   -- a command that was not done is none of these
   fails_never : (rest : Option (List ℕ)) (line : ℕ) (text : List ℕ) (now : Entries) → Fails (Some left) rest middle line text now → ⊥
@@ -239,12 +239,12 @@ module _ (first : Contents) (calls : List Call) (middle : Standing) (left : List
     where
       by : (command : List ℕ) → fails.command ≡ command → ((walked.more ≡ []) × (command ≡ [])) ⊎ ((c : Call) × (others : List Call) × (walked.more ≡ c ∷ others) × (command ≡ call_text c)) → ⊥
       by command same (inl (none, empty)) =
-          let tells = subst (λ (bytes : List ℕ). Tells middle (parsed_command bytes) text now) (same ∙ empty) fails.tells in
-          absurd (true≢false (sym fails.failure ∙ ap reports_failure tells.0))
+          let reports = subst (λ (bytes : List ℕ). AnswersParsed middle (parsed_command bytes) text now) (same ∙ empty) fails.reports in
+          absurd (true≢false (sym fails.failure ∙ ap reports_failure reports.0))
       by command same (inr (c, others, one, is)) =
           let (can, short, accepted) = facts c others one in
-          let tells = subst (λ (bytes : List ℕ). Tells middle (parsed_command bytes) text now) (same ∙ is) fails.tells in
-          absurd (true≢false (sym fails.failure ∙ (answered_so c can short middle text now accepted tells).1))
+          let reports = subst (λ (bytes : List ℕ). AnswersParsed middle (parsed_command bytes) text now) (same ∙ is) fails.reports in
+          absurd (true≢false (sym fails.failure ∙ (answered_so c can short middle text now accepted reports).1))
 
       wider : (command : List ℕ) → ((walked.more ≡ []) × (command ≡ [])) ⊎ ((c : Call) × (walked.more ≡ c ∷ []) × (command ≡ call_text c))
           → ((walked.more ≡ []) × (command ≡ [])) ⊎ ((c : Call) × (others : List Call) × (walked.more ≡ c ∷ others) × (command ≡ call_text c))
@@ -264,17 +264,17 @@ module _ (history : Entries) (state : Contents) (replays : replay_book repositor
   abbrev calls : List Call
   calls = calls_of history.calls
 
-  abbrev start : Standing
-  start = record { history = new_book history.first; lines = 0; cause = no_diagnostic }
+  abbrev start : SessionState
+  start = record { history = new_book history.first; lines = 0; diagnostic = no_diagnostic }
 
   back : replay_book repository (at_seat_0 history) ≡ Some state
   back = run_at_seat_0 history.first history.calls (Some history.first) ∙ replays
 
-  walked : (left : List ℕ) (middle : Standing) → Done (Some (kept_text history.calls)) (Some left) start middle → Walked calls (new_book history.first) middle.history left
+  walked : (left : List ℕ) (middle : SessionState) → Done (Some (kept_text history.calls)) (Some left) start middle → Walked calls (new_book history.first) middle.history left
   walked left middle done =
-      walk done.said start middle calls left done.follow done.well (sym (append-nil (section_text calls)) ∙ done.reads) can short (accepted_from (new_book history.first) calls (some_is_some back))
+      walk done.exchanges start middle calls left done.follow done.well (sym (append-nil (section_text calls)) ∙ done.reads) can short (accepted_from (new_book history.first) calls (some_is_some back))
 
-  ended : (left rest : Option (List ℕ)) (middle : Standing) (result : Result (Unit {0}) LoadFault) (now : Entries)
+  ended : (left rest : Option (List ℕ)) (middle : SessionState) (result : Result (Unit {0}) LoadFault) (now : Entries)
       → Done (Some (kept_text history.calls)) left start middle → Ends left rest middle result now → RestoresHistory history state result now
   ended None rest middle result now done ends = absurd done.reads
   ended (Some left) rest middle (Ok unit) now done ends =

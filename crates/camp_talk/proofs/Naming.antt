@@ -12,43 +12,43 @@ use Rattle.camp_catch.specs.declared.catches.Catch.{Catch}
 use Rattle.camp_repo.proofs.NameSteps.{none_lacked}
 use Rattle.camp_repo.specs.States.{Contents, catches_of}
 use Rattle.camp_repo.specs.Steps.{listed}
-use Rattle.camp_talk.specs.Against.{absent_text, call_about, first_lacked_of, lack_in, lack_text, no_branch_text, other_target, target}
+use Rattle.camp_talk.specs.Obstacles.{absent_text, call_about, first_lacked_of, lack_in, lack_text, no_branch_text, other_target, target}
 use Rattle.camp_talk.specs.Laws.{ReportsName}
-use Rattle.camp_talk.specs.declared.questions.Asked.TheVariants as asked
+use Rattle.camp_talk.specs.declared.questions.ParsedCommand.TheVariants as parsed
 use Rattle.camp_why.specs.Grounds.{IsGround, LacksBranch, LacksPatch}
 
 -- the report on a branch that does not exist names it
-told_absent : (state : Contents) (branch name : List ℕ) → branch ≡ name → catches_of state.branches name ≡ None → absent_text state branch ≡ no_branch_text name
-told_absent state branch name same none =
+names_absent : (state : Contents) (branch name : List ℕ) → branch ≡ name → catches_of state.branches name ≡ None → absent_text state branch ≡ no_branch_text name
+names_absent state branch name same none =
     ap (absent_text state) same ∙ ap (λ (found : Option (List Catch)). cond (is_some found) [] (no_branch_text name)) none
 
 -- of the branch that a call is about
-told_about : (state : Contents) (call : Call) (name : List ℕ) → (call_about call).1 ≡ name → catches_of state.branches name ≡ None
+names_about : (state : Contents) (call : Call) (name : List ℕ) → (call_about call).1 ≡ name → catches_of state.branches name ≡ None
     → ReportsName state call (refusal.NoBranch name)
-told_about state call name same none = (
+names_about state call name same none = (
   [],
-  option_map_or (absent_text state) (other_target (Some (call_about call)) (target (asked.Call call))) [],
-  ap (λ (text : List ℕ). text ++ option_map_or (absent_text state) (other_target (Some (call_about call)) (target (asked.Call call))) [])
-      (told_absent state (call_about call).1 name same none),
+  option_map_or (absent_text state) (other_target (Some (call_about call)) (target (parsed.Call call))) [],
+  ap (λ (text : List ℕ). text ++ option_map_or (absent_text state) (other_target (Some (call_about call)) (target (parsed.Call call))) [])
+      (names_absent state (call_about call).1 name same none),
 )
 
 -- of the branch TO, if it is another one
-told_target : (state : Contents) (from to name : List ℕ) (names : Option (List (List ℕ))) → to ≡ name → catches_of state.branches name ≡ None
+names_target : (state : Contents) (from to name : List ℕ) (names : Option (List (List ℕ))) → to ≡ name → catches_of state.branches name ≡ None
     → (alike : Bool) → bytes_eq from to ≡ alike → ReportsName state (call.Pull from to names) (refusal.NoBranch name)
-told_target state from to name names same none true is =
-    told_about state (call.Pull from to names) name ((bytes_eq-Decides from to).0 is ∙ same) none
-told_target state from to name names same none false is = (
+names_target state from to name names same none true is =
+    names_about state (call.Pull from to names) name ((bytes_eq-Decides from to).0 is ∙ same) none
+names_target state from to name names same none false is = (
   absent_text state from,
   [],
   ap (λ (alike : Bool). absent_text state from ++ option_map_or (absent_text state) (cond alike None (Some to)) []) is
-      ∙ ap (λ (text : List ℕ). absent_text state from ++ text) (told_absent state to name same none)
+      ∙ ap (λ (text : List ℕ). absent_text state from ++ text) (names_absent state to name same none)
       ∙ sym (append-nil (absent_text state from ++ no_branch_text name)),
 )
 
 branch_named : (state : Contents) (call : Call) (name : List ℕ) → LacksBranch state call name → ReportsName state call (refusal.NoBranch name)
-branch_named state (call.Pull from to names) name (inl same, none) = told_about state (call.Pull from to names) name same none
-branch_named state (call.Pull from to names) name (inr same, none) = told_target state from to name names same none (bytes_eq from to) refl
-branch_named state other name (same, none) = told_about state other name same none
+branch_named state (call.Pull from to names) name (inl same, none) = names_about state (call.Pull from to names) name same none
+branch_named state (call.Pull from to names) name (inr same, none) = names_target state from to name names same none (bytes_eq from to) refl
+branch_named state other name (same, none) = names_about state other name same none
 
 -- a pull without a list lacks nothing
 listed_lacks : (catches : List Catch) (names : Option (List (List ℕ))) (name : List ℕ) → first_lacked catches (listed catches names) ≡ Some name
@@ -58,9 +58,9 @@ listed_lacks catches (Some names) name is = is
 
 patch_named : (state : Contents) (call : Call) (name : List ℕ) → LacksPatch state call name → ReportsName state call (refusal.NoPatch name)
 patch_named state (call.Pull from to names) name (catches, has, lacks) =
-    ap (lack_in state (asked.Call (call.Pull from to names)) from) has ∙ ap (lack_text state from) (listed_lacks catches names name lacks)
+    ap (lack_in state (parsed.Call (call.Pull from to names)) from) has ∙ ap (lack_text state from) (listed_lacks catches names name lacks)
 patch_named state (call.Obliterate branch names) name (catches, has, lacks) =
-    ap (lack_in state (asked.Call (call.Obliterate branch names)) branch) has ∙ ap (lack_text state branch) lacks
+    ap (lack_in state (parsed.Call (call.Obliterate branch names)) branch) has ∙ ap (lack_text state branch) lacks
 patch_named state other name is = absurd is
 
 pub is_named : (state : Contents) (call : Call) (refused : Refusal) → IsGround state call refused → ReportsName state call refused

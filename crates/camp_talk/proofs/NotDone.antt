@@ -1,5 +1,5 @@
 -- Commands that are not done.
-use Rattle.camp_talk.proofs.Words.{◌≡◌, ◌≢◌, zero, suc, Bool, true, false, List, [], ◌∷◌, drop, map, ℕ, Result, Ok, Err, Vec, IfOk, refl, ap, sym, subst, true≢false, ◌∙◌, first_of, without_end, Asked, Call, Entries, Gives, LineFault, ScriptFault, Standing, Tells, reply_text}
+use Rattle.camp_talk.proofs.Words.{◌≡◌, ◌≢◌, zero, suc, Bool, true, false, List, [], ◌∷◌, drop, map, ℕ, Result, Ok, Err, Vec, IfOk, refl, ap, sym, subst, true≢false, ◌∙◌, first_of, without_end, ParsedCommand, Call, Entries, Gives, LineFault, ScriptFault, SessionState, AnswersParsed, reply_text}
 use Rattle.std.proofs.Common.{◌+◌, ◌++◌, Some, length, length-append, unwrap_or}
 use Rattle.std.specs.List.{slice_get}
 use Rattle.camp_call.specs.declared.replies.Reply.{Reply}
@@ -9,8 +9,8 @@ use Rattle.camp_object.proofs.SameBooks.{same_book}
 use Rattle.camp_object.specs.declared.faults.Fault.TheVariants as fault
 use Rattle.camp_repo.specs.Objects.{number_told, repository}
 use Rattle.camp_talk.specs.Answers.{Replies}
-use Rattle.camp_talk.specs.Whys.{is_failure}
-use Rattle.camp_talk.specs.declared.questions.Asked.TheVariants.{Nothing}
+use Rattle.camp_talk.specs.Reports.{is_failure}
+use Rattle.camp_talk.specs.declared.questions.ParsedCommand.TheVariants.{Nothing}
 
 module _ (old now : Entries) (call : Call) where
   -- a call for which memory ran out changes nothing
@@ -34,21 +34,21 @@ module _ (old now : Entries) (call : Call) where
   -- if a text says that a call was not done, by a test that the text of an accepted one fails
   pub by_reply : (fails : List ℕ → Bool) → ((at : ℕ) → fails (reply_text (reply.Done at)) ≡ false) → (text : List ℕ) → fails text ≡ true
       → (answer : Reply) → text ≡ reply_text answer → AsksBook repository 0 old call (Ok answer) now → now ≡ old
-  by_reply fails done text is (reply.Done at) tells asks = absurd (true≢false (sym is ∙ ap fails tells ∙ done at))
-  by_reply fails done text is other tells asks = same_book now old asks.first (asks.asks.says.0.exact refl)
+  by_reply fails done text is (reply.Done at) reports asks = absurd (true≢false (sym is ∙ ap fails reports ∙ done at))
+  by_reply fails done text is other reports asks = same_book now old asks.first (asks.asks.says.0.exact refl)
 
   -- a call that is answered by a refusal changes nothing
   pub replies_keep : {Z E : Type 0} (result : Result (Vec ℕ Z) E) → IfOk result (λ text. Replies old call text.items now)
       → IfOk result (λ text. is_failure text.items ≡ true → now ≡ old)
-  replies_keep (Ok text) replies = λ fails. by_reply is_failure (λ at. refl) text.items fails replies.reply replies.tells replies.asks
+  replies_keep (Ok text) replies = λ fails. by_reply is_failure (λ at. refl) text.items fails replies.reply replies.reports replies.asks
   replies_keep (Err error) replies = tt
 
 -- an answer that is a fault or a refusal is one to something
-pub failures_ask : (before : Standing) (asked : Result Asked ScriptFault) (text : List ℕ) (now : Entries) → is_failure text ≡ true
-    → ((reading : Result Asked LineFault) → Gives asked reading → Tells before reading text now) → asked ≢ Ok Nothing
-failures_ask before asked text now fails tells nothing =
-    let told = tells (Ok Nothing) (subst (λ (asked : Result Asked ScriptFault). Gives asked (Ok Nothing)) (sym nothing) refl) in
-    let succeeds : is_failure text ≡ false = ap is_failure told.0 in
+pub failures_ask : (before : SessionState) (parsed : Result ParsedCommand ScriptFault) (text : List ℕ) (now : Entries) → is_failure text ≡ true
+    → ((reading : Result ParsedCommand LineFault) → Gives parsed reading → AnswersParsed before reading text now) → parsed ≢ Ok Nothing
+failures_ask before parsed text now fails reports nothing =
+    let answers = reports (Ok Nothing) (subst (λ (parsed : Result ParsedCommand ScriptFault). Gives parsed (Ok Nothing)) (sym nothing) refl) in
+    let succeeds : is_failure text ≡ false = ap is_failure answers.0 in
     absurd (true≢false (sym fails ∙ succeeds))
 
 -- ---- the line of a number

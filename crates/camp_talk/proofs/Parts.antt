@@ -52,15 +52,15 @@ module _ (a b : Option (List ℕ)) (old new : List ℕ) (lines : List (List ℕ)
 
 -- ---- parts
 
-pub ends_behind : (a b c : Option (List ℕ)) (bytes : List ℕ) → Consumes a b bytes → Ends b c → Ends a c
-ends_behind None b c bytes consumes ends = tt
-ends_behind (Some xs) None c bytes consumes ends = absurd consumes
-ends_behind (Some xs) (Some ys) c bytes consumes ends = ends
+pub ends_after : (a b c : Option (List ℕ)) (bytes : List ℕ) → Consumes a b bytes → Ends b c → Ends a c
+ends_after None b c bytes consumes ends = tt
+ends_after (Some xs) None c bytes consumes ends = absurd consumes
+ends_after (Some xs) (Some ys) c bytes consumes ends = ends
 
 -- the lines of the rest after whole lines
-pub lines_behind : (a b : Option (List ℕ)) (old new : List ℕ) (lines : List (List ℕ)) (reads : ReadsLines a b old new lines [])
+pub lines_after : (a b : Option (List ℕ)) (old new : List ℕ) (lines : List (List ℕ)) (reads : ReadsLines a b old new lines [])
     (some : List ℕ) → lines_in ((ended reads.whole ++ reads.left) ++ some) ≡ lines ++ lines_in some
-lines_behind a b old new lines reads some =
+lines_after a b old new lines reads some =
     ap (λ (left : List ℕ). lines_in ((ended reads.whole ++ left) ++ some)) (none_left reads.left reads.is_read)
     ∙ ap (λ (bytes : List ℕ). lines_in (bytes ++ some)) (append-nil (ended reads.whole))
     ∙ ap (map as_read) (lines-ended reads.whole some reads.are_lines)
@@ -69,9 +69,9 @@ lines_behind a b old new lines reads some =
 
 module _ (a b c : Option (List ℕ)) (old mid new : List ℕ) where
   -- lines after lines
-  pub behind : (lines more : List (List ℕ)) (last : List ℕ) → ReadsLines a b old mid lines []
+  pub reads_on : (lines more : List (List ℕ)) (last : List ℕ) → ReadsLines a b old mid lines []
       → ReadsLines b c mid new more last → ReadsLines a c old new (lines ++ more) last
-  behind lines more last first then = record {
+  reads_on lines more last first then = record {
     grows = then.grows ∙ ap (λ bytes. bytes ++ (ended more ++ last)) first.grows
         ∙ append_assoc old (ended lines ++ []) (ended more ++ last) ∙ ap (λ bytes. old ++ bytes) (joined lines more last);
     whole = first.whole ++ then.whole;

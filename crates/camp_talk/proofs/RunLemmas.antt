@@ -3,8 +3,8 @@ use Rattle.std.proofs.Common.{◌≡◌, ℕ, ◌+◌, ◌-◌, ◌^◌, List, [
 use Rattle.std.proofs.KnownBytes.{Appends-nil, Appends-trans, Consumes-nil, Consumes-trans}
 use Rattle.std.proofs.lemmas.Grind.{flat_map-append}
 use Rattle.std.specs.Io.KnownBytes.{Appends, Consumes}
-use Rattle.camp_talk.specs.Engine.Groups.{Follows, HasSteps, IfSteps, RunsGroup, Step, responses}
-use Rattle.camp_talk.specs.Engine.Runs.{Commits, EndsAfterGroup, HasRun, IsCommitted, ResponsesAreDurable, RunsAll, Settles, UnlessCommitFails}
+use Rattle.camp_talk.specs.Engine.Groups.{ExecutesInOrder, HasSteps, IfSteps, RunsGroup, Step, responses}
+use Rattle.camp_talk.specs.Engine.Runs.{Commits, EndsAfterGroup, FlushesGroup, HasRun, IsCommitted, ResponsesAreDurable, RunsAll, UnlessCommitFails}
 use Rattle.camp_talk.specs.declared.engine.backends.Backend as backends
 use Rattle.camp_talk.specs.declared.engine.framings.Framing as framings
 use Rattle.camp_talk.specs.declared.engine.groups.GroupLimits.{GroupLimits}
@@ -15,15 +15,15 @@ use Rattle.camp_talk.specs.declared.engine.runs.Stop.TheVariants as stop
 
 module _ {B F Q A E H : Type 0} (backend : backends.Ghosts B Q A E) (framing : framings.Ghosts F Q A H) (limits : GroupLimits) where
   commits_more : (first : B) (from : F) (groups : List (List (Step Q A))) (begun : B) (at : F) (steps : List (Step Q A)) (executed : B) (to : F) (last : B)
-      → Commits backend framing limits first from groups begun at → HasSteps steps → Follows backend framing limits begun at [] steps executed to → IsCommitted backend executed last
+      → Commits backend framing limits first from groups begun at → HasSteps steps → ExecutesInOrder backend framing limits begun at [] steps executed to → IsCommitted backend executed last
       → Commits backend framing limits first from (groups ++ steps ∷ []) last to
   commits_more first from [] begun at steps executed to last (same, same_too) some follows committed = (
     executed,
     last,
     to,
     some,
-    subst (λ (b : B). Follows backend framing limits b from [] steps executed to) (sym same)
-        (subst (λ (f : F). Follows backend framing limits begun f [] steps executed to) (sym same_too) follows),
+    subst (λ (b : B). ExecutesInOrder backend framing limits b from [] steps executed to) (sym same)
+        (subst (λ (f : F). ExecutesInOrder backend framing limits begun f [] steps executed to) (sym same_too) follows),
     committed,
     (refl, refl),
   )
@@ -31,7 +31,7 @@ module _ {B F Q A E H : Type 0} (backend : backends.Ghosts B Q A E) (framing : f
       (done, next, on, several, follow, settled, commits_more next on groups begun at steps executed to last more some follows committed)
 
   follows_read : (before : B) (from : F) (pending : List ℕ) (steps : List (Step Q A)) (after : B) (to : F)
-      → Follows backend framing limits before from pending steps after to
+      → ExecutesInOrder backend framing limits before from pending steps after to
       → Consumes (framing.remaining from) (framing.remaining to) (flat_map (λ (step : Step Q A). step.bytes) steps)
   follows_read before from pending [] after to (same, same_too) =
       subst (λ (f : F). Consumes (framing.remaining from) (framing.remaining f) []) same_too (Consumes-nil (framing.remaining from))
@@ -55,7 +55,7 @@ module _ {B F Q A E H : Type 0} (backend : backends.Ghosts B Q A E) (framing : f
       (executed : B) (to : F) (text : List ℕ) (last : B) (new : Option (List ℕ)) where
     -- one more group was committed and written
     pub run_goes_on : (count : ℕ) → length earlier.groups ≡ count → RunsGroup backend framing limits begun at halt.Pause executed to text → (done : Unit {0})
-        → Settles {H = H} backend executed text held (Ok done) last new → (run : HasRun backend framing limits first from old last to new) × (length run.groups ≡ count + 1)
+        → FlushesGroup {H = H} backend executed text held (Ok done) last new → (run : HasRun backend framing limits first from old last to new) × (length run.groups ≡ count + 1)
     run_goes_on count counted gathers done (committed, writes) = (
       record {
         groups = earlier.groups ++ steps ∷ [];
@@ -69,9 +69,9 @@ module _ {B F Q A E H : Type 0} (backend : backends.Ghosts B Q A E) (framing : f
         steps : List (Step Q A)
         steps = gathers.gathered.steps
 
-        follows : Follows backend framing limits begun at [] steps executed to
-        follows = subst (λ (b : B). Follows backend framing limits begun at [] steps b to) gathers.halts.0
-            (subst (λ (f : F). Follows backend framing limits begun at [] steps gathers.middle f) gathers.halts.1 gathers.gathered.follows)
+        follows : ExecutesInOrder backend framing limits begun at [] steps executed to
+        follows = subst (λ (b : B). ExecutesInOrder backend framing limits begun at [] steps b to) gathers.halts.0
+            (subst (λ (f : F). ExecutesInOrder backend framing limits begun at [] steps gathers.middle f) gathers.halts.1 gathers.gathered.follows)
 
         commits : Commits backend framing limits first from (earlier.groups ++ steps ∷ []) last to
         commits = commits_more first from earlier.groups begun at steps executed to last earlier.commits gathers.is_over follows committed
@@ -83,8 +83,8 @@ module _ {B F Q A E H : Type 0} (backend : backends.Ghosts B Q A E) (framing : f
             ∙ sym (flat_map-append (responses backend framing) earlier.groups (steps ∷ []))
 
     ends : (why : Halt E H) → RunsGroup backend framing limits begun at why executed to text → (result : Result (Unit {0}) (Stop E H))
-        → Settles backend executed text held result last new → EndsAfterGroup backend framing limits why result first from old last to new
-    ends why gathers result settles = record {
+        → FlushesGroup backend executed text held result last new → EndsAfterGroup backend framing limits why result first from old last to new
+    ends why gathers result flushes = record {
       begun = begun;
       at = at;
       held = held;
@@ -92,18 +92,18 @@ module _ {B F Q A E H : Type 0} (backend : backends.Ghosts B Q A E) (framing : f
       executed = executed;
       text = text;
       gathers = gathers;
-      settles = settles;
+      flushes = flushes;
     }
 
     -- a commit or a write has failed
     pub run_stops : (why : Halt E H) → RunsGroup backend framing limits begun at why executed to text → (fault : Stop E H)
-        → Settles backend executed text held (Err fault) last new → RunsAll backend framing limits first from old (Err fault) last to new
-    run_stops why gathers (stop.Commit fault) settles = record { why = why; ends = ends why gathers (Err (stop.Commit fault)) settles }
-    run_stops why gathers (stop.Write error) settles = record { why = why; ends = ends why gathers (Err (stop.Write error)) settles }
-    run_stops why gathers (stop.Read fault) settles = absurd settles
-    run_stops why gathers (stop.Execute fault) settles = absurd settles
-    run_stops why gathers stop.Memory settles = absurd settles
-    run_stops why gathers stop.Internal settles = absurd settles
+        → FlushesGroup backend executed text held (Err fault) last new → RunsAll backend framing limits first from old (Err fault) last to new
+    run_stops why gathers (stop.Commit fault) flushes = record { why = why; ends = ends why gathers (Err (stop.Commit fault)) flushes }
+    run_stops why gathers (stop.Write error) flushes = record { why = why; ends = ends why gathers (Err (stop.Write error)) flushes }
+    run_stops why gathers (stop.Read fault) flushes = absurd flushes
+    run_stops why gathers (stop.Execute fault) flushes = absurd flushes
+    run_stops why gathers stop.Memory flushes = absurd flushes
+    run_stops why gathers stop.Internal flushes = absurd flushes
 
 module _ {B F Q A E H : Type 0} (backend : backends.Ghosts B Q A E) (framing : framings.Ghosts F Q A H) where
   commits_durable : (limits : GroupLimits) (first : B) (from : F) (groups : List (List (Step Q A))) (last : B) (at : F) → Commits backend framing limits first from groups last at
@@ -120,12 +120,12 @@ module _ {B F Q A E H : Type 0} (backend : backends.Ghosts B Q A E) (framing : f
 
   run_durable : (limits : GroupLimits) (first : B) (from : F) (old : Option (List ℕ)) (result : Result (Unit {0}) (Stop E H)) (last : B) (to : F) (new : Option (List ℕ))
       → RunsAll backend framing limits first from old result last to new → UnlessCommitFails result (backend.durable last ≡ backend.history last)
-  run_durable limits first from old (Ok done) last to new runs = runs.settles.0.durable
+  run_durable limits first from old (Ok done) last to new runs = runs.flushes.0.durable
   run_durable limits first from old (Err (stop.Commit why)) last to new runs = tt
-  run_durable limits first from old (Err (stop.Write error)) last to new runs = runs.ends.settles.0.durable
-  run_durable limits first from old (Err (stop.Read why)) last to new runs = runs.settles.0.durable
-  run_durable limits first from old (Err (stop.Execute why)) last to new runs = runs.settles.0.durable
-  run_durable limits first from old (Err stop.Memory) last to new runs = runs.settles.0.durable
+  run_durable limits first from old (Err (stop.Write error)) last to new runs = runs.ends.flushes.0.durable
+  run_durable limits first from old (Err (stop.Read why)) last to new runs = runs.flushes.0.durable
+  run_durable limits first from old (Err (stop.Execute why)) last to new runs = runs.flushes.0.durable
+  run_durable limits first from old (Err stop.Memory) last to new runs = runs.flushes.0.durable
   run_durable limits first from old (Err stop.Internal) last to new (done, counted) =
       counted_durable done.groups (backend.durable last ≡ backend.history last) counted (commits_durable limits first from done.groups last to done.commits)
 

@@ -9,8 +9,8 @@ use Rattle.camp_script.specs.Inside.Progress.{start}
 use Rattle.camp_script.specs.Inside.Steps.{obeyed, read_from}
 use Rattle.camp_script.specs.Pieces.{NumberedLine, numbered}
 use Rattle.camp_script.specs.Words.{◌>>=◌}
-use Rattle.camp_talk.specs.Asking.{parsed_words}
-use Rattle.camp_talk.specs.declared.questions.Asked.TheVariants as asked
+use Rattle.camp_talk.specs.Parsing.{parsed_words}
+use Rattle.camp_talk.specs.declared.questions.ParsedCommand.TheVariants as parsed
 
 -- the first word of a comment
 number_sign : (word : List ℕ) → (slice_index word 0 == 35) ≡ true → (rest : List ℕ) × (word ≡ 35 ∷ rest)
@@ -28,9 +28,9 @@ no_command : (words : List (List ℕ)) → is_skipped words ≡ true → command
 no_command [] is = refl
 no_command (word ∷ words) is = let (rest, sign) = number_sign word is in ap (λ (w : List ℕ). command_of 1 (w ∷ words)) sign
 
-nothing_asked : (words : List (List ℕ)) → is_skipped words ≡ true → parsed_words words (Ok ([] ∷ [])) ≡ Ok asked.Nothing
-nothing_asked [] is = refl
-nothing_asked (word ∷ words) is =
+nothing_parsed : (words : List (List ℕ)) → is_skipped words ≡ true → parsed_words words (Ok ([] ∷ [])) ≡ Ok parsed.Nothing
+nothing_parsed [] is = refl
+nothing_parsed (word ∷ words) is =
     let (rest, sign) = number_sign word is in ap (λ (w : List ℕ). parsed_words (w ∷ words) (Ok ([] ∷ []))) sign
 
 -- ---- by the line
@@ -41,19 +41,19 @@ module _ (line : List ℕ) (skipped : is_skipped (words_of line) ≡ true) where
   no_call =
       ap (λ b. script_of_lines (cond b (behind_word line) line ∷ [])) (no_foresight (words_of line) skipped)
       ∙ sym (reads_as_defined (line ∷ []))
-      ∙ ap (λ asked. obeyed 1 start asked >>= λ next. read_from 2 next []) (no_command (words_of line) skipped)
+      ∙ ap (λ parsed. obeyed 1 start parsed >>= λ next. read_from 2 next []) (no_command (words_of line) skipped)
 
   alone : (rest : List (List ℕ)) → taken line rest ≡ rest → rest ≡ []
   alone rest all =
       sym all ∙ ap (λ b. command.taken (cond b (behind_word line) line) rest) (no_foresight (words_of line) skipped)
-      ∙ ap (λ asked. map (λ (l : NumberedLine). l.bytes) (command.taken_by asked (numbered 2 rest))) (no_command (words_of line) skipped)
+      ∙ ap (λ parsed. map (λ (l : NumberedLine). l.bytes) (command.taken_by parsed (numbered 2 rest))) (no_command (words_of line) skipped)
 
-  asks_nothing : parsed_lines (line ∷ []) ≡ Ok asked.Nothing
-  asks_nothing = ap (parsed_words (words_of line)) no_call ∙ nothing_asked (words_of line) skipped
+  asks_nothing : parsed_lines (line ∷ []) ≡ Ok parsed.Nothing
+  asks_nothing = ap (parsed_words (words_of line)) no_call ∙ nothing_parsed (words_of line) skipped
 
 -- a command whose first line is skipped
 pub silent_asks_nothing : (lines : List (List ℕ)) → TakesAll lines → is_skipped (words_of (first_of lines)) ≡ true
-    → parsed_lines lines ≡ Ok asked.Nothing
+    → parsed_lines lines ≡ Ok parsed.Nothing
 silent_asks_nothing [] all skipped = refl
 silent_asks_nothing (line ∷ rest) all skipped =
     ap (λ (ls : List (List ℕ)). parsed_lines (line ∷ ls)) (alone line skipped rest all) ∙ asks_nothing line skipped

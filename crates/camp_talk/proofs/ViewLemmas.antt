@@ -16,16 +16,16 @@ pub leads_on : (state : Contents) (call : Call) (next : Contents) → step state
 leads_on state call next is = repository_is_lawful.writes state call next (ap next_of is)
 
 abbrev commands : List Exchange → List ℕ
-commands said = flat_map (λ (exchange : Exchange). exchange.command) said
+commands exchanges = flat_map (λ (exchange : Exchange). exchange.command) exchanges
 
 abbrev answers : List Exchange → List ℕ
-answers said = flat_map (λ (exchange : Exchange). exchange.answer) said
+answers exchanges = flat_map (λ (exchange : Exchange). exchange.answer) exchanges
 
 -- one more after others
-one_behind : (part : Exchange → List ℕ) (said : List Exchange) (more : Exchange)
-    → flat_map part said ++ part more ≡ flat_map part (said ++ more ∷ [])
-one_behind part said more =
-    ap (λ bytes. flat_map part said ++ bytes) (sym (append-nil (part more))) ∙ sym (flat_map-append part said (more ∷ []))
+one_after : (part : Exchange → List ℕ) (exchanges : List Exchange) (more : Exchange)
+    → flat_map part exchanges ++ part more ≡ flat_map part (exchanges ++ more ∷ [])
+one_after part exchanges more =
+    ap (λ bytes. flat_map part exchanges ++ bytes) (sym (append-nil (part more))) ∙ sym (flat_map-append part exchanges (more ∷ []))
 
 -- if reading failed, no writer did
 pub not_writing : (why : TalkFault) → IsReading why → IsNotWriting why
@@ -39,54 +39,54 @@ taken_back old more new is = ap (λ bytes. take (length old) bytes) is ∙ take-
 module _ (state : Contents) where
   -- at first no command was answered
   pub begins_view : (request old : List ℕ) → HasAnsweredView request request old old state 0
-  begins_view request old = record { said = []; sees = refl; reads = refl; writes = sym (append-nil old) }
+  begins_view request old = record { exchanges = []; sees = refl; reads = refl; writes = sym (append-nil old) }
 
   -- one more command is answered
-  one_more : (first middle last : ℕ) (said : List Exchange) (more : Exchange) → SeesAll state first said middle
-      → IsCommand more.command → Sees state middle more last → SeesAll state first (said ++ more ∷ []) last
+  one_more : (first middle last : ℕ) (exchanges : List Exchange) (more : Exchange) → SeesAll state first exchanges middle
+      → IsCommand more.command → Sees state middle more last → SeesAll state first (exchanges ++ more ∷ []) last
   one_more first middle last [] more sees is one =
       subst (λ (before : ℕ). SeesAll state before (more ∷ []) last) (sym sees) (last, is, one, refl)
-  one_more first middle last (exchange ∷ said) more (next, command, seen, sees) is one =
-      (next, command, seen, one_more next middle last said more sees is one)
+  one_more first middle last (exchange ∷ exchanges) more (next, command, seen, sees) is one =
+      (next, command, seen, one_more next middle last exchanges more sees is one)
 
   module _ (request left rest old held new : List ℕ) (middle last : ℕ) where
     -- there may be more
     pub sees_on : HasAnsweredView request left old held state middle
         → SeesStep (Some left) (Some rest) held new state middle true last → HasAnsweredView request rest old new state last
-    sees_on holds turn =
-        let more : Exchange = turn.said in
+    sees_on holds sees_step =
+        let more : Exchange = sees_step.exchange in
         record {
-          said = holds.said ++ more ∷ [];
-          sees = one_more 0 middle last holds.said more holds.sees turn.reads.1 turn.sees;
+          exchanges = holds.exchanges ++ more ∷ [];
+          sees = one_more 0 middle last holds.exchanges more holds.sees sees_step.reads.1 sees_step.sees;
           reads =
-              holds.reads ∙ ap (λ bytes. commands holds.said ++ bytes) turn.reads.0
-              ∙ sym (append_assoc (commands holds.said) more.command rest)
-              ∙ ap (λ bytes. bytes ++ rest) (one_behind (λ (exchange : Exchange). exchange.command) holds.said more);
+              holds.reads ∙ ap (λ bytes. commands holds.exchanges ++ bytes) sees_step.reads.0
+              ∙ sym (append_assoc (commands holds.exchanges) more.command rest)
+              ∙ ap (λ bytes. bytes ++ rest) (one_after (λ (exchange : Exchange). exchange.command) holds.exchanges more);
           writes =
-              turn.grows ∙ ap (λ bytes. bytes ++ more.answer) holds.writes
-              ∙ append_assoc old (answers holds.said) more.answer
-              ∙ ap (λ bytes. old ++ bytes) (one_behind (λ (exchange : Exchange). exchange.answer) holds.said more);
+              sees_step.grows ∙ ap (λ bytes. bytes ++ more.answer) holds.writes
+              ∙ append_assoc old (answers holds.exchanges) more.answer
+              ∙ ap (λ bytes. old ++ bytes) (one_after (λ (exchange : Exchange). exchange.answer) holds.exchanges more);
         }
 
     -- after the last command
     pub view_answered : HasAnsweredView request left old held state middle
         → SeesStep (Some left) (Some rest) held new state middle false last
         → (text : List ℕ) × (new ≡ old ++ text) × AnswersView state request text
-    view_answered holds turn =
-        let all : left ≡ turn.said.command =
-        turn.reads.0 ∙ ap (λ (bytes : List ℕ). turn.said.command ++ bytes) turn.reads.2 ∙ append-nil turn.said.command in (
-          answers holds.said ++ turn.said.answer,
-          turn.grows ∙ ap (λ bytes. bytes ++ turn.said.answer) holds.writes
-              ∙ append_assoc old (answers holds.said) turn.said.answer,
+    view_answered holds sees_step =
+        let all : left ≡ sees_step.exchange.command =
+        sees_step.reads.0 ∙ ap (λ (bytes : List ℕ). sees_step.exchange.command ++ bytes) sees_step.reads.2 ∙ append-nil sees_step.exchange.command in (
+          answers holds.exchanges ++ sees_step.exchange.answer,
+          sees_step.grows ∙ ap (λ bytes. bytes ++ sees_step.exchange.answer) holds.writes
+              ∙ append_assoc old (answers holds.exchanges) sees_step.exchange.answer,
           record {
-            said = holds.said;
-            last = turn.said;
+            exchanges = holds.exchanges;
+            last = sees_step.exchange;
             middle = middle;
             after = last;
             sees = holds.sees;
-            is = turn.reads.1;
-            ends = turn.sees;
-            asks = holds.reads ∙ ap (λ bytes. commands holds.said ++ bytes) all;
-            tells = refl;
+            is = sees_step.reads.1;
+            ends = sees_step.sees;
+            asks = holds.reads ∙ ap (λ bytes. commands holds.exchanges ++ bytes) all;
+            reports = refl;
           },
         )

@@ -19,18 +19,18 @@ pub use Rattle.camp_script.specs.Reading.{script_of_lines}
 pub use Rattle.camp_script.specs.Texts.{reply_text}
 pub use Rattle.camp_script.specs.declared.faults.LineFault.{LineFault}
 pub use Rattle.camp_script.specs.declared.faults.ScriptFault.{ScriptFault}
-pub use Rattle.camp_talk.specs.Answers.{Answers, UpdatesDiagnostic, Standing, Tells, RunsOutOfMemory, is_silent}
-pub use Rattle.camp_talk.specs.Asking.{parsed_command, parsed_lines, first_of, question_of, short_question}
+pub use Rattle.camp_talk.specs.Answers.{Answers, AnswersParsed, RunsOutOfMemory, SessionState, UpdatesDiagnostic, is_silent}
+pub use Rattle.camp_talk.specs.Parsing.{first_of, parsed_command, parsed_lines, question_of, short_question}
 pub use Rattle.camp_talk.specs.Cutting.{IsCommand, IsLeft, IsLine, TakesAll, as_read, lines_in, script_in, taken}
 pub use Rattle.camp_talk.specs.Entries.{Entries}
-pub use Rattle.camp_talk.specs.Inside.ExecutingNext.{DoesOne, ExecutesNext, IsResponse, UpdatesDiagnosticOf, LoadsOne}
+pub use Rattle.camp_talk.specs.Inside.ExecutingNext.{DoesOne, ExecutesNext, IsResponse, LoadsOne, UpdatesDiagnosticOf}
 pub use Rattle.camp_talk.specs.Inside.Parts.{Ends, EndsAt, GoesOn, IsReading, ReadsHeld, ReadsLine, ReadsLines, ReadsNext, StopsAtLine, StopsInLine, Takes, ended, feed_of, last_seen, seen_of, with_last}
-pub use Rattle.camp_talk.specs.Inside.Said.{IsNotWriting, IsWriting, answer_or_memory}
-pub use Rattle.camp_talk.specs.Loads.{Done, Fails, ReportsSuccess, Wants, reports_failure}
-pub use Rattle.camp_talk.specs.Talks.{AppendsSome, Breaks, Exchange, Exchanges, Follow, Holds, ReadsCommand, ReadsNone, ReadsTooMuch, ReadsWithin, Stops, Turns}
-pub use Rattle.camp_talk.specs.Told.{RendersAnswer, annotated_line, catch_line, names_answer}
+pub use Rattle.camp_talk.specs.Inside.Responses.{IsNotWriting, IsWriting, answer_or_memory}
+pub use Rattle.camp_talk.specs.Loads.{Done, Fails, LacksMemory, ReportsSuccess, reports_failure}
+pub use Rattle.camp_talk.specs.Talks.{AnswersInOrder, AppendsSome, Breaks, Exchange, Exchanges, HasAnswered, ReadsCommand, ReadsNone, ReadsTooMuch, ReadsWithin, Stops, TakesStep}
+pub use Rattle.camp_talk.specs.QuestionAnswers.{RendersAnswer, annotated_line, catch_line, names_answer}
 pub use Rattle.camp_talk.specs.declared.lines.Seen.{Seen}
-pub use Rattle.camp_talk.specs.declared.questions.Asked.{Asked}
+pub use Rattle.camp_talk.specs.declared.questions.ParsedCommand.{ParsedCommand}
 pub use Rattle.camp_questions.specs.Dependencies.{AreHeldBy, AreNeeded}
 pub use Rattle.std.proofs.lemmas.Bool.{and_parts, cases_Bool, cond-false}
 pub use Rattle.std.proofs.lemmas.List.Sums.{passes_at_first}

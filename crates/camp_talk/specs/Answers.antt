@@ -11,21 +11,21 @@ use Rattle.camp_script.specs.Lines.{is_skipped, lines_of, words_of}
 use Rattle.camp_script.specs.Texts.{reply_text}
 use Rattle.camp_script.specs.declared.faults.FaultKind.{FaultKind}
 use Rattle.camp_script.specs.declared.faults.LineFault.{LineFault}
-use Rattle.camp_talk.specs.Accounts.{Account, diagnostic_after}
-use Rattle.camp_talk.specs.Asking.{parsed_command, first_of}
+use Rattle.camp_talk.specs.Diagnostics.{Diagnostic, diagnostic_after}
+use Rattle.camp_talk.specs.Parsing.{first_of, parsed_command}
 use Rattle.camp_talk.specs.Cutting.{lines_in}
 use Rattle.camp_talk.specs.Entries.{Entries}
-use Rattle.camp_talk.specs.Told.{AnswersQuestion}
-use Rattle.camp_talk.specs.Whys.{diagnostic_of, is_failure, why_answer}
-use Rattle.camp_talk.specs.declared.questions.Asked.{Asked}
-use Rattle.camp_talk.specs.declared.questions.Asked.TheVariants as asked
+use Rattle.camp_talk.specs.QuestionAnswers.{AnswersQuestion}
+use Rattle.camp_talk.specs.Reports.{diagnostic_of, is_failure, why_answer}
+use Rattle.camp_talk.specs.declared.questions.ParsedCommand.{ParsedCommand}
+use Rattle.camp_talk.specs.declared.questions.ParsedCommand.TheVariants as parsed
 
 -- the state of a session: the accepted calls, with the state before them, the number of lines that were read, and the diagnostic of the last
 -- fault or refusal
-pub record Standing : Type 0 where
+pub record SessionState : Type 0 where
   pub history : Entries
   pub lines : ℕ
-  pub cause : Account
+  pub diagnostic : Diagnostic
 
 -- the answer to a command with a fault: its line, and the kind of the fault
 abbrev pub fault_text : ℕ → FaultKind → List ℕ
@@ -39,39 +39,39 @@ memory_text = codes "memory\n"
 pub record Replies (seen : Entries) (call : Call) (text : List ℕ) (now : Entries) : Type 0 where
   pub reply : Reply
   pub asks : AsksBook repository 0 seen call (Ok reply) now
-  pub tells : text ≡ reply_text reply
+  pub reports : text ≡ reply_text reply
 
 -- the answer to a parsed command: a fault, by its line, counted from the start of the conversation; nothing, if
 -- nothing is asked; a call, by its reply; a question, by its result; `why`, by the diagnostic of the last fault or
 -- refusal. Only a call can add to the history.
-abbrev pub Tells : Standing → Result Asked LineFault → List ℕ → Entries → Type 0
-Tells before (Err fault) text now = (text ≡ fault_text (before.lines + fault.line) fault.kind) × (now ≡ before.history)
-Tells before (Ok asked.Nothing) text now = (text ≡ []) × (now ≡ before.history)
-Tells before (Ok (asked.Call call)) text now = Replies before.history call text now
-Tells before (Ok (asked.Question question)) text now = AnswersQuestion before.history question text × (now ≡ before.history)
-Tells before (Ok asked.Why) text now = (text ≡ why_answer before.cause.told) × (now ≡ before.history)
+abbrev pub AnswersParsed : SessionState → Result ParsedCommand LineFault → List ℕ → Entries → Type 0
+AnswersParsed before (Err fault) text now = (text ≡ fault_text (before.lines + fault.line) fault.kind) × (now ≡ before.history)
+AnswersParsed before (Ok parsed.Nothing) text now = (text ≡ []) × (now ≡ before.history)
+AnswersParsed before (Ok (parsed.Call call)) text now = Replies before.history call text now
+AnswersParsed before (Ok (parsed.Question question)) text now = AnswersQuestion before.history question text × (now ≡ before.history)
+AnswersParsed before (Ok parsed.Why) text now = (text ≡ why_answer before.diagnostic.report) × (now ≡ before.history)
 
 -- the diagnostic after an answer: of a fault or a refusal its cause, at the state before the command; after any other
 -- answer the lines from before
-abbrev pub UpdatesDiagnosticAt : Bool → Standing → List ℕ → List ℕ → Account → Type 0
-UpdatesDiagnosticAt true before command text cause =
-    (state : Contents) × (replay_book repository before.history ≡ Some state) × (cause ≡ diagnostic_of before.cause state command text)
-UpdatesDiagnosticAt false before command text cause = cause ≡ diagnostic_after text before.cause
+abbrev pub UpdatesDiagnosticAt : Bool → SessionState → List ℕ → List ℕ → Diagnostic → Type 0
+UpdatesDiagnosticAt true before command text diagnostic =
+    (state : Contents) × (replay_book repository before.history ≡ Some state) × (diagnostic ≡ diagnostic_of before.diagnostic state command text)
+UpdatesDiagnosticAt false before command text diagnostic = diagnostic ≡ diagnostic_after text before.diagnostic
 
 -- by the text of the answer
-abbrev pub UpdatesDiagnostic : Standing → List ℕ → List ℕ → Account → Type 0
-UpdatesDiagnostic before command text cause = UpdatesDiagnosticAt (is_failure text) before command text cause
+abbrev pub UpdatesDiagnostic : SessionState → List ℕ → List ℕ → Diagnostic → Type 0
+UpdatesDiagnostic before command text diagnostic = UpdatesDiagnosticAt (is_failure text) before command text diagnostic
 
 -- a command asks nothing, by its first line: that is blank, or a comment, or there is none
 abbrev pub is_silent : List ℕ → Bool
 is_silent command = is_skipped (words_of (first_of (lines_in command)))
 
 -- a command that asks something ran out of memory, and this is reported: nothing has changed
-abbrev pub RunsOutOfMemory : Standing → List ℕ → List ℕ → Entries → Type 0
+abbrev pub RunsOutOfMemory : SessionState → List ℕ → List ℕ → Entries → Type 0
 RunsOutOfMemory before command text now = (is_silent command ≡ false) × (text ≡ memory_text) × (now ≡ before.history)
 
 -- a command is answered, unless memory ran out; its lines were read; and if it was not done, its diagnostic is kept
-pub record Answers (before : Standing) (command text : List ℕ) (after : Standing) : Type 0 where
-  pub tells : Tells before (parsed_command command) text after.history ⊎ RunsOutOfMemory before command text after.history
+pub record Answers (before : SessionState) (command text : List ℕ) (after : SessionState) : Type 0 where
+  pub reports : AnswersParsed before (parsed_command command) text after.history ⊎ RunsOutOfMemory before command text after.history
   pub counts : after.lines ≡ before.lines + length (lines_of command)
-  pub learns : UpdatesDiagnostic before command text after.cause
+  pub updates : UpdatesDiagnostic before command text after.diagnostic

@@ -26,7 +26,7 @@ shown bytes = encode_utf8_all (lossy_chars bytes)
 
 -- the words for a line, followed by the report
 abbrev pub line_words : ℕ → List ℕ → List ℕ
-line_words line told = codes "line " ++ decimal line ++ codes ": " ++ told
+line_words line text = codes "line " ++ decimal line ++ codes ": " ++ text
 
 -- the words that report a fault of a load: the line where its command begins, and the answer
 abbrev pub load_words : LoadFault → List ℕ

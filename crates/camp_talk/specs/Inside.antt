@@ -2,5 +2,5 @@
 pub mod Framing
 pub mod ExecutingNext
 pub mod Parts
-pub mod Said
+pub mod Responses
 pub mod Viewing

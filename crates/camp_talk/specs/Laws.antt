@@ -20,22 +20,22 @@ use Rattle.camp_script.specs.Texts.{reply_text}
 use Rattle.camp_script.specs.Words.{count_of}
 use Rattle.camp_script.specs.declared.faults.FaultKind.{FaultKind}
 use Rattle.camp_script.specs.declared.faults.LineFault.{LineFault}
-use Rattle.camp_talk.specs.Accounts.{Account, is_recovering, begins_command, recovery_of_line, may_be, passed}
-use Rattle.camp_talk.specs.Against.{absent_sides, call_about, lack_text, lacked_text, no_branch_text, sides_text, target}
-use Rattle.camp_talk.specs.Answers.{Answers, Standing, memory_text}
-use Rattle.camp_talk.specs.Asking.{parsed_command, first_of}
+use Rattle.camp_talk.specs.Diagnostics.{Diagnostic, advanced, begins_command, is_recovering, may_be, recovery_of_line}
+use Rattle.camp_talk.specs.Obstacles.{absent_sides, call_about, lack_text, lacked_text, no_branch_text, sides_text, target}
+use Rattle.camp_talk.specs.Answers.{Answers, SessionState, memory_text}
+use Rattle.camp_talk.specs.Parsing.{first_of, parsed_command}
 use Rattle.camp_talk.specs.Cutting.{IsLine, lines_in, longest_read}
 use Rattle.camp_talk.specs.Dialogues.{Leads}
 use Rattle.camp_talk.specs.Entries.{Entries}
 use Rattle.camp_talk.specs.Frames.{BeginsNoFrame, Counter, EndsWithin, HasNoFrame, ServesAt, ServesInTurn, most_bytes}
 use Rattle.camp_talk.specs.Loads.{Loads, reports_failure}
 use Rattle.camp_talk.specs.Refusals.{reason_of, saying}
-use Rattle.camp_talk.specs.Told.{counted}
-use Rattle.camp_talk.specs.Whys.{recovery_text, cause_found, diagnostic_of, cause_text, cure_at, cut_off, fault_lines, hint_text, is_unknown, line_at, may_record, refusal_report, rule, shown_line, word_text}
+use Rattle.camp_talk.specs.QuestionAnswers.{counted}
+use Rattle.camp_talk.specs.Reports.{cause_found, cause_text, cure_at, cut_off, diagnostic_of, fault_lines, hint_text, is_unknown, line_at, may_record, recovery_text, refusal_report, rule, shown_line, word_text}
 use Rattle.camp_talk.specs.declared.faults.LoadFault.TheVariants.{Answer, Memory, Talk}
 use Rattle.camp_talk.specs.declared.faults.LoadFault.{LoadFault}
-use Rattle.camp_talk.specs.declared.questions.Asked.TheVariants as asked
-use Rattle.camp_talk.specs.declared.questions.Asked.{Asked}
+use Rattle.camp_talk.specs.declared.questions.ParsedCommand.TheVariants as parsed
+use Rattle.camp_talk.specs.declared.questions.ParsedCommand.{ParsedCommand}
 use Rattle.camp_why.specs.Causes.{IsSo, refusal_by}
 use Rattle.camp_why.specs.Grounds.{IsGround}
 use Rattle.camp_why.specs.Hints.{hint}
@@ -63,17 +63,17 @@ pub record UnservedBytesHaveNoFrame : Type 0 where
   pub part : (bytes : List ℕ) → EndsWithin bytes → HasNoFrame bytes
 
 -- the parsed command has a fault, or this text is that of a refusal
-abbrev pub Failed : Result Asked LineFault → List ℕ → Type 0
+abbrev pub Failed : Result ParsedCommand LineFault → List ℕ → Type 0
 Failed (Err fault) text = Unit {0}
-Failed (Ok asked.Nothing) text = ⊥
-Failed (Ok (asked.Call call)) text = (refusal : Refusal) × (text ≡ reply_text (Refused refusal))
-Failed (Ok asked.Why) text = ⊥
-Failed (Ok (asked.Question question)) text = (refusal : Refusal) × (text ≡ reply_text (Refused refusal))
+Failed (Ok parsed.Nothing) text = ⊥
+Failed (Ok (parsed.Call call)) text = (refusal : Refusal) × (text ≡ reply_text (Refused refusal))
+Failed (Ok parsed.Why) text = ⊥
+Failed (Ok (parsed.Question question)) text = (refusal : Refusal) × (text ≡ reply_text (Refused refusal))
 
 -- an answer is a failure exactly if its command has a fault, it is a refusal, or memory ran out
 abbrev pub FailuresAreReported : Type 0
 FailuresAreReported =
-    (before : Standing) (command text : List ℕ) (after : Standing) → Answers before command text after →
+    (before : SessionState) (command text : List ℕ) (after : SessionState) → Answers before command text after →
     (reports_failure text ≡ true) ↔ (Failed (parsed_command command) text ⊎ (text ≡ memory_text))
 
 -- no line of the text of a call is longer than a conversation reads
@@ -107,16 +107,16 @@ pub record NamesCause (state : Contents) (call : Call) (refusal : Refusal) (line
   pub cause : Cause
   pub of : refusal_by cause ≡ refusal
   pub is_so : IsSo state call cause
-  pub tells : lines ≡ reply_text (Refused refusal) ++ shown_line line ++ saying (reason_of refusal)
-      ++ (sides_text (Some (call_about call)) (target (asked.Call call)) ++ cause_text cause)
-      ++ cure_at state (asked.Call call) (Some cause) (reason_of refusal)
+  pub reports : lines ≡ reply_text (Refused refusal) ++ shown_line line ++ saying (reason_of refusal)
+      ++ (sides_text (Some (call_about call)) (target (parsed.Call call)) ++ cause_text cause)
+      ++ cure_at state (parsed.Call call) (Some cause) (reason_of refusal)
 
 -- if a command asks a call that a state refuses because of a limit or its changes, the lines after it give a cause
 abbrev pub CausesAreReported : Type 0
 CausesAreReported =
-    (before : Account) (state : Contents) (command : List ℕ) (call : Call) (refusal : Refusal) → IsLawfulState state → IsCall call →
-    IsInRange call → parsed_command command ≡ Ok (asked.Call call) → step state call ≡ refused refusal →
-    wants_cause call refusal ≡ true → NamesCause state call refusal (first_of (lines_in command)) (diagnostic_of before state command (reply_text (Refused refusal))).told
+    (before : Diagnostic) (state : Contents) (command : List ℕ) (call : Call) (refusal : Refusal) → IsLawfulState state → IsCall call →
+    IsInRange call → parsed_command command ≡ Ok (parsed.Call call) → step state call ≡ refused refusal →
+    wants_cause call refusal ≡ true → NamesCause state call refusal (first_of (lines_in command)) (diagnostic_of before state command (reply_text (Refused refusal))).report
 
 -- the names in a refusal
 abbrev pub names_in : Refusal → List (List ℕ)
@@ -136,9 +136,9 @@ names_in (refusal.SameBranch branch) = branch ∷ []
 abbrev pub ReportsName : Contents → Call → Refusal → Type 0
 ReportsName state call (refusal.NoBranch name) =
     (front : List ℕ) × (back : List ℕ)
-    × (absent_sides state (Some (call_about call)) (target (asked.Call call)) ≡ front ++ no_branch_text name ++ back)
+    × (absent_sides state (Some (call_about call)) (target (parsed.Call call)) ≡ front ++ no_branch_text name ++ back)
 ReportsName state call (refusal.NoPatch name) =
-    lacked_text state (asked.Call call) (Some (call_about call)) ≡ lack_text state (call_about call).1 (Some name)
+    lacked_text state (parsed.Call call) (Some (call_about call)) ≡ lack_text state (call_about call).1 (Some name)
 ReportsName state call other = Unit {0}
 
 -- lines after a refusal of a call, which begin with this line, describe it: what it says is true, and the lines are
@@ -147,64 +147,64 @@ ReportsName state call other = Unit {0}
 pub record DescribesRefusal (state : Contents) (call : Call) (refusal : Refusal) (line lines : List ℕ) : Type 0 where
   pub ground : IsGround state call refusal
   pub named : ReportsName state call refusal
-  pub tells : lines ≡ refusal_report state (asked.Call call) line (reply_text (Refused refusal))
-      (cause_found state (asked.Call call) (reason_of refusal)) (reason_of refusal)
+  pub reports : lines ≡ refusal_report state (parsed.Call call) line (reply_text (Refused refusal))
+      (cause_found state (parsed.Call call) (reason_of refusal)) (reason_of refusal)
 
 -- if a command asks a call that a state refuses, the lines after it describe the refusal
 abbrev pub RefusalsAreDescribed : Type 0
 RefusalsAreDescribed =
-    (before : Account) (state : Contents) (command : List ℕ) (call : Call) (refusal : Refusal) → IsLawfulState state → IsCall call →
-    IsInRange call → AreNames (names_in refusal) → parsed_command command ≡ Ok (asked.Call call) → step state call ≡ refused refusal →
-    DescribesRefusal state call refusal (first_of (lines_in command)) (diagnostic_of before state command (reply_text (Refused refusal))).told
+    (before : Diagnostic) (state : Contents) (command : List ℕ) (call : Call) (refusal : Refusal) → IsLawfulState state → IsCall call →
+    IsInRange call → AreNames (names_in refusal) → parsed_command command ≡ Ok (parsed.Call call) → step state call ≡ refused refusal →
+    DescribesRefusal state call refusal (first_of (lines_in command)) (diagnostic_of before state command (reply_text (Refused refusal))).report
 
 -- lines after a command with a fault describe it: its answer, the line that has the fault, as much of it as is shown,
 -- which word is not a name, the hint on the line, the rule, and which lines after it are taken for its own
 pub record DescribesFault (fault : LineFault) (command answer lines : List ℕ) : Type 0 where
   pub line : List ℕ
   pub is : line ≡ line_at fault.line (lines_in command)
-  pub tells : lines ≡ answer ++ shown_line line ++ word_text fault.kind line
+  pub reports : lines ≡ answer ++ shown_line line ++ word_text fault.kind line
       ++ hint_text (hint fault.kind line) ++ rule fault.kind
       ++ recovery_text (cut_off fault.line fault.kind (first_of (lines_in command)))
 
 -- a command with a fault is taken for a line of the one before it: it may be one, and begins no command
-abbrev pub IsLineOf : Account → FaultKind → List ℕ → Type 0
+abbrev pub IsLineOf : Diagnostic → FaultKind → List ℕ → Type 0
 IsLineOf before kind line =
-    (may_be before.awaited line ≡ true) × (is_unknown kind ≡ true) × (begins_command line ≡ false)
+    (may_be before.recovery line ≡ true) × (is_unknown kind ≡ true) × (begins_command line ≡ false)
 
 -- it has a fault of its own: it can't be such a line, or begins a command
-abbrev pub IsOfItsOwn : Account → FaultKind → List ℕ → Type 0
+abbrev pub IsOfItsOwn : Diagnostic → FaultKind → List ℕ → Type 0
 IsOfItsOwn before kind line =
-    (may_be before.awaited line ≡ false) ⊎ ((is_unknown kind ≡ false) ⊎ (begins_command line ≡ true))
+    (may_be before.recovery line ≡ false) ⊎ ((is_unknown kind ≡ false) ⊎ (begins_command line ≡ true))
 
 -- if a command has a fault of its own, the lines after it describe it; if it is taken for a line of the one before
 -- it, the diagnostic of that one stays, and only the lines that may come change
 pub record FaultsAreDescribed : Type 0 where
-  pub own : (before : Account) (state : Contents) (command answer : List ℕ) (fault : LineFault) → parsed_command command ≡ Err fault →
+  pub own : (before : Diagnostic) (state : Contents) (command answer : List ℕ) (fault : LineFault) → parsed_command command ≡ Err fault →
       IsOfItsOwn before fault.kind (first_of (lines_in command)) →
-      DescribesFault fault command answer (diagnostic_of before state command answer).told
-  pub line : (before : Account) (state : Contents) (command answer : List ℕ) (fault : LineFault) → parsed_command command ≡ Err fault →
+      DescribesFault fault command answer (diagnostic_of before state command answer).report
+  pub line : (before : Diagnostic) (state : Contents) (command answer : List ℕ) (fault : LineFault) → parsed_command command ≡ Err fault →
       IsLineOf before fault.kind (first_of (lines_in command)) →
-      diagnostic_of before state command answer ≡ passed before (first_of (lines_in command))
+      diagnostic_of before state command answer ≡ advanced before (first_of (lines_in command))
 
 -- the diagnostic of a command is that of a record that was cut off: the command has a fault in its first line, which
 -- is one of a record, or may be; the lines describe it; and those may come that follow such a line
-pub record IsCutOff (command answer : List ℕ) (now : Account) : Type 0 where
+pub record IsCutOff (command answer : List ℕ) (now : Diagnostic) : Type 0 where
   pub fault : LineFault
   pub asks : parsed_command command ≡ Err fault
   pub first : fault.line ≡ 1
   pub is : may_record fault.kind (first_of (lines_in command)) ≡ true
-  pub tells : now.told ≡ fault_lines fault.kind (first_of (lines_in command)) answer now.awaited
-  pub awaits : now.awaited ≡ recovery_of_line (first_of (lines_in command))
+  pub reports : now.report ≡ fault_lines fault.kind (first_of (lines_in command)) answer now.recovery
+  pub awaits : now.recovery ≡ recovery_of_line (first_of (lines_in command))
 
 -- the diagnostic from before waits for a line, and the command is taken for it: the report is the same
-pub record IsNextLine (before : Account) (command : List ℕ) (now : Account) : Type 0 where
+pub record IsNextLine (before : Diagnostic) (command : List ℕ) (now : Diagnostic) : Type 0 where
   pub fault : LineFault
   pub asks : parsed_command command ≡ Err fault
   pub taken : IsLineOf before fault.kind (first_of (lines_in command))
-  pub is : now ≡ passed before (first_of (lines_in command))
+  pub is : now ≡ advanced before (first_of (lines_in command))
 
 -- only then does the diagnostic of a command that is not done wait for lines
 abbrev pub RecoveryFollowsCutOff : Type 0
 RecoveryFollowsCutOff =
-    (before : Account) (state : Contents) (command answer : List ℕ) → is_recovering (diagnostic_of before state command answer).awaited ≡ true →
+    (before : Diagnostic) (state : Contents) (command answer : List ℕ) → is_recovering (diagnostic_of before state command answer).recovery ≡ true →
     IsCutOff command answer (diagnostic_of before state command answer) ⊎ IsNextLine before command (diagnostic_of before state command answer)

@@ -1,8 +1,6 @@
-pub mod Accounts
-pub mod Against
 pub mod Answers
-pub mod Asking
 pub mod Cutting
+pub mod Diagnostics
 pub mod Dialogues
 pub mod Engine
 pub mod Entries
@@ -12,11 +10,13 @@ pub mod Help
 pub mod Inside
 pub mod Laws
 pub mod Loads
+pub mod Obstacles
 pub mod Pages
+pub mod Parsing
+pub mod QuestionAnswers
 pub mod Refusals
+pub mod Reports
 pub mod Requests
 pub mod Talks
-pub mod Told
 pub mod Views
 pub mod Visible
-pub mod Whys

@@ -2,11 +2,11 @@
 use Rattle.std.specs.Prelude.{◌≡◌, ℕ, ◌+◌, Bool, true, false, ◌||◌, List, Option, Result, Ok, Err, codes}
 use Rattle.std.specs.List.{All, flat_map}
 use Rattle.std.specs.Io.KnownBytes.{Consumes}
-use Rattle.camp_talk.specs.Accounts.{no_diagnostic}
-use Rattle.camp_talk.specs.Answers.{Answers, Standing, Tells, is_silent, memory_text}
-use Rattle.camp_talk.specs.Asking.{parsed_command}
+use Rattle.camp_talk.specs.Diagnostics.{no_diagnostic}
+use Rattle.camp_talk.specs.Answers.{Answers, AnswersParsed, SessionState, is_silent, memory_text}
+use Rattle.camp_talk.specs.Parsing.{parsed_command}
 use Rattle.camp_talk.specs.Entries.{Entries}
-use Rattle.camp_talk.specs.Talks.{Exchange, Follow, ReadsCommand, ReadsNone}
+use Rattle.camp_talk.specs.Talks.{AnswersInOrder, Exchange, ReadsCommand, ReadsNone}
 use Rattle.camp_talk.specs.declared.faults.LoadFault.{LoadFault}
 use Rattle.camp_talk.specs.declared.faults.LoadFault.TheVariants.{Answer, Memory, Talk}
 use Rattle.camp_why.specs.Hints.{begins}
@@ -22,34 +22,34 @@ ReportsSuccess answer = reports_failure answer ≡ false
 -- by the content of a reader, before and after
 module _ (remaining rest : Option (List ℕ)) where
   -- exactly these commands were read, and each was done
-  pub record Done (first last : Standing) : Type 0 where
-    pub said : List Exchange
-    pub follow : Follow first said last
-    pub well : All (λ exchange. ReportsSuccess exchange.answer) said
-    pub reads : Consumes remaining rest (flat_map (λ exchange. exchange.command) said)
+  pub record Done (first last : SessionState) : Type 0 where
+    pub exchanges : List Exchange
+    pub follow : AnswersInOrder first exchanges last
+    pub well : All (λ exchange. ReportsSuccess exchange.answer) exchanges
+    pub reads : Consumes remaining rest (flat_map (λ exchange. exchange.command) exchanges)
 
   -- the input has ended, and the last command, as far as it goes, was done
-  pub record EndsWell (before : Standing) (now : Entries) : Type 0 where
-    pub said : Exchange
-    pub reads : ReadsCommand remaining rest false said.command
-    pub after : Standing
-    pub answers : Answers before said.command said.answer after
-    pub well : ReportsSuccess said.answer
+  pub record EndsWell (before : SessionState) (now : Entries) : Type 0 where
+    pub exchange : Exchange
+    pub reads : ReadsCommand remaining rest false exchange.command
+    pub after : SessionState
+    pub answers : Answers before exchange.command exchange.answer after
+    pub well : ReportsSuccess exchange.answer
     pub same : now ≡ after.history
 
   -- the command that begins at this line was read, and this is its answer: it was not done, and nothing has changed
-  pub record Fails (before : Standing) (line : ℕ) (answer : List ℕ) (now : Entries) : Type 0 where
+  pub record Fails (before : SessionState) (line : ℕ) (answer : List ℕ) (now : Entries) : Type 0 where
     pub whole : Bool
     pub command : List ℕ
     pub reads : ReadsCommand remaining rest whole command
-    pub tells : Tells before (parsed_command command) answer now
+    pub reports : AnswersParsed before (parsed_command command) answer now
     pub failure : reports_failure answer ≡ true
     pub at : line ≡ before.lines + 1
     pub same : now ≡ before.history
 
   -- the command that begins at this line was read, and ran out of memory, itself or for its answer: nothing has
   -- changed
-  pub record Wants (before : Standing) (line : ℕ) (now : Entries) : Type 0 where
+  pub record LacksMemory (before : SessionState) (line : ℕ) (now : Entries) : Type 0 where
     pub whole : Bool
     pub command : List ℕ
     pub reads : ReadsCommand remaining rest whole command
@@ -58,10 +58,10 @@ module _ (remaining rest : Option (List ℕ)) where
     pub same : now ≡ before.history
 
   -- the result of a load after these commands were done
-  abbrev pub Ends : Standing → Result (Unit {0}) LoadFault → Entries → Type 0
+  abbrev pub Ends : SessionState → Result (Unit {0}) LoadFault → Entries → Type 0
   Ends before (Ok done) now = EndsWell before now
   Ends before (Err (Answer line text)) now = Fails before line text.items now
-  Ends before (Err (Memory line)) now = Wants before line now
+  Ends before (Err (Memory line)) now = LacksMemory before line now
   Ends before (Err (Talk why)) now = ReadsNone remaining rest before why × (now ≡ before.history)
 
 -- a load that begins with the accepted calls of a book, and before the first line: commands were done, one after the
@@ -69,6 +69,6 @@ module _ (remaining rest : Option (List ℕ)) where
 pub record Loads (remaining rest : Option (List ℕ)) (history : Entries) (result : Result (Unit {0}) LoadFault) (now : Entries)
     : Type 0 where
   pub left : Option (List ℕ)
-  pub middle : Standing
-  pub done : Done remaining left (record { history = history; lines = 0; cause = no_diagnostic }) middle
+  pub middle : SessionState
+  pub done : Done remaining left (record { history = history; lines = 0; diagnostic = no_diagnostic }) middle
   pub ends : Ends left rest middle result now

@@ -3,7 +3,7 @@ use Rattle.std.specs.Prelude.{◌≡◌, ◌^◌, ◌+◌, ◌<◌, ◌≤◌, �
 use Rattle.std.specs.List.{flat_map}
 use Rattle.std.specs.Io.KnownBytes.{Appends, Consumes, IsAtEnd, Keeps}
 use Rattle.camp_script.specs.Lines.{lines_of}
-use Rattle.camp_talk.specs.Answers.{Answers, Standing}
+use Rattle.camp_talk.specs.Answers.{Answers, SessionState}
 use Rattle.camp_talk.specs.Cutting.{IsCommand, IsLeft}
 use Rattle.camp_talk.specs.Entries.{Entries}
 use Rattle.camp_talk.specs.declared.faults.TalkFault.{TalkFault}
@@ -37,14 +37,14 @@ module _ (remaining rest : Option (List ℕ)) where
     pub is : IsLeft some
 
   -- no more was read than a command has, and the line after it has no number below 2^64
-  pub record ReadsTooMuch (before : Standing) : Type 0 where
+  pub record ReadsTooMuch (before : SessionState) : Type 0 where
     pub some : List ℕ
     pub reads : Consumes remaining rest some
     pub is : IsLeft some
     pub many : 2 ^ 64 ≤ before.lines + length (lines_of some) + 1
 
   -- there is no command to execute: memory ran out for it, the reader failed, or its lines have no numbers
-  abbrev pub ReadsNone : Standing → TalkFault → Type 0
+  abbrev pub ReadsNone : SessionState → TalkFault → Type 0
   ReadsNone before Memory = ReadsWithin
   ReadsNone before (Read error) = ReadsWithin
   ReadsNone before (Write error) = ⊥
@@ -53,58 +53,58 @@ module _ (remaining rest : Option (List ℕ)) where
 -- by that, and the content of a writer, before and after, if that is known
 module _ (remaining rest old new : Option (List ℕ)) where
   -- exactly a command was read, and exactly its answer was written
-  pub record Exchanges (whole : Bool) (before after : Standing) : Type 0 where
-    pub said : Exchange
-    pub reads : ReadsCommand remaining rest whole said.command
-    pub answers : Answers before said.command said.answer after
-    pub writes : Appends old new said.answer
+  pub record Exchanges (whole : Bool) (before after : SessionState) : Type 0 where
+    pub exchange : Exchange
+    pub reads : ReadsCommand remaining rest whole exchange.command
+    pub answers : Answers before exchange.command exchange.answer after
+    pub writes : Appends old new exchange.answer
 
   -- a command was read and executed, and a prefix of its answer was written; its lines are not counted
-  pub record Stops (before after : Standing) : Type 0 where
+  pub record Stops (before after : SessionState) : Type 0 where
     pub whole : Bool
-    pub said : Exchange
-    pub reads : ReadsCommand remaining rest whole said.command
-    pub behind : Standing
-    pub answers : Answers before said.command said.answer behind
-    pub same : after ≡ record { history = behind.history; lines = before.lines; cause = behind.cause }
-    pub writes : AppendsSome old new said.answer
+    pub exchange : Exchange
+    pub reads : ReadsCommand remaining rest whole exchange.command
+    pub reached : SessionState
+    pub answers : Answers before exchange.command exchange.answer reached
+    pub same : after ≡ record { history = reached.history; lines = before.lines; diagnostic = reached.diagnostic }
+    pub writes : AppendsSome old new exchange.answer
 
   -- there was no command to execute: nothing was written, and nothing has changed
-  pub record Breaks (before : Standing) (why : TalkFault) (after : Standing) : Type 0 where
+  pub record Breaks (before : SessionState) (why : TalkFault) (after : SessionState) : Type 0 where
     pub none : ReadsNone remaining rest before why
     pub keeps : Keeps old new
     pub same : after ≡ before
 
   -- the step of one command. Ok: whether there may be more, or else the input has ended. Write: it was executed, and
   -- its answer could not be written. Any other fault: none was executed.
-  abbrev pub Turns : Standing → Result Bool TalkFault → Standing → Type 0
-  Turns before (Ok whole) after = Exchanges whole before after
-  Turns before (Err Memory) after = Breaks before Memory after
-  Turns before (Err (Read error)) after = Breaks before (Read error) after
-  Turns before (Err (Write error)) after = Stops before after
-  Turns before (Err Internal) after = Breaks before Internal after
+  abbrev pub TakesStep : SessionState → Result Bool TalkFault → SessionState → Type 0
+  TakesStep before (Ok whole) after = Exchanges whole before after
+  TakesStep before (Err Memory) after = Breaks before Memory after
+  TakesStep before (Err (Read error)) after = Breaks before (Read error) after
+  TakesStep before (Err (Write error)) after = Stops before after
+  TakesStep before (Err Internal) after = Breaks before Internal after
 
 -- commands are answered one after the other, from a session state
-abbrev pub Follow : Standing → List Exchange → Standing → Type 0
-Follow first [] last = first ≡ last
-Follow first (said ∷ others) last =
-    (next : Standing) × IsCommand said.command × Answers first said.command said.answer next × Follow next others last
+abbrev pub AnswersInOrder : SessionState → List Exchange → SessionState → Type 0
+AnswersInOrder first [] last = first ≡ last
+AnswersInOrder first (exchange ∷ others) last =
+    (next : SessionState) × IsCommand exchange.command × Answers first exchange.command exchange.answer next × AnswersInOrder next others last
 
 -- exactly these commands were read and answered so far
-pub record Holds (remaining rest old new : Option (List ℕ)) (first last : Standing) : Type 0 where
-  pub said : List Exchange
-  pub follow : Follow first said last
-  pub reads : Consumes remaining rest (flat_map (λ exchange. exchange.command) said)
-  pub writes : Appends old new (flat_map (λ exchange. exchange.answer) said)
+pub record HasAnswered (remaining rest old new : Option (List ℕ)) (first last : SessionState) : Type 0 where
+  pub exchanges : List Exchange
+  pub follow : AnswersInOrder first exchanges last
+  pub reads : Consumes remaining rest (flat_map (λ exchange. exchange.command) exchanges)
+  pub writes : Appends old new (flat_map (λ exchange. exchange.answer) exchanges)
 
 -- commands were answered one after the other, followed by a step with this result
-pub record EndsWithStep (remaining rest old new : Option (List ℕ)) (first : Standing) (turn : Result Bool TalkFault)
+pub record EndsWithStep (remaining rest old new : Option (List ℕ)) (first : SessionState) (step_result : Result Bool TalkFault)
     (history : Entries) : Type 0 where
   -- the rest of the reader, the content of the writer, and the session state before that step
   pub left : Option (List ℕ)
   pub held : Option (List ℕ)
-  pub middle : Standing
-  pub last : Standing
-  pub holds : Holds remaining left old held first middle
-  pub turns : Turns left rest held new middle turn last
+  pub middle : SessionState
+  pub last : SessionState
+  pub holds : HasAnswered remaining left old held first middle
+  pub takes_step : TakesStep left rest held new middle step_result last
   pub leaves : history ≡ last.history

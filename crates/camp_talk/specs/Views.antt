@@ -11,12 +11,12 @@ use Rattle.camp_script.specs.Lines.{lines_of}
 use Rattle.camp_script.specs.Texts.{reply_text}
 use Rattle.camp_script.specs.declared.faults.LineFault.{LineFault}
 use Rattle.camp_talk.specs.Answers.{fault_text}
-use Rattle.camp_talk.specs.Asking.{parsed_command}
+use Rattle.camp_talk.specs.Parsing.{parsed_command}
 use Rattle.camp_talk.specs.Cutting.{IsCommand, IsLeft}
 use Rattle.camp_talk.specs.Talks.{Exchange}
-use Rattle.camp_talk.specs.Told.{AnswersQuestionAt}
-use Rattle.camp_talk.specs.declared.questions.Asked.{Asked}
-use Rattle.camp_talk.specs.declared.questions.Asked.TheVariants as asked
+use Rattle.camp_talk.specs.QuestionAnswers.{AnswersQuestionAt}
+use Rattle.camp_talk.specs.declared.questions.ParsedCommand.{ParsedCommand}
+use Rattle.camp_talk.specs.declared.questions.ParsedCommand.TheVariants as parsed
 use Rattle.camp_talk.specs.declared.questions.Question.{Question}
 use Rattle.camp_talk.specs.declared.questions.Question.TheVariants as question
 
@@ -27,11 +27,11 @@ is_of_history question.Keep = true
 is_of_history other = false
 
 -- a command asks for more than a state has: it would write, or asks about the history or another command
-abbrev pub is_beyond : Asked → Bool
-is_beyond asked.Nothing = false
-is_beyond (asked.Call call) = is_writing call
-is_beyond (asked.Question question) = is_of_history question
-is_beyond asked.Why = true
+abbrev pub is_beyond : ParsedCommand → Bool
+is_beyond parsed.Nothing = false
+is_beyond (parsed.Call call) = is_writing call
+is_beyond (parsed.Question question) = is_of_history question
+is_beyond parsed.Why = true
 
 -- the fault of such a command, by its line
 abbrev pub beyond_text : ℕ → List ℕ
@@ -43,43 +43,43 @@ shown_reply state call = reply_text (reply_of (step state call))
 
 -- the answer of a state to a parsed command: nothing, if it asks nothing; to a call its reply; to a question its
 -- answer, for which no history is needed; to another command there is none
-abbrev pub ShowsParsed : Contents → Asked → List ℕ → Type 0
-ShowsParsed state asked.Nothing text = text ≡ []
-ShowsParsed state (asked.Call call) text = text ≡ shown_reply state call
-ShowsParsed state (asked.Question question) text = AnswersQuestionAt [] state question text
-ShowsParsed state asked.Why text = ⊥
+abbrev pub ShowsParsed : Contents → ParsedCommand → List ℕ → Type 0
+ShowsParsed state parsed.Nothing text = text ≡ []
+ShowsParsed state (parsed.Call call) text = text ≡ shown_reply state call
+ShowsParsed state (parsed.Question question) text = AnswersQuestionAt [] state question text
+ShowsParsed state parsed.Why text = ⊥
 
 -- the parsed command of a line asks for more than a state has, or not
-abbrev pub ShowsAt : Bool → Contents → ℕ → Asked → List ℕ → Type 0
-ShowsAt true state line asked text = text ≡ beyond_text line
-ShowsAt false state line asked text = ShowsParsed state asked text
+abbrev pub ShowsAt : Bool → Contents → ℕ → ParsedCommand → List ℕ → Type 0
+ShowsAt true state line parsed text = text ≡ beyond_text line
+ShowsAt false state line parsed text = ShowsParsed state parsed text
 
 -- the answer to a parsed command: a fault, by its line, counted from the start of the request; a fault of its own, if
 -- it asks for more than a state has; else the answer of a conversation at this state
-abbrev pub Shows : Contents → ℕ → Result Asked LineFault → List ℕ → Type 0
+abbrev pub Shows : Contents → ℕ → Result ParsedCommand LineFault → List ℕ → Type 0
 Shows state before (Err fault) text = text ≡ fault_text (before + fault.line) fault.kind
-Shows state before (Ok asked) text = ShowsAt (is_beyond asked) state (before + 1) asked text
+Shows state before (Ok parsed) text = ShowsAt (is_beyond parsed) state (before + 1) parsed text
 
 -- a command is answered, given the number of lines before it; then its own are counted too
-pub record Sees (state : Contents) (before : ℕ) (said : Exchange) (after : ℕ) : Type 0 where
-  pub shows : Shows state before (parsed_command said.command) said.answer
-  pub counts : after ≡ before + length (lines_of said.command)
+pub record Sees (state : Contents) (before : ℕ) (exchange : Exchange) (after : ℕ) : Type 0 where
+  pub shows : Shows state before (parsed_command exchange.command) exchange.answer
+  pub counts : after ≡ before + length (lines_of exchange.command)
 
 -- commands are answered one after the other, each at the same state
 abbrev pub SeesAll : Contents → ℕ → List Exchange → ℕ → Type 0
 SeesAll state first [] last = first ≡ last
-SeesAll state first (said ∷ others) last =
-    (next : ℕ) × IsCommand said.command × Sees state first said next × SeesAll state next others last
+SeesAll state first (exchange ∷ others) last =
+    (next : ℕ) × IsCommand exchange.command × Sees state first exchange next × SeesAll state next others last
 
 -- a request is commands, one after the other, and perhaps a last one cut off by its end; the answer is that of each,
 -- in order
 pub record AnswersView (state : Contents) (request answer : List ℕ) : Type 0 where
-  pub said : List Exchange
+  pub exchanges : List Exchange
   pub last : Exchange
   pub middle : ℕ
   pub after : ℕ
-  pub sees : SeesAll state 0 said middle
+  pub sees : SeesAll state 0 exchanges middle
   pub is : IsLeft last.command
   pub ends : Sees state middle last after
-  pub asks : request ≡ flat_map (λ exchange. exchange.command) said ++ last.command
-  pub tells : answer ≡ flat_map (λ exchange. exchange.answer) said ++ last.answer
+  pub asks : request ≡ flat_map (λ exchange. exchange.command) exchanges ++ last.command
+  pub reports : answer ≡ flat_map (λ exchange. exchange.answer) exchanges ++ last.answer

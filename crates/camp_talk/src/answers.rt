@@ -4,21 +4,21 @@ ghost use Rattle.std.specs.Io.KnownBytes.{Appends};
 ghost use Rattle.camp_script.specs.Gives.{Gives};
 ghost use Rattle.camp_script.specs.Lines.{lines_of};
 ghost use Rattle.camp_script.specs.Texts.{answer_text};
-ghost use Rattle.camp_script.specs.declared.faults.LineFault.{LineFault as SaidFault};
-ghost use Rattle.camp_talk.specs.Answers.{Replies, Tells, fault_text};
+ghost use Rattle.camp_script.specs.declared.faults.LineFault.{LineFault as SpecFault};
+ghost use Rattle.camp_talk.specs.Answers.{AnswersParsed, Replies, fault_text};
 ghost use Rattle.camp_talk.specs.Inside.ExecutingNext.{UpdatesDiagnosticOf};
-ghost use Rattle.camp_talk.specs.Inside.Said.{IsWriting, answer_or_memory};
+ghost use Rattle.camp_talk.specs.Inside.Responses.{IsWriting, answer_or_memory};
 ghost use Rattle.camp_talk.specs.Talks.{AppendsSome};
-ghost use Rattle.camp_talk.specs.Whys.{is_failure};
-ghost use Rattle.camp_talk.specs.declared.questions.Asked.{Asked as SaidAsked};
+ghost use Rattle.camp_talk.specs.Reports.{is_failure};
+ghost use Rattle.camp_talk.specs.declared.questions.ParsedCommand.{ParsedCommand as SpecParsedCommand};
 
-use crate::accounts::leaves_diagnostic;
-use crate::questions::Asked;
-use crate::readings::Command;
+use crate::answer_parts::joined;
+use crate::diagnostics::leaves_diagnostic;
 use crate::question_answers::answer_question;
-use crate::told::joined;
+use crate::questions::ParsedCommand;
+use crate::readings::Command;
 use crate::why_reports::{diagnostic_of, is_failure, render_why};
-use crate::{Account, TalkFault};
+use crate::{Diagnostic, TalkFault};
 use camp_object::Fault;
 use camp_repo::{Book, Call, Object, Reply, State};
 use camp_script::{FaultKind, ScriptFault, answer_text, write_text};
@@ -28,32 +28,32 @@ use std::io;
 use std::io::Write;
 
 /// Executes a command and renders its answer, given the number of the lines before it. If it is not done,
-/// `cause` becomes its diagnostic. If memory runs out the book and the diagnostic stay; a command that asks
+/// `diagnostic` becomes its diagnostic. If memory runs out the book and the diagnostic stay; a command that asks
 /// nothing does not allocate.
 pub(crate) fn respond(
     alloc: Global,
     book: &mut Book<State>,
     before: u64,
-    cause: &mut Account,
+    diagnostic: &mut Diagnostic,
     command: &Command,
 ) -> Result<Vec<u8>, AllocError>
-    ensures text { IfOk result (λ text. (reading : Result SaidAsked SaidFault) → Gives command.now.asked reading →
-        Tells (record { history = book.old; lines = before; cause = cause.old }) reading text.items book.new) }
-    ensures learns { IfOk result (λ text. (reading : Result SaidAsked SaidFault) → Gives command.now.asked reading →
-        UpdatesDiagnosticOf (record { history = book.old; lines = before; cause = cause.old })
-        (lines_of command.now.bytes.items) reading text.items cause.new) }
+    ensures text { IfOk result (λ text. (reading : Result SpecParsedCommand SpecFault) → Gives command.now.parsed reading →
+        AnswersParsed (record { history = book.old; lines = before; diagnostic = diagnostic.old }) reading text.items book.new) }
+    ensures updates { IfOk result (λ text. (reading : Result SpecParsedCommand SpecFault) → Gives command.now.parsed reading →
+        UpdatesDiagnosticOf (record { history = book.old; lines = before; diagnostic = diagnostic.old })
+        (lines_of command.now.bytes.items) reading text.items diagnostic.new) }
     ensures kept { OnErr result (book.new ≡ book.old) }
-    ensures same { OnErr result (cause.new ≡ cause.old) }
-    ensures nothing { OnErr result (command.now.asked ≢ Ok SaidAsked.Nothing) }
+    ensures same { OnErr result (diagnostic.new ≡ diagnostic.old) }
+    ensures nothing { OnErr result (command.now.parsed ≢ Ok SpecParsedCommand.Nothing) }
 {
-    let text = answer(alloc, book, before, cause, &command.asked)?;
+    let text = answer(alloc, book, before, diagnostic, &command.parsed)?;
     if is_failure(&text) {
-        *cause = diagnostic_of(
+        *diagnostic = diagnostic_of(
             alloc,
-            cause,
+            diagnostic,
             book.state(),
             &command.bytes,
-            &command.asked,
+            &command.parsed,
             &text,
         )?;
         return Ok(text);
@@ -61,7 +61,7 @@ pub(crate) fn respond(
     if leaves_diagnostic(&text) {
         return Ok(text);
     }
-    cause.close();
+    diagnostic.close();
     Ok(text)
 }
 
@@ -71,17 +71,17 @@ fn answer(
     alloc: Global,
     book: &mut Book<State>,
     before: u64,
-    cause: &Account,
-    asked: &Result<Asked, ScriptFault>,
+    diagnostic: &Diagnostic,
+    parsed: &Result<ParsedCommand, ScriptFault>,
 ) -> Result<Vec<u8>, AllocError>
-    ensures text { IfOk result (λ text. (reading : Result SaidAsked SaidFault) → Gives asked.now reading →
-        Tells (record { history = book.old; lines = before; cause = cause.now }) reading text.items book.new) }
+    ensures text { IfOk result (λ text. (reading : Result SpecParsedCommand SpecFault) → Gives parsed.now reading →
+        AnswersParsed (record { history = book.old; lines = before; diagnostic = diagnostic.now }) reading text.items book.new) }
     ensures kept { OnErr result (book.new ≡ book.old) }
     ensures failed { IfOk result (λ text. is_failure text.items ≡ true → book.new ≡ book.old) }
-    ensures nothing { OnErr result (asked.now ≢ Ok SaidAsked.Nothing) }
+    ensures nothing { OnErr result (parsed.now ≢ Ok SpecParsedCommand.Nothing) }
 {
-    match asked {
-        Ok(asked) => answer_parsed(alloc, book, cause, asked),
+    match parsed {
+        Ok(parsed) => answer_parsed(alloc, book, diagnostic, parsed),
         Err(ScriptFault::Line(fault)) => fault_text(alloc, before, fault.line, fault.kind),
         Err(ScriptFault::Memory) => Err(AllocError),
     }
@@ -90,20 +90,20 @@ fn answer(
 fn answer_parsed(
     alloc: Global,
     book: &mut Book<State>,
-    cause: &Account,
-    asked: &Asked,
+    diagnostic: &Diagnostic,
+    parsed: &ParsedCommand,
 ) -> Result<Vec<u8>, AllocError>
     ensures text { IfOk result (λ text. (before : ℕ) →
-        Tells (record { history = book.old; lines = before; cause = cause.now }) (Ok asked.now) text.items book.new) }
+        AnswersParsed (record { history = book.old; lines = before; diagnostic = diagnostic.now }) (Ok parsed.now) text.items book.new) }
     ensures kept { OnErr result (book.new ≡ book.old) }
     ensures failed { IfOk result (λ text. is_failure text.items ≡ true → book.new ≡ book.old) }
-    ensures nothing { OnErr result (asked.now ≢ SaidAsked.Nothing) }
+    ensures nothing { OnErr result (parsed.now ≢ SpecParsedCommand.Nothing) }
 {
-    match asked {
-        Asked::Nothing => Ok(Vec::new(alloc)),
-        Asked::Call(call) => reply(alloc, book, call),
-        Asked::Question(question) => answer_question(alloc, book, question),
-        Asked::Why => render_why(alloc, cause.told()),
+    match parsed {
+        ParsedCommand::Nothing => Ok(Vec::new(alloc)),
+        ParsedCommand::Call(call) => reply(alloc, book, call),
+        ParsedCommand::Question(question) => answer_question(alloc, book, question),
+        ParsedCommand::Why => render_why(alloc, diagnostic.report()),
     }
 }
 
@@ -167,22 +167,22 @@ pub fn write_answer<W: Write>(writer: &mut W, text: &[u8]) -> io::Result<()>
 /// Writes the answer to a command: a text, or out of memory.
 pub(crate) fn write_answer_or_memory<W: Write>(
     writer: &mut W,
-    said: &Result<Vec<u8>, AllocError>,
+    response: &Result<Vec<u8>, AllocError>,
 ) -> Result<(), TalkFault>
     ensures { MatchResult result
-        (λ _. Appends (W.contents writer.old) (W.contents writer.new) (answer_or_memory said.now))
-        (λ why. IsWriting why × AppendsSome (W.contents writer.old) (W.contents writer.new) (answer_or_memory said.now)) }
+        (λ _. Appends (W.contents writer.old) (W.contents writer.new) (answer_or_memory response.now))
+        (λ why. IsWriting why × AppendsSome (W.contents writer.old) (W.contents writer.new) (answer_or_memory response.now)) }
 {
-    match write_answer(writer, answer_or_memory(said)) {
+    match write_answer(writer, answer_or_memory(response)) {
         Ok(()) => Ok(()),
         Err(error) => Err(TalkFault::Write(error)),
     }
 }
 
-fn answer_or_memory(said: &Result<Vec<u8>, AllocError>) -> &[u8]
-    ensures { result.now ≡ answer_or_memory said.now }
+fn answer_or_memory(response: &Result<Vec<u8>, AllocError>) -> &[u8]
+    ensures { result.now ≡ answer_or_memory response.now }
 {
-    let Ok(text) = said else {
+    let Ok(text) = response else {
         return b"memory\n";
     };
     text

@@ -2,10 +2,10 @@
 ghost use Rattle.std.specs.Prelude.{◌≡◌, ◌++◌, IfOk, OnOk};
 ghost use Rattle.std.specs.List.{flat_map};
 ghost use Rattle.camp_script.specs.Texts.{pair_text};
-ghost use Rattle.camp_talk.specs.Inside.Said.{RendersFound};
-ghost use Rattle.camp_talk.specs.Told.{marked_lines, marks_answer, open_answer, pairs_answer, conflict_hunk_text, side_text, side_answer};
+ghost use Rattle.camp_talk.specs.Inside.Responses.{RendersFound};
+ghost use Rattle.camp_talk.specs.QuestionAnswers.{conflict_hunk_text, marked_lines, marks_answer, open_answer, pairs_answer, side_answer, side_text};
 
-use crate::told::{append_parts, counted_text, unanswered};
+use crate::answer_parts::{append_parts, counted_text, unanswered};
 use crate::file_answers::no_file;
 use camp_base::Name;
 use camp_questions::{Marked, MarkedFile, Place, Said, Unanswered, Version};
@@ -54,7 +54,7 @@ pub(crate) fn render_side(
     ensures { IfOk result (λ text. RendersFound side_answer found text.items) }
 {
     match found {
-        Ok(said) => counted_text(alloc, "side", changes_text(alloc, said.changes())),
+        Ok(side) => counted_text(alloc, "side", changes_text(alloc, side.changes())),
         Err(why) => unanswered(alloc, why),
     }
 }

@@ -1,11 +1,11 @@
 //! Steps that are taken one after the other.
 ghost use Rattle.std.specs.Prelude.{◌≡◌, ◌-◌, ◌^◌, ◌<◌, Bool, IfOk, Result, true, ℕ};
-ghost use Rattle.camp_talk.specs.Accounts.{no_diagnostic};
+ghost use Rattle.camp_talk.specs.Diagnostics.{no_diagnostic};
 ghost use Rattle.camp_talk.specs.Dialogues.{TakesSteps};
-ghost use Rattle.camp_talk.specs.Talks.{Turns};
+ghost use Rattle.camp_talk.specs.Talks.{TakesStep};
 
-use crate::talks::turn;
-use crate::{Account, TalkFault};
+use crate::talks::take_step;
+use crate::{Diagnostic, TalkFault};
 use camp_repo::{Book, State};
 use std::alloc::Global;
 use std::io::{BufRead, Write};
@@ -22,8 +22,8 @@ pub trait Dialogue {
     ghost left: { Self → ℕ };
 
     /// Takes one step. True if there may be more.
-    fn turn(&mut self) -> Result<bool, Self::Fault>
-        ensures turns { step_relation self.old result self.new }
+    fn take_step(&mut self) -> Result<bool, Self::Fault>
+        ensures takes_step { step_relation self.old result self.new }
         ensures fewer { IfOk result (λ more. more ≡ true → left self.new < left self.old) };
 }
 
@@ -31,7 +31,7 @@ pub trait Dialogue {
 pub fn talk<D: Dialogue>(dialogue: &mut D) -> Result<(), D::Fault>
     ensures talks { TakesSteps D.step_relation dialogue.old result dialogue.new }
 {
-    while dialogue.turn()? {}
+    while dialogue.take_step()? {}
     Ok(())
 }
 
@@ -44,7 +44,7 @@ pub struct Conversation<R, W> {
     /// The number of lines that were read.
     lines: u64,
     /// The diagnostic of the last fault or refusal.
-    cause: Account,
+    diagnostic: Diagnostic,
     reader: R,
     writer: W,
 }
@@ -54,7 +54,7 @@ impl<R: BufRead, W: Write> Conversation<R, W> {
     pub fn new(alloc: Global, book: Book<State>, reader: R, writer: W) -> Conversation<R, W>
         ensures book { result.book ≡ book }
         ensures first { result.lines ≡ 0 }
-        ensures cause { result.cause ≡ no_diagnostic }
+        ensures diagnostic { result.diagnostic ≡ no_diagnostic }
         ensures reader { result.reader ≡ reader }
         ensures writer { result.writer ≡ writer }
     {
@@ -62,7 +62,7 @@ impl<R: BufRead, W: Write> Conversation<R, W> {
             alloc,
             book,
             lines: 0,
-            cause: Account::new(alloc),
+            diagnostic: Diagnostic::new(alloc),
             reader,
             writer,
         }
@@ -72,18 +72,18 @@ impl<R: BufRead, W: Write> Conversation<R, W> {
 impl<R: BufRead, W: Write> Dialogue for Conversation<R, W> {
     type Fault = TalkFault;
 
-    ghost step_relation = { λ old result new. Turns (R.remaining old.reader) (R.remaining new.reader) (W.contents old.writer) (W.contents new.writer)
-        (record { history = old.book; lines = old.lines; cause = old.cause })
-        result (record { history = new.book; lines = new.lines; cause = new.cause }) };
+    ghost step_relation = { λ old result new. TakesStep (R.remaining old.reader) (R.remaining new.reader) (W.contents old.writer) (W.contents new.writer)
+        (record { history = old.book; lines = old.lines; diagnostic = old.diagnostic })
+        result (record { history = new.book; lines = new.lines; diagnostic = new.diagnostic }) };
 
     ghost left = { λ it. 2 ^ 64 - it.lines };
 
-    fn turn(&mut self) -> Result<bool, TalkFault> {
-        turn(
+    fn take_step(&mut self) -> Result<bool, TalkFault> {
+        take_step(
             self.alloc,
             &mut self.book,
             &mut self.lines,
-            &mut self.cause,
+            &mut self.diagnostic,
             &mut self.reader,
             &mut self.writer,
         )

@@ -1,13 +1,13 @@
 //! Why a command with a fault was not done.
 ghost use Rattle.std.specs.Prelude.{◌≡◌, ◌++◌, IfOk, codes, take};
 ghost use Rattle.camp_script.specs.Lines.{lines_of};
-ghost use Rattle.camp_talk.specs.Whys.{recovery_text, body_rule, is_consequence, cut_off, cut_text, own_fault_diagnostic, fault_diagnostic, fault_lines, hint_text, is_no_command, line_at, may_record, misnamed_text, most_shown, rule, shown_line, word_text};
+ghost use Rattle.camp_talk.specs.Reports.{body_rule, cut_off, cut_text, fault_diagnostic, fault_lines, hint_text, is_consequence, is_no_command, line_at, may_record, misnamed_text, most_shown, own_fault_diagnostic, recovery_text, rule, shown_line, word_text};
 
-use crate::Account;
-use crate::asking::first_line;
-use crate::awaited::{Awaited, begins_command, is_record, recovery_of_line};
+use crate::Diagnostic;
+use crate::answer_parts::{both, joined};
+use crate::parsing::first_line;
 use crate::questions::Reason;
-use crate::told::{both, joined};
+use crate::recovery::{Recovery, begins_command, is_record, recovery_of_line};
 use crate::refusal_texts::cure;
 use crate::visible::visible;
 use bstr::ByteSlice;
@@ -22,16 +22,16 @@ const SHOWN: usize = 200;
 /// diagnostic of that one stays.
 pub(crate) fn fault_diagnostic(
     alloc: Global,
-    before: &Account,
+    before: &Diagnostic,
     fault: &LineFault,
     command: &[u8],
     answer: &[u8],
-) -> Result<Account, AllocError>
-    ensures { IfOk result (λ cause. cause ≡ fault_diagnostic before.now fault.now (lines_of command.now) answer.now) }
+) -> Result<Diagnostic, AllocError>
+    ensures { IfOk result (λ diagnostic. diagnostic ≡ fault_diagnostic before.now fault.now (lines_of command.now) answer.now) }
 {
     let line = first_line(command);
-    if is_consequence(before.awaited(), fault.kind, line) {
-        return before.passed(alloc, line);
+    if is_consequence(before.recovery(), fault.kind, line) {
+        return before.advanced(alloc, line);
     }
     own_fault_diagnostic(alloc, fault, command, answer)
 }
@@ -42,21 +42,21 @@ fn own_fault_diagnostic(
     fault: &LineFault,
     command: &[u8],
     answer: &[u8],
-) -> Result<Account, AllocError>
-    ensures { IfOk result (λ cause. cause ≡ own_fault_diagnostic fault.now (lines_of command.now) answer.now) }
+) -> Result<Diagnostic, AllocError>
+    ensures { IfOk result (λ diagnostic. diagnostic ≡ own_fault_diagnostic fault.now (lines_of command.now) answer.now) }
 {
-    let awaited = cut_off(fault.line, fault.kind, first_line(command));
+    let recovery = cut_off(fault.line, fault.kind, first_line(command));
     let line = line_at(command, fault.line);
-    let told = fault_lines(alloc, fault.kind, line, answer, awaited);
-    Account::of(told, awaited)
+    let report = fault_lines(alloc, fault.kind, line, answer, recovery);
+    Diagnostic::of(report, recovery)
 }
 
 // True if a fault is the consequence of one before it: its line begins no command, and may be one of a body
 // or a group that was cut off.
-fn is_consequence(awaited: Awaited, kind: FaultKind, line: &[u8]) -> bool
-    ensures { result ≡ is_consequence awaited kind line.now }
+fn is_consequence(recovery: Recovery, kind: FaultKind, line: &[u8]) -> bool
+    ensures { result ≡ is_consequence recovery kind line.now }
 {
-    awaited.may_be(line) && is_no_command(kind, line)
+    recovery.may_be(line) && is_no_command(kind, line)
 }
 
 // True if a line with a fault of a kind begins no command.
@@ -68,13 +68,13 @@ fn is_no_command(kind: FaultKind, line: &[u8]) -> bool
 
 // Returns the lines that may follow a command with a fault of a kind in the line of a number: if that is its
 // first, those that it was cut off from.
-fn cut_off(number: u64, kind: FaultKind, line: &[u8]) -> Awaited
+fn cut_off(number: u64, kind: FaultKind, line: &[u8]) -> Recovery
     ensures { result ≡ cut_off number kind line.now }
 {
     if number == 1 && may_record(kind, line) {
         return recovery_of_line(line);
     }
-    Awaited::Nothing
+    Recovery::Nothing
 }
 
 // True if a line with a fault of a kind is a record, or may be one whose first word is misspelt.
@@ -102,27 +102,27 @@ fn fault_lines(
     kind: FaultKind,
     line: &[u8],
     answer: &[u8],
-    awaited: Awaited,
+    recovery: Recovery,
 ) -> Result<Vec<u8>, AllocError>
-    ensures { IfOk result (λ text. text.items ≡ fault_lines kind line.now answer.now awaited) }
+    ensures { IfOk result (λ text. text.items ≡ fault_lines kind line.now answer.now recovery) }
 {
     let hint = hint_text(find_hint(kind, line)).as_bytes();
-    let awaited = recovery_text(awaited).as_bytes();
-    let rules = joined(alloc, &[hint, rule(kind).as_bytes(), awaited]);
+    let recovery = recovery_text(recovery).as_bytes();
+    let rules = joined(alloc, &[hint, rule(kind).as_bytes(), recovery]);
     let front = both(with_line(alloc, answer, line), word_text(alloc, kind, line));
     both(front, rules)
 }
 
 // Renders that the lines after it are taken for its own, if it has some.
-fn recovery_text(awaited: Awaited) -> &'static str
-    ensures { result.now ≡ recovery_text awaited }
+fn recovery_text(recovery: Recovery) -> &'static str
+    ensures { result.now ≡ recovery_text recovery }
 {
-    match awaited {
-        Awaited::Nothing | Awaited::Signed => "",
-        Awaited::Body => {
+    match recovery {
+        Recovery::Nothing | Recovery::Signed => "",
+        Recovery::Body => {
             "Behind it lines that begin no command are taken for its body, up to end.\n"
         }
-        Awaited::Group | Awaited::GroupBody => {
+        Recovery::Group | Recovery::GroupBody => {
             "Behind it lines that begin no command are taken for its group, up to done.\n"
         }
     }

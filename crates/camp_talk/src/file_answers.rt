@@ -3,10 +3,10 @@ ghost use Rattle.std.specs.Prelude.{◌≡◌, IfOk};
 ghost use Rattle.std.specs.List.{flat_map, zip};
 ghost use Rattle.camp_script.specs.Signs.{equals_sign};
 ghost use Rattle.camp_script.specs.Texts.{signed_line};
-ghost use Rattle.camp_talk.specs.Inside.Said.{RendersFound};
-ghost use Rattle.camp_talk.specs.Told.{annotated_line, annotated_answer, file_answer, no_file_answer};
+ghost use Rattle.camp_talk.specs.Inside.Responses.{RendersFound};
+ghost use Rattle.camp_talk.specs.QuestionAnswers.{annotated_answer, annotated_line, file_answer, no_file_answer};
 
-use crate::told::{append_parts, counted_text, unanswered};
+use crate::answer_parts::{append_parts, counted_text, unanswered};
 use camp_base::{Line, Name};
 use camp_questions::{Annotated, Unanswered};
 use camp_script::append_lines;

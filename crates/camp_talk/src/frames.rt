@@ -99,7 +99,7 @@ impl<R: BufRead, W: Write> Dialogue for FramedConversation<R, W> {
 
     ghost left = { λ it. 2 ^ 64 - it.served };
 
-    fn turn(&mut self) -> Result<bool, FrameFault> {
+    fn take_step(&mut self) -> Result<bool, FrameFault> {
         serve(
             self.alloc,
             &mut self.book,

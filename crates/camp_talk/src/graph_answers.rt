@@ -1,9 +1,9 @@
 //! The graph of a branch as a text.
 ghost use Rattle.std.specs.Prelude.{IfOk};
-ghost use Rattle.camp_talk.specs.Inside.Said.{RendersFound};
-ghost use Rattle.camp_talk.specs.Told.{graph_answer};
+ghost use Rattle.camp_talk.specs.Inside.Responses.{RendersFound};
+ghost use Rattle.camp_talk.specs.QuestionAnswers.{graph_answer};
 
-use crate::told::{counted, unanswered};
+use crate::answer_parts::{counted, unanswered};
 use camp_questions::{Picture, Unanswered, graph_text};
 use std::alloc::{AllocError, Global};
 

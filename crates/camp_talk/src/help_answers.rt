@@ -2,10 +2,10 @@
 ghost use Rattle.std.specs.Prelude.{◌≡◌, IfOk};
 ghost use Rattle.std.specs.List.{flat_map};
 ghost use Rattle.camp_talk.specs.Help.{command_text, commands, details, example, help_text, summary};
-ghost use Rattle.camp_talk.specs.Told.{help_answer};
+ghost use Rattle.camp_talk.specs.QuestionAnswers.{help_answer};
 
 use crate::Topic;
-use crate::told::{counted_text, joined};
+use crate::answer_parts::{counted_text, joined};
 use crate::refusal_texts::{all_sayings, refusal_text};
 use std::alloc::{AllocError, Global};
 

@@ -1,56 +1,56 @@
 //! A conversation: commands of a reader, each answered to a writer as soon as its last line is read.
 #![tactic(auto)]
 
-mod accounts;
+mod answer_parts;
 mod answers;
-mod asking;
-mod awaited;
+mod conflict_answers;
+mod diagnostics;
 mod dialogues;
 mod engine;
+mod fault_reports;
 mod faults;
+mod file_answers;
 mod frames;
+mod graph_answers;
+mod help_answers;
 mod laws;
 mod lines;
 mod loads;
+mod names_answers;
+mod obstacle_reports;
+mod parsing;
+mod question_answers;
 mod question_words;
 mod questions;
 mod readings;
+mod recovery;
+mod refusal_texts;
 mod requests;
 mod serving;
-mod talks;
-mod question_answers;
-mod told;
-mod obstacle_reports;
-mod conflict_answers;
-mod fault_reports;
-mod what_if_answers;
-mod graph_answers;
-mod help_answers;
-mod file_answers;
-mod names_answers;
 mod show_answers;
-mod refusal_texts;
-mod why_reports;
+mod talks;
 mod topics;
 mod views;
 mod visible;
+mod what_if_answers;
+mod why_reports;
 
-pub use accounts::Account;
 pub use answers::write_answer;
 pub use camp_repo::{Book, LimitFault, Limits, State, new_book};
+pub use diagnostics::Diagnostic;
 pub use dialogues::{Conversation, Dialogue, talk};
 pub use engine::{Backend, Frames, Framing, GroupLimits, Stop, responses_are_durable, run};
 pub use faults::{LoadFault, TalkFault};
 pub use frames::{FrameFault, FramedConversation};
 pub use laws::{
-    causes_are_reported, counts_match_lines, failures_are_reported, faults_are_described, keep_restores_history,
-    recovery_follows_cut_off, refusals_are_described, requests_are_served_in_turn, shown_bytes_are_printable,
-    unserved_bytes_have_no_frame,
+    causes_are_reported, counts_match_lines, failures_are_reported, faults_are_described,
+    keep_restores_history, recovery_follows_cut_off, refusals_are_described,
+    requests_are_served_in_turn, shown_bytes_are_printable, unserved_bytes_have_no_frame,
 };
 pub use loads::load;
+pub use question_answers::answer_question;
 pub use questions::{Question, Reason, Topic};
 pub use requests::answer_request;
 pub use serving::serve;
-pub use talks::turn;
-pub use question_answers::answer_question;
+pub use talks::take_step;
 pub use views::answer_view;

@@ -5,7 +5,7 @@ ghost use Rattle.camp_talk.specs.Loads.{Loads, reports_failure};
 ghost use Rattle.camp_talk.specs.Talks.{HasGrown};
 
 use crate::talks::{ExecutedCommand, execute_next};
-use crate::{Account, LoadFault};
+use crate::{Diagnostic, LoadFault};
 use camp_repo::{Book, State};
 use std::alloc::Global;
 use std::io::BufRead;
@@ -20,8 +20,8 @@ pub fn load<R: BufRead>(
     ensures loads { Loads (R.remaining reader.old) (R.remaining reader.new) book.old result book.new }
 {
     let mut lines = 0;
-    let mut cause = Account::new(alloc);
-    while load_one(alloc, book, &mut lines, &mut cause, reader)? {}
+    let mut diagnostic = Diagnostic::new(alloc);
+    while load_one(alloc, book, &mut lines, &mut diagnostic, reader)? {}
     Ok(())
 }
 
@@ -30,24 +30,24 @@ fn load_one<R: BufRead>(
     alloc: Global,
     book: &mut Book<State>,
     lines: &mut u64,
-    cause: &mut Account,
+    diagnostic: &mut Diagnostic,
     reader: &mut R,
 ) -> Result<bool, LoadFault>
     ensures loads { LoadsOne (R.remaining reader.old) (R.remaining reader.new)
-        (record { history = book.old; lines = lines.old; cause = cause.old })
-        result (record { history = book.new; lines = lines.new; cause = cause.new }) }
+        (record { history = book.old; lines = lines.old; diagnostic = diagnostic.old })
+        result (record { history = book.new; lines = lines.new; diagnostic = diagnostic.new }) }
     ensures counts { IfOk result (λ more. more ≡ true → HasGrown lines.old lines.new) }
 {
     let ExecutedCommand {
-        said,
+        response,
         line,
         lines: after,
         is_whole,
-    } = match execute_next(alloc, book, *lines, cause, reader) {
-        Ok(heard) => heard,
+    } = match execute_next(alloc, book, *lines, diagnostic, reader) {
+        Ok(executed) => executed,
         Err(why) => return Err(LoadFault::Talk(why)),
     };
-    let Ok(text) = said else {
+    let Ok(text) = response else {
         return Err(LoadFault::Memory { line });
     };
     if reports_failure(&text) {

@@ -1,10 +1,10 @@
 //! Questions that are answered with names, as texts.
 ghost use Rattle.std.specs.Prelude.{◌≡◌, codes, IfOk};
 ghost use Rattle.camp_questions.specs.Files.{branch_names};
-ghost use Rattle.camp_talk.specs.Inside.Said.{RendersFound};
-ghost use Rattle.camp_talk.specs.Told.{names_answer};
+ghost use Rattle.camp_talk.specs.Inside.Responses.{RendersFound};
+ghost use Rattle.camp_talk.specs.QuestionAnswers.{names_answer};
 
-use crate::told::{counted, unanswered};
+use crate::answer_parts::{counted, unanswered};
 use camp_questions::{Unanswered, branches};
 use camp_repo::{Names, State};
 use camp_script::append_names;

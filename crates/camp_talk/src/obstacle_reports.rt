@@ -1,10 +1,10 @@
 //! What prevents a command that is refused: the branches that it names, and what exists and what does not.
 ghost use Rattle.std.specs.List.{flat_map};
 ghost use Rattle.std.specs.Prelude.{◌≡◌, ◌++◌, IfOk, OnOk, Some, codes, take};
-ghost use Rattle.camp_talk.specs.Against.{about, absent_sides, absent_text, branches_line, depends_cure, had_text, holders, holders_line, holds, lack_line, lack_text, lacked_text, lacks, more_names, most_names, names_line, new_text, nothing_text, other_target, role_word, record_cure, recorded_text, sides_text, target};
+ghost use Rattle.camp_talk.specs.Obstacles.{about, absent_sides, absent_text, branches_line, depends_cure, had_text, holders, holders_line, holds, lack_line, lack_text, lacked_text, lacks, more_names, most_names, names_line, new_text, nothing_text, other_target, record_cure, recorded_text, role_word, sides_text, target};
 
-use crate::questions::{Asked, Question, Reason};
-use crate::told::{append_parts, both, joined};
+use crate::answer_parts::{append_parts, both, joined};
+use crate::questions::{ParsedCommand, Question, Reason};
 use crate::refusal_texts::cure;
 use camp_base::Name;
 use camp_call::Call;
@@ -16,39 +16,39 @@ const MOST_NAMES: usize = 20;
 
 /// Where a command names a branch: as FROM, or as BRANCH.
 #[derive(Clone, Copy)]
-pub(crate) enum Place {
+pub(crate) enum BranchRole {
     From,
     Branch,
 }
 
 /// Renders the branches that a command names as FROM, as BRANCH and as TO.
-pub(crate) fn render_sides(alloc: Global, asked: &Asked) -> Result<Vec<u8>, AllocError>
-    ensures { IfOk result (λ text. text.items ≡ sides_text (about asked.now) (target asked.now)) }
+pub(crate) fn render_sides(alloc: Global, parsed: &ParsedCommand) -> Result<Vec<u8>, AllocError>
+    ensures { IfOk result (λ text. text.items ≡ sides_text (about parsed.now) (target parsed.now)) }
 {
-    let Some((place, branch)) = about(asked) else {
+    let Some((role, branch)) = about(parsed) else {
         return Ok(Vec::new(alloc));
     };
-    let place = role_word(place).as_bytes();
-    let Some(to) = target(asked) else {
-        return joined(alloc, &[place, b" is ", branch.bytes(), b".\n"]);
+    let role = role_word(role).as_bytes();
+    let Some(to) = target(parsed) else {
+        return joined(alloc, &[role, b" is ", branch.bytes(), b".\n"]);
     };
     let (from, to) = (branch.bytes(), to.bytes());
-    joined(alloc, &[place, b" is ", from, b", and TO is ", to, b".\n"])
+    joined(alloc, &[role, b" is ", from, b", and TO is ", to, b".\n"])
 }
 
 /// Renders those of the branches that a command names that do not exist; and the branches that do.
 pub(crate) fn render_absent(
     alloc: Global,
     state: &State,
-    asked: &Asked,
+    parsed: &ParsedCommand,
 ) -> Result<Vec<u8>, AllocError>
     ensures { IfOk result (λ text.
-        text.items ≡ absent_sides state.now (about asked.now) (target asked.now) ++ branches_line state.now) }
+        text.items ≡ absent_sides state.now (about parsed.now) (target parsed.now) ++ branches_line state.now) }
 {
     let mut text = Vec::new(alloc);
-    let place = about(asked);
-    let to = other_target(&place, target(asked));
-    if let Some((_, branch)) = &place {
+    let named = about(parsed);
+    let to = other_target(&named, target(parsed));
+    if let Some((_, branch)) = &named {
         append_absent(&mut text, state, branch)?;
     }
     if let Some(to) = &to {
@@ -58,10 +58,17 @@ pub(crate) fn render_absent(
 }
 
 /// Renders that the branch that a call would create exists; and the branches.
-pub(crate) fn render_new(alloc: Global, state: &State, asked: &Asked) -> Result<Vec<u8>, AllocError>
-    ensures { IfOk result (λ text. text.items ≡ new_text state.now asked.now ++ branches_line state.now) }
+pub(crate) fn render_new(
+    alloc: Global,
+    state: &State,
+    parsed: &ParsedCommand,
+) -> Result<Vec<u8>, AllocError>
+    ensures { IfOk result (λ text. text.items ≡ new_text state.now parsed.now ++ branches_line state.now) }
 {
-    both(new_text(alloc, state, asked), render_branches(alloc, state))
+    both(
+        new_text(alloc, state, parsed),
+        render_branches(alloc, state),
+    )
 }
 
 /// Renders the branches.
@@ -75,12 +82,12 @@ pub(crate) fn render_branches(alloc: Global, state: &State) -> Result<Vec<u8>, A
 pub(crate) fn render_recorded(
     alloc: Global,
     state: &State,
-    asked: &Asked,
+    parsed: &ParsedCommand,
 ) -> Result<Vec<u8>, AllocError>
-    ensures { IfOk result (λ text. text.items ≡ recorded_text state.now asked.now) }
+    ensures { IfOk result (λ text. text.items ≡ recorded_text state.now parsed.now) }
 {
-    match asked {
-        Asked::Call(Call::Record { name, .. }) => render_holders(alloc, state, name),
+    match parsed {
+        ParsedCommand::Call(Call::Record { name, .. }) => render_holders(alloc, state, name),
         _ => Ok(Vec::new(alloc)),
     }
 }
@@ -89,17 +96,17 @@ pub(crate) fn render_recorded(
 pub(crate) fn render_lacked(
     alloc: Global,
     state: &State,
-    asked: &Asked,
+    parsed: &ParsedCommand,
 ) -> Result<Vec<u8>, AllocError>
-    ensures { IfOk result (λ text. text.items ≡ lacked_text state.now asked.now (about asked.now)) }
+    ensures { IfOk result (λ text. text.items ≡ lacked_text state.now parsed.now (about parsed.now)) }
 {
-    let Some((_, name)) = about(asked) else {
+    let Some((_, name)) = about(parsed) else {
         return Ok(Vec::new(alloc));
     };
     let Some(branch) = state.branch(&name) else {
         return Ok(Vec::new(alloc));
     };
-    match lacks(branch, asked) {
+    match lacks(branch, parsed) {
         Some(patch) => lack_text(alloc, state, &name, &patch),
         None => Ok(Vec::new(alloc)),
     }
@@ -109,11 +116,11 @@ pub(crate) fn render_lacked(
 pub(crate) fn render_nothing(
     alloc: Global,
     state: &State,
-    asked: &Asked,
+    parsed: &ParsedCommand,
 ) -> Result<Vec<u8>, AllocError>
-    ensures { IfOk result (λ text. text.items ≡ nothing_text state.now asked.now) }
+    ensures { IfOk result (λ text. text.items ≡ nothing_text state.now parsed.now) }
 {
-    let Asked::Call(Call::Pull { from, names, .. }) = asked else {
+    let ParsedCommand::Call(Call::Pull { from, names, .. }) = parsed else {
         return Ok(Vec::new(alloc));
     };
     let Some(theirs) = state.branch(from) else {
@@ -138,11 +145,11 @@ fn had_text(alloc: Global, names: &[Name]) -> Result<Vec<u8>, AllocError>
 }
 
 /// Renders the hint if the patch exists that a call would record.
-pub(crate) fn record_cure(state: &State, asked: &Asked) -> &'static str
-    ensures { result.now ≡ record_cure state.now asked.now }
+pub(crate) fn record_cure(state: &State, parsed: &ParsedCommand) -> &'static str
+    ensures { result.now ≡ record_cure state.now parsed.now }
 {
-    match asked {
-        Asked::Call(Call::Record { branch, name, .. }) => {
+    match parsed {
+        ParsedCommand::Call(Call::Record { branch, name, .. }) => {
             if holds(state, name, branch) {
                 return "Take another name.\n";
             }
@@ -153,11 +160,11 @@ pub(crate) fn record_cure(state: &State, asked: &Asked) -> &'static str
 }
 
 /// Renders the hint if one patch depends on another.
-pub(crate) fn depends_cure(asked: &Asked) -> &'static str
-    ensures { result.now ≡ depends_cure asked.now }
+pub(crate) fn depends_cure(parsed: &ParsedCommand) -> &'static str
+    ensures { result.now ≡ depends_cure parsed.now }
 {
-    match asked {
-        Asked::Call(Call::Obliterate { .. }) => {
+    match parsed {
+        ParsedCommand::Call(Call::Obliterate { .. }) => {
             "List PATCH too; held tells all that has to go.\n"
         }
         _ => "List ON too; along tells all that a pull has to list.\n",
@@ -165,10 +172,10 @@ pub(crate) fn depends_cure(asked: &Asked) -> &'static str
 }
 
 // Returns the branch TO, if it is another one than the branch that a command is about.
-fn other_target(place: &Option<(Place, Name)>, to: Option<Name>) -> Option<Name>
-    ensures { result ≡ other_target place.now to }
+fn other_target(named: &Option<(BranchRole, Name)>, to: Option<Name>) -> Option<Name>
+    ensures { result ≡ other_target named.now to }
 {
-    let Some((_, branch)) = place else {
+    let Some((_, branch)) = named else {
         return to;
     };
     let Some(to) = to else {
@@ -181,32 +188,31 @@ fn other_target(place: &Option<(Place, Name)>, to: Option<Name>) -> Option<Name>
 }
 
 // Returns the word for a branch in the form of a command.
-fn role_word(place: Place) -> &'static str
-    ensures { result.now ≡ role_word place }
+fn role_word(role: BranchRole) -> &'static str
+    ensures { result.now ≡ role_word role }
 {
-    match place {
-        Place::From => "FROM",
-        Place::Branch => "BRANCH",
+    match role {
+        BranchRole::From => "FROM",
+        BranchRole::Branch => "BRANCH",
     }
 }
 
 // Returns the branch from which a command takes something, or that it is about.
-fn about(asked: &Asked) -> Option<(Place, Name)>
-    ensures { result ≡ about asked.now }
+fn about(parsed: &ParsedCommand) -> Option<(BranchRole, Name)>
+    ensures { result ≡ about parsed.now }
 {
-    match asked {
-        Asked::Call(Call::Branch { from, .. } | Call::Pull { from, .. })
-        | Asked::Question(Question::Missing { from, .. } | Question::Along { from, .. }) => {
-            Some((Place::From, *from))
-        }
-        Asked::Call(
+    match parsed {
+        ParsedCommand::Call(Call::Branch { from, .. } | Call::Pull { from, .. })
+        | ParsedCommand::Question(Question::Missing { from, .. } | Question::Along { from, .. }) =>
+            { Some((BranchRole::From, *from)) }
+        ParsedCommand::Call(
             Call::Record { branch, .. }
             | Call::Obliterate { branch, .. }
             | Call::Tree(branch)
             | Call::Conflicts(branch)
             | Call::Names(branch),
         )
-        | Asked::Question(
+        | ParsedCommand::Question(
             Question::Needs { branch, .. }
             | Question::Held { branch, .. }
             | Question::Show { branch, .. }
@@ -216,41 +222,42 @@ fn about(asked: &Asked) -> Option<(Place, Name)>
             | Question::Marks { branch, .. }
             | Question::File { branch, .. }
             | Question::Graph { branch, .. },
-        ) => Some((Place::Branch, *branch)),
+        ) => Some((BranchRole::Branch, *branch)),
         _ => None,
     }
 }
 
 // Returns the branch that a command names as TO.
-fn target(asked: &Asked) -> Option<Name>
-    ensures { result ≡ target asked.now }
+fn target(parsed: &ParsedCommand) -> Option<Name>
+    ensures { result ≡ target parsed.now }
 {
-    match asked {
-        Asked::Call(Call::Pull { to, .. })
-        | Asked::Question(Question::Missing { to, .. } | Question::Along { to, .. }) => Some(*to),
+    match parsed {
+        ParsedCommand::Call(Call::Pull { to, .. })
+        | ParsedCommand::Question(Question::Missing { to, .. } | Question::Along { to, .. }) =>
+            Some(*to),
         _ => None,
     }
 }
 
 // Returns the first patch that a command names and a branch lacks.
-fn lacks(branch: &Branch, asked: &Asked) -> Option<Name>
-    ensures { result ≡ lacks branch.now asked.now }
+fn lacks(branch: &Branch, parsed: &ParsedCommand) -> Option<Name>
+    ensures { result ≡ lacks branch.now parsed.now }
 {
-    match asked {
-        Asked::Call(
+    match parsed {
+        ParsedCommand::Call(
             Call::Pull {
                 names: Some(names),
                 ..
             }
             | Call::Obliterate { names, .. },
         )
-        | Asked::Question(
+        | ParsedCommand::Question(
             Question::Needs { names, .. }
             | Question::Held { names, .. }
             | Question::Along { names, .. }
             | Question::Graph { names, .. },
         ) => branch.first_lacked(names.as_slice()),
-        Asked::Question(Question::Show { name, .. } | Question::Side { name, .. }) => {
+        ParsedCommand::Question(Question::Show { name, .. } | Question::Side { name, .. }) => {
             branch.first_lacked(&[*name])
         }
         _ => None,
@@ -268,11 +275,11 @@ fn append_absent(text: &mut Vec<u8>, state: &State, branch: &Name) -> Result<(),
 }
 
 // Appends that the branch that a call would create exists, if it does.
-fn new_text(alloc: Global, state: &State, asked: &Asked) -> Result<Vec<u8>, AllocError>
-    ensures { IfOk result (λ text. text.items ≡ new_text state.now asked.now) }
+fn new_text(alloc: Global, state: &State, parsed: &ParsedCommand) -> Result<Vec<u8>, AllocError>
+    ensures { IfOk result (λ text. text.items ≡ new_text state.now parsed.now) }
 {
-    match asked {
-        Asked::Call(Call::Branch { new, .. }) if state.branch(new).is_some() => {
+    match parsed {
+        ParsedCommand::Call(Call::Branch { new, .. }) if state.branch(new).is_some() => {
             joined(alloc, &[b"There is a branch ", new.bytes(), b".\n"])
         }
         _ => Ok(Vec::new(alloc)),
@@ -344,8 +351,8 @@ fn names_line(alloc: Global, words: &[&[u8]], names: &[Name]) -> Result<Vec<u8>,
     ensures { IfOk result (λ text. text.items ≡ names_line (flat_map (λ part. part.now) words.now) names.now) }
 {
     let mut text = joined(alloc, words)?;
-    let told = first_names(names);
-    for name in told {
+    let shown = first_names(names);
+    for name in shown {
         append_parts(&mut text, &[b" ", name.bytes()])?;
     }
     text.extend_from_slice(more_names(names).as_bytes())?;

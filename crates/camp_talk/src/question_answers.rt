@@ -1,16 +1,16 @@
 //! The answers to questions.
 ghost use Rattle.std.specs.Prelude.{IfOk};
-ghost use Rattle.camp_talk.specs.Told.{AnswersQuestionAt, AnswersQuestion};
+ghost use Rattle.camp_talk.specs.QuestionAnswers.{AnswersQuestion, AnswersQuestionAt};
 
 use crate::Question;
-use crate::told::counted_text;
+use crate::answer_parts::counted_text;
 use crate::conflict_answers::{render_marks, render_open, render_side};
-use crate::what_if_answers::render_foreseen;
+use crate::file_answers::{render_annotated, render_file};
 use crate::graph_answers::render_graph;
 use crate::help_answers::render_help;
-use crate::file_answers::{render_annotated, render_file};
 use crate::names_answers::{render_branches, render_found};
 use crate::show_answers::render_shown;
+use crate::what_if_answers::render_foreseen;
 use camp_questions::{
     along, annotate, file, held_by, marks, missing, needs, open_pairs, picture_of, show, side,
 };

@@ -1,9 +1,9 @@
 //! Parsing questions.
 ghost use Rattle.std.specs.Prelude.{map};
 ghost use Rattle.camp_script.specs.Gives.{Gives};
-ghost use Rattle.camp_talk.specs.Asking.{branch_alone, branch_and_any_names, branch_and_names, branch_and_path, branches_and_names, conflict_question, plain_question, question_of, short_question, two_names};
+ghost use Rattle.camp_talk.specs.Parsing.{branch_alone, branch_and_any_names, branch_and_names, branch_and_path, branches_and_names, conflict_question, plain_question, question_of, short_question, two_names};
 
-use crate::asking::is_word;
+use crate::parsing::is_word;
 use crate::questions::Question;
 use crate::topics::help_topic;
 use camp_base::{Name, Path};

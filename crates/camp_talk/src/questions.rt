@@ -93,7 +93,7 @@ pub enum Reason {
 
 /// A parsed command.
 #[derive(Drop)]
-pub(crate) enum Asked {
+pub(crate) enum ParsedCommand {
     Nothing,
     Call(Call),
     Question(Question),

@@ -3,16 +3,16 @@ ghost use Rattle.std.specs.Prelude.{◌≡◌, length, Ok, true, IfOk, IfErr};
 ghost use Rattle.camp_script.specs.CommandLines.{wants};
 ghost use Rattle.camp_script.specs.Gives.{Gives};
 ghost use Rattle.camp_script.specs.Lines.{is_skipped, lines_of, words_of};
-ghost use Rattle.camp_talk.specs.Asking.{parsed_lines, first_of};
+ghost use Rattle.camp_talk.specs.Parsing.{first_of, parsed_lines};
 ghost use Rattle.camp_talk.specs.Cutting.{script_in};
 ghost use Rattle.camp_talk.specs.Inside.Parts.{IsLonger, IsReading, ReadsHeld, ReadsNext, StopsAtLine};
 ghost use Rattle.camp_talk.specs.Talks.{ReadsWithin};
-ghost use Rattle.camp_talk.specs.declared.questions.Asked.{Asked as SaidAsked};
+ghost use Rattle.camp_talk.specs.declared.questions.ParsedCommand.{ParsedCommand as SpecParsedCommand};
 
 use crate::TalkFault;
-use crate::asking::{first_line, is_skipped, parse_command};
 use crate::lines::{last_line, read_line};
-use crate::questions::Asked;
+use crate::parsing::{first_line, is_skipped, parse_command};
+use crate::questions::ParsedCommand;
 use bstr::ByteSlice;
 use camp_script::{CommandLines, Script, ScriptFault};
 use camp_why::call_part;
@@ -25,7 +25,7 @@ pub(crate) struct Command {
     pub(crate) bytes: Vec<u8>,
     /// Its last line was read; else the input has ended.
     pub(crate) is_whole: bool,
-    pub(crate) asked: Result<Asked, ScriptFault>,
+    pub(crate) parsed: Result<ParsedCommand, ScriptFault>,
 }
 
 // Returns the lines of a command, and the script of its call.
@@ -40,9 +40,9 @@ struct Lines {
 pub(crate) fn read_command<R: BufRead>(alloc: Global, reader: &mut R) -> Result<Command, TalkFault>
     ensures command { IfOk result (λ command.
         ReadsHeld (R.remaining reader.old) (R.remaining reader.new) command.is_whole command.bytes.items) }
-    ensures asked { IfOk result (λ command. Gives command.asked (parsed_lines (lines_of command.bytes.items))) }
+    ensures parsed { IfOk result (λ command. Gives command.parsed (parsed_lines (lines_of command.bytes.items))) }
     ensures silent { IfOk result (λ command. is_skipped (words_of (first_of (lines_of command.bytes.items))) ≡ true →
-        command.asked ≡ Ok SaidAsked.Nothing) }
+        command.parsed ≡ Ok SpecParsedCommand.Nothing) }
     ensures fault { IfErr result IsReading }
     ensures within { IfErr result (λ why. ReadsWithin (R.remaining reader.old) (R.remaining reader.new)) }
 {
@@ -51,15 +51,15 @@ pub(crate) fn read_command<R: BufRead>(alloc: Global, reader: &mut R) -> Result<
         is_whole,
         script,
     } = read_lines(alloc, reader)?;
-    let asked = if is_skipped(first_line(&bytes)) {
-        Ok(Asked::Nothing)
+    let parsed = if is_skipped(first_line(&bytes)) {
+        Ok(ParsedCommand::Nothing)
     } else {
         parse_command(alloc, &bytes, script)
     };
     Ok(Command {
         bytes,
         is_whole,
-        asked,
+        parsed,
     })
 }
 

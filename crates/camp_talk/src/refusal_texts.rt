@@ -3,8 +3,8 @@ ghost use Rattle.std.specs.Prelude.{◌≡◌, IfOk};
 ghost use Rattle.std.specs.List.{flat_map};
 ghost use Rattle.camp_talk.specs.Refusals.{cure, number_of, reasons, refusal_text, saying};
 
+use crate::answer_parts::joined;
 use crate::questions::Reason;
-use crate::told::joined;
 use std::alloc::{AllocError, Global};
 
 /// Renders the meaning of each refusal.

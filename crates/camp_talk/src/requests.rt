@@ -1,10 +1,10 @@
 //! Requests, each of which is a conversation of its own.
 ghost use Rattle.std.specs.Prelude.{◌≡◌, ◌++◌, List, IfErr, IfOk, ℕ};
-ghost use Rattle.camp_talk.specs.Inside.Said.{IsNotWriting};
+ghost use Rattle.camp_talk.specs.Inside.Responses.{IsNotWriting};
 ghost use Rattle.camp_talk.specs.Requests.{AnswersRequest, AnswersSome};
 
-use crate::talks::turn;
-use crate::{Account, TalkFault};
+use crate::talks::take_step;
+use crate::{Diagnostic, TalkFault};
 use camp_repo::{Book, State};
 use std::alloc::Global;
 
@@ -13,7 +13,7 @@ use std::alloc::Global;
 /// answer; several commands have their answers in order. Lines count from the start of the request. After a
 /// fault the book has the effects of the commands before it; a command whose answer is not there whole may
 /// have been executed.
-#[tactic(auto, using(crate::proofs::Turns::begins_so, crate::proofs::Turns::holds_on))]
+#[tactic(auto, using(crate::proofs::TakesStep::begins_so, crate::proofs::TakesStep::holds_on))]
 pub fn answer_request(
     alloc: Global,
     book: &mut Book<State>,
@@ -28,9 +28,16 @@ pub fn answer_request(
 {
     let mut reader = request;
     let mut lines = 0;
-    let mut cause = Account::new(alloc);
+    let mut diagnostic = Diagnostic::new(alloc);
     loop {
-        match turn(alloc, book, &mut lines, &mut cause, &mut reader, answer) {
+        match take_step(
+            alloc,
+            book,
+            &mut lines,
+            &mut diagnostic,
+            &mut reader,
+            answer,
+        ) {
             Ok(true) => {}
             Ok(false) => return Ok(()),
             Err(why) => return Err(in_memory(why)),

@@ -4,7 +4,7 @@ ghost use Rattle.std.specs.Io.KnownBytes.{Appends, Consumes};
 ghost use Rattle.camp_talk.specs.Frames.{ReadsNoFrame, Serves, framed};
 ghost use Rattle.camp_talk.specs.Inside.Framing.{IsCounted, IsNotCounted, ReadsBytes, ReadsFewer, ReadsFrame, ReadsMore, ReadsNothing};
 ghost use Rattle.camp_talk.specs.Inside.Parts.{IsReading};
-ghost use Rattle.camp_talk.specs.Inside.Said.{IsWriting};
+ghost use Rattle.camp_talk.specs.Inside.Responses.{IsWriting};
 ghost use Rattle.camp_talk.specs.Talks.{AppendsSome, HasGrown};
 
 use crate::lines::{hold, read_front, unless_interrupted};

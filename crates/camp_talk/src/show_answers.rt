@@ -1,10 +1,10 @@
 //! A patch as it is in a branch, as a text.
 ghost use Rattle.std.specs.Prelude.{◌≡◌, IfOk};
 ghost use Rattle.std.specs.List.{flat_map};
-ghost use Rattle.camp_talk.specs.Inside.Said.{RendersFound};
-ghost use Rattle.camp_talk.specs.Told.{catch_line, patch_answer};
+ghost use Rattle.camp_talk.specs.Inside.Responses.{RendersFound};
+ghost use Rattle.camp_talk.specs.QuestionAnswers.{catch_line, patch_answer};
 
-use crate::told::{append_parts, both, counted_text, unanswered};
+use crate::answer_parts::{append_parts, both, counted_text, unanswered};
 use camp_catch::Catch;
 use camp_notation::catch_text;
 use camp_questions::{Shown, Unanswered};
@@ -34,8 +34,8 @@ fn catch_lines(alloc: Global, catches: &[Shared<Catch>]) -> Result<Vec<u8>, Allo
 {
     let mut text = Vec::new(alloc);
     for catch in catches {
-        let told = catch_text(alloc, &[], catch)?;
-        append_parts(&mut text, &[told.as_bytes(), b"\n"])?;
+        let line = catch_text(alloc, &[], catch)?;
+        append_parts(&mut text, &[line.as_bytes(), b"\n"])?;
     }
     Ok(text)
 }

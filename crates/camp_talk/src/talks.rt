@@ -1,11 +1,11 @@
 //! One command of a conversation: it is read, executed and answered.
 ghost use Rattle.std.specs.Prelude.{◌≡◌, ◌+◌, true, IfOk, IfErr};
 ghost use Rattle.camp_talk.specs.Inside.ExecutingNext.{ExecutesNext};
-ghost use Rattle.camp_talk.specs.Talks.{HasGrown, ReadsNone, Turns};
+ghost use Rattle.camp_talk.specs.Talks.{HasGrown, ReadsNone, TakesStep};
 
 use crate::answers::{respond, write_answer_or_memory};
 use crate::readings::{count_lines, read_command};
-use crate::{Account, TalkFault};
+use crate::{Diagnostic, TalkFault};
 use camp_repo::{Book, State};
 use std::alloc::{AllocError, Global};
 use std::io::{BufRead, Write};
@@ -14,7 +14,7 @@ use std::io::{BufRead, Write};
 #[derive(Drop)]
 pub(crate) struct ExecutedCommand {
     /// The response, or out of memory.
-    pub(crate) said: Result<Vec<u8>, AllocError>,
+    pub(crate) response: Result<Vec<u8>, AllocError>,
     /// The number of its first line.
     pub(crate) line: u64,
     /// The number of lines that were read, including its own.
@@ -24,21 +24,21 @@ pub(crate) struct ExecutedCommand {
 }
 
 /// Reads a command, and executes it on a book at seat 0, given the number of lines before it. If it has a
-/// fault or is refused, `cause` becomes its diagnostic.
+/// fault or is refused, `diagnostic` becomes its diagnostic.
 pub(crate) fn execute_next<R: BufRead>(
     alloc: Global,
     book: &mut Book<State>,
     lines: u64,
-    cause: &mut Account,
+    diagnostic: &mut Diagnostic,
     reader: &mut R,
 ) -> Result<ExecutedCommand, TalkFault>
-    ensures hears { IfOk result (λ heard. ExecutesNext (R.remaining reader.old) (R.remaining reader.new)
-        (record { history = book.old; lines = lines; cause = cause.old }) heard.is_whole heard.said
-        (record { history = book.new; lines = heard.lines; cause = cause.new })) }
-    ensures line { IfOk result (λ heard. heard.line ≡ lines + 1) }
+    ensures executes_next { IfOk result (λ executed. ExecutesNext (R.remaining reader.old) (R.remaining reader.new)
+        (record { history = book.old; lines = lines; diagnostic = diagnostic.old }) executed.is_whole executed.response
+        (record { history = book.new; lines = executed.lines; diagnostic = diagnostic.new })) }
+    ensures line { IfOk result (λ executed. executed.line ≡ lines + 1) }
     ensures none { IfErr result (ReadsNone (R.remaining reader.old) (R.remaining reader.new)
-        (record { history = book.old; lines = lines; cause = cause.old })) }
-    ensures same { IfErr result (λ why. (book.new ≡ book.old) × (cause.new ≡ cause.old)) }
+        (record { history = book.old; lines = lines; diagnostic = diagnostic.old })) }
+    ensures same { IfErr result (λ why. (book.new ≡ book.old) × (diagnostic.new ≡ diagnostic.old)) }
 {
     let Some(line) = lines.checked_add(1) else {
         return Err(TalkFault::Internal);
@@ -52,10 +52,10 @@ pub(crate) fn execute_next<R: BufRead>(
         drop(command);
         return Err(TalkFault::Internal);
     };
-    let said = respond(alloc, book, lines, cause, &command);
+    let response = respond(alloc, book, lines, diagnostic, &command);
     drop(command);
     Ok(ExecutedCommand {
-        said,
+        response,
         line,
         lines: after,
         is_whole,
@@ -64,22 +64,22 @@ pub(crate) fn execute_next<R: BufRead>(
 
 /// Reads a command, executes it on a book at seat 0, writes its answer and flushes. True if there may be
 /// more; else the input has ended. `lines` counts the lines that were read; after a fault it is unchanged.
-/// `cause` is the diagnostic of the last fault or refusal.
-pub fn turn<R: BufRead, W: Write>(
+/// `diagnostic` is the diagnostic of the last fault or refusal.
+pub fn take_step<R: BufRead, W: Write>(
     alloc: Global,
     book: &mut Book<State>,
     lines: &mut u64,
-    cause: &mut Account,
+    diagnostic: &mut Diagnostic,
     reader: &mut R,
     writer: &mut W,
 ) -> Result<bool, TalkFault>
-    ensures turns { Turns (R.remaining reader.old) (R.remaining reader.new) (W.contents writer.old) (W.contents writer.new)
-        (record { history = book.old; lines = lines.old; cause = cause.old })
-        result (record { history = book.new; lines = lines.new; cause = cause.new }) }
+    ensures takes_step { TakesStep (R.remaining reader.old) (R.remaining reader.new) (W.contents writer.old) (W.contents writer.new)
+        (record { history = book.old; lines = lines.old; diagnostic = diagnostic.old })
+        result (record { history = book.new; lines = lines.new; diagnostic = diagnostic.new }) }
     ensures counts { IfOk result (λ more. more ≡ true → HasGrown lines.old lines.new) }
 {
-    let heard = execute_next(alloc, book, *lines, cause, reader)?;
-    write_answer_or_memory(writer, &heard.said)?;
-    *lines = heard.lines;
-    Ok(heard.is_whole)
+    let executed = execute_next(alloc, book, *lines, diagnostic, reader)?;
+    write_answer_or_memory(writer, &executed.response)?;
+    *lines = executed.lines;
+    Ok(executed.is_whole)
 }

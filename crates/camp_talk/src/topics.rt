@@ -4,12 +4,12 @@ ghost use Rattle.std.specs.Prelude.{◌≡◌, map};
 ghost use Rattle.camp_script.specs.Gives.{Gives};
 ghost use Rattle.camp_script.specs.Lines.{lines_of, words_of};
 ghost use Rattle.camp_script.specs.Pieces.{begins_with};
-ghost use Rattle.camp_talk.specs.Asking.{first_begun, first_numbered, first_of, help_line, reason_at, refusal_topic, topic_at, word_topic};
+ghost use Rattle.camp_talk.specs.Parsing.{first_begun, first_numbered, first_of, help_line, reason_at, refusal_topic, topic_at, word_topic};
 ghost use Rattle.camp_talk.specs.Help.{example};
 
-use crate::asking::{first_line, is_word};
-use crate::questions::{Reason, Topic};
 use crate::help_answers::{commands, example};
+use crate::parsing::{first_line, is_word};
+use crate::questions::{Reason, Topic};
 use crate::refusal_texts::{number_of, reasons};
 use camp_script::{FaultKind, ScriptFault, at_line, begins_with};
 

@@ -2,19 +2,19 @@
 ghost use Rattle.std.specs.Prelude.{◌≡◌, ◌++◌, ◌+◌, ◌^◌, ◌<◌, List, Ok, Result, IfErr, IfOk, OnErr, length, true, ℕ};
 ghost use Rattle.camp_script.specs.Gives.{Gives};
 ghost use Rattle.camp_script.specs.Lines.{lines_of};
-ghost use Rattle.camp_script.specs.declared.faults.LineFault.{LineFault as SaidFault};
-ghost use Rattle.camp_talk.specs.Inside.Said.{IsNotWriting};
+ghost use Rattle.camp_script.specs.declared.faults.LineFault.{LineFault as SpecFault};
+ghost use Rattle.camp_talk.specs.Inside.Responses.{IsNotWriting};
 ghost use Rattle.camp_talk.specs.Inside.Viewing.{SeesStep};
 ghost use Rattle.camp_talk.specs.Talks.{HasGrown};
 ghost use Rattle.camp_talk.specs.Views.{AnswersView, Shows, beyond_text};
-ghost use Rattle.camp_talk.specs.declared.questions.Asked.{Asked as SaidAsked};
+ghost use Rattle.camp_talk.specs.declared.questions.ParsedCommand.{ParsedCommand as SpecParsedCommand};
 
+use crate::answer_parts::joined;
 use crate::answers::fault_text;
 use crate::lines::hold;
-use crate::questions::{Asked, Question};
-use crate::readings::{Command, count_lines, read_command};
 use crate::question_answers::answer_at;
-use crate::told::joined;
+use crate::questions::{ParsedCommand, Question};
+use crate::readings::{Command, count_lines, read_command};
 use crate::{State, TalkFault};
 use camp_repo::{Call, Decided};
 use camp_script::{ScriptFault, answer_text};
@@ -90,7 +90,7 @@ fn append_view(
     answer: &mut Vec<u8>,
 ) -> Result<(), TalkFault>
     ensures shows { IfOk result (λ _. (text : List ℕ) × (answer.new.items ≡ answer.old.items ++ text)
-        × ((reading : Result SaidAsked SaidFault) → Gives command.now.asked reading → Shows state.now lines.old reading text)) }
+        × ((reading : Result SpecParsedCommand SpecFault) → Gives command.now.parsed reading → Shows state.now lines.old reading text)) }
     ensures counts { IfOk result (λ _. (lines.new ≡ lines.old + length (lines_of command.now.bytes.items)) × (lines.new < 2 ^ 64)) }
     ensures kept { OnErr result (answer.new.items ≡ answer.old.items) }
     ensures unwritten { IfErr result IsNotWriting }
@@ -98,7 +98,7 @@ fn append_view(
     let Some(after) = lines.checked_add(count_lines(&command.bytes)) else {
         return Err(TalkFault::Internal);
     };
-    let Ok(text) = show(alloc, state, *lines, &command.asked) else {
+    let Ok(text) = show(alloc, state, *lines, &command.parsed) else {
         return Err(TalkFault::Memory);
     };
     hold(answer, &text)?;
@@ -111,16 +111,16 @@ fn show(
     alloc: Global,
     state: &State,
     before: u64,
-    asked: &Result<Asked, ScriptFault>,
+    parsed: &Result<ParsedCommand, ScriptFault>,
 ) -> Result<Vec<u8>, AllocError>
-    ensures { IfOk result (λ text. (reading : Result SaidAsked SaidFault) → Gives asked.now reading →
+    ensures { IfOk result (λ text. (reading : Result SpecParsedCommand SpecFault) → Gives parsed.now reading →
         Shows state.now before reading text.items) }
 {
-    match asked {
-        Ok(Asked::Nothing) => Ok(Vec::new(alloc)),
-        Ok(Asked::Call(call)) => show_reply(alloc, state, before, call),
-        Ok(Asked::Question(question)) => show_told(alloc, state, before, question),
-        Ok(Asked::Why) => beyond_text(alloc, before),
+    match parsed {
+        Ok(ParsedCommand::Nothing) => Ok(Vec::new(alloc)),
+        Ok(ParsedCommand::Call(call)) => show_reply(alloc, state, before, call),
+        Ok(ParsedCommand::Question(question)) => show_answer_of(alloc, state, before, question),
+        Ok(ParsedCommand::Why) => beyond_text(alloc, before),
         Err(ScriptFault::Line(fault)) => fault_text(alloc, before, fault.line, fault.kind),
         Err(ScriptFault::Memory) => Err(AllocError),
     }
@@ -129,7 +129,7 @@ fn show(
 // Renders the reply to a call that asks; that of its fault to one that would write.
 #[tactic(auto, using(crate::proofs::ViewLemmas::leads_on))]
 fn show_reply(alloc: Global, state: &State, before: u64, call: &Call) -> Result<Vec<u8>, AllocError>
-    ensures { IfOk result (λ text. Shows state.now before (Ok (SaidAsked.Call call.now)) text.items) }
+    ensures { IfOk result (λ text. Shows state.now before (Ok (SpecParsedCommand.Call call.now)) text.items) }
 {
     if call.is_writing() {
         return beyond_text(alloc, before);
@@ -143,13 +143,13 @@ fn show_reply(alloc: Global, state: &State, before: u64, call: &Call) -> Result<
     }
 }
 
-fn show_told(
+fn show_answer_of(
     alloc: Global,
     state: &State,
     before: u64,
     question: &Question,
 ) -> Result<Vec<u8>, AllocError>
-    ensures { IfOk result (λ text. Shows state.now before (Ok (SaidAsked.Question question.now)) text.items) }
+    ensures { IfOk result (λ text. Shows state.now before (Ok (SpecParsedCommand.Question question.now)) text.items) }
 {
     match question {
         Question::History | Question::Keep => beyond_text(alloc, before),

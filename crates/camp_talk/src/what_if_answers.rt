@@ -1,11 +1,11 @@
 //! The foreseen result of a call as a text.
 ghost use Rattle.std.specs.Prelude.{◌≡◌, IfOk};
 ghost use Rattle.camp_questions.specs.Foresight.{Foresees};
-ghost use Rattle.camp_questions.specs.declared.foresight.Foreseen.{Foreseen as SaidForeseen};
+ghost use Rattle.camp_questions.specs.declared.foresight.Foreseen.{Foreseen as SpecForeseen};
 ghost use Rattle.camp_script.specs.Texts.{reply_text};
-ghost use Rattle.camp_talk.specs.Told.{changes_answer, foreseen_answer, standing_text};
+ghost use Rattle.camp_talk.specs.QuestionAnswers.{changes_answer, foreseen_answer, standing_text};
 
-use crate::told::{both, counted_text};
+use crate::answer_parts::{both, counted_text};
 use crate::conflict_answers::render_pairs;
 use camp_questions::{Foreseen, Standing, what_if};
 use camp_repo::{Call, Reply, State};
@@ -20,7 +20,7 @@ pub(crate) fn render_foreseen(
     call: &Call,
 ) -> Result<Vec<u8>, AllocError>
     ensures { IfOk result (λ text.
-        (seen : SaidForeseen) × Foresees state.now call.now seen × (text.items ≡ foreseen_answer seen)) }
+        (seen : SpecForeseen) × Foresees state.now call.now seen × (text.items ≡ foreseen_answer seen)) }
 {
     if state.count() == u64::MAX {
         return Err(AllocError);

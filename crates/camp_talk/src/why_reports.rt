@@ -2,22 +2,22 @@
 ghost use Rattle.std.specs.Prelude.{◌≡◌, IfOk, Result, codes};
 ghost use Rattle.camp_script.specs.Gives.{Gives};
 ghost use Rattle.camp_script.specs.Lines.{lines_of, words_of};
-ghost use Rattle.camp_script.specs.declared.faults.LineFault.{LineFault as SaidFault};
-ghost use Rattle.camp_talk.specs.Asking.{first_of};
-ghost use Rattle.camp_talk.specs.Whys.{against_text, cause_found, cause_text, report_or_none, diagnostic_with, change_text, cure_at, ends_text, facts_text, found_text, hindrance_text, is_failure, lacks_text, limit_cure, met_lines, met_text, misfit_text, most_text, reason_in, refusal_lines, refusal_report, trimmed, two_numbers, why_answer};
-ghost use Rattle.camp_talk.specs.declared.questions.Asked.{Asked as SaidAsked};
+ghost use Rattle.camp_script.specs.declared.faults.LineFault.{LineFault as SpecFault};
+ghost use Rattle.camp_talk.specs.Parsing.{first_of};
+ghost use Rattle.camp_talk.specs.Reports.{against_text, cause_found, cause_text, change_text, cure_at, diagnostic_with, ends_text, facts_text, found_text, hindrance_text, is_failure, lacks_text, limit_cure, met_lines, met_text, misfit_text, most_text, reason_in, refusal_lines, refusal_report, report_or_none, trimmed, two_numbers, why_answer};
+ghost use Rattle.camp_talk.specs.declared.questions.ParsedCommand.{ParsedCommand as SpecParsedCommand};
 ghost use Rattle.camp_why.specs.declared.misfits.Misfit.TheVariants.{EndsBefore};
 
-use crate::Account;
-use crate::asking::first_line;
-use crate::awaited::Awaited;
-use crate::questions::{Asked, Reason};
-use crate::told::{both, counted, joined, made};
-use crate::obstacle_reports::{
-    depends_cure, record_cure, render_absent, render_branches, render_lacked, render_new, render_nothing,
-    render_recorded, render_sides,
-};
+use crate::Diagnostic;
+use crate::answer_parts::{both, counted, joined, made};
 use crate::fault_reports::{fault_diagnostic, with_line};
+use crate::obstacle_reports::{
+    depends_cure, record_cure, render_absent, render_branches, render_lacked, render_new,
+    render_nothing, render_recorded, render_sides,
+};
+use crate::parsing::first_line;
+use crate::questions::{ParsedCommand, Reason};
+use crate::recovery::Recovery;
 use crate::refusal_texts::{cure, saying};
 use crate::topics::reason_at;
 use crate::visible::visible;
@@ -29,19 +29,19 @@ use itoa::Buffer;
 use std::alloc::{AllocError, Global};
 
 /// Renders the report on a diagnostic.
-pub(crate) fn render_why(alloc: Global, cause: &[u8]) -> Result<Vec<u8>, AllocError>
-    ensures { IfOk result (λ text. text.items ≡ why_answer cause.now) }
+pub(crate) fn render_why(alloc: Global, report: &[u8]) -> Result<Vec<u8>, AllocError>
+    ensures { IfOk result (λ text. text.items ≡ why_answer report.now) }
 {
-    counted(alloc, "why", told(cause))
+    counted(alloc, "why", report_or_none(report))
 }
 
-fn told(cause: &[u8]) -> &[u8]
-    ensures { result.now ≡ report_or_none cause.now }
+fn report_or_none(report: &[u8]) -> &[u8]
+    ensures { result.now ≡ report_or_none report.now }
 {
-    if cause.is_empty() {
+    if report.is_empty() {
         return b"No command had a fault or was refused here.\n";
     }
-    cause
+    report
 }
 
 /// True if an answer is a fault or a refusal.
@@ -55,20 +55,20 @@ pub(crate) fn is_failure(answer: &[u8]) -> bool
 /// command, its lines, its parsed form, and its answer.
 pub(crate) fn diagnostic_of(
     alloc: Global,
-    before: &Account,
+    before: &Diagnostic,
     state: &State,
     command: &[u8],
-    asked: &Result<Asked, ScriptFault>,
+    parsed: &Result<ParsedCommand, ScriptFault>,
     answer: &[u8],
-) -> Result<Account, AllocError>
-    ensures cause { IfOk result (λ cause. (reading : Result SaidAsked SaidFault) → Gives asked.now reading →
-        cause ≡ diagnostic_with before.now state.now (lines_of command.now) reading answer.now) }
+) -> Result<Diagnostic, AllocError>
+    ensures diagnostic { IfOk result (λ diagnostic. (reading : Result SpecParsedCommand SpecFault) → Gives parsed.now reading →
+        diagnostic ≡ diagnostic_with before.now state.now (lines_of command.now) reading answer.now) }
 {
-    match asked {
-        Ok(asked) => {
+    match parsed {
+        Ok(parsed) => {
             let line = first_line(command);
-            let told = refusal_lines(alloc, state, asked, line, answer, reason_in(answer));
-            Account::of(told, Awaited::Nothing)
+            let report = refusal_lines(alloc, state, parsed, line, answer, reason_in(answer));
+            Diagnostic::of(report, Recovery::Nothing)
         }
         Err(ScriptFault::Line(fault)) => fault_diagnostic(alloc, before, fault, command, answer),
         Err(ScriptFault::Memory) => Err(AllocError),
@@ -94,35 +94,35 @@ fn reason_in(answer: &[u8]) -> Option<Reason>
 fn refusal_lines(
     alloc: Global,
     state: &State,
-    asked: &Asked,
+    parsed: &ParsedCommand,
     line: &[u8],
     answer: &[u8],
     reason: Option<Reason>,
 ) -> Result<Vec<u8>, AllocError>
-    ensures { IfOk result (λ text. text.items ≡ refusal_lines state.now asked.now line.now answer.now reason) }
+    ensures { IfOk result (λ text. text.items ≡ refusal_lines state.now parsed.now line.now answer.now reason) }
 {
     let Some(reason) = reason else {
         return Vec::from_slice(alloc, answer);
     };
-    let found = cause_found(state, asked, reason)?;
-    refusal_report(alloc, state, asked, line, answer, &found, reason)
+    let found = cause_found(state, parsed, reason)?;
+    refusal_report(alloc, state, parsed, line, answer, &found, reason)
 }
 
 fn refusal_report(
     alloc: Global,
     state: &State,
-    asked: &Asked,
+    parsed: &ParsedCommand,
     line: &[u8],
     answer: &[u8],
     found: &Option<Cause>,
     reason: Reason,
 ) -> Result<Vec<u8>, AllocError>
-    ensures { IfOk result (λ text. text.items ≡ refusal_report state.now asked.now line.now answer.now found.now reason) }
+    ensures { IfOk result (λ text. text.items ≡ refusal_report state.now parsed.now line.now answer.now found.now reason) }
 {
-    let against = against_text(alloc, state, asked, found, reason)?;
+    let against = against_text(alloc, state, parsed, found, reason)?;
     let front = with_line(alloc, answer, line)?;
     let says = saying(reason).as_bytes();
-    let cure = cure_at(state, asked, found, reason).as_bytes();
+    let cure = cure_at(state, parsed, found, reason).as_bytes();
     joined(alloc, &[front.as_slice(), says, against.as_slice(), cure])
 }
 
@@ -130,45 +130,50 @@ fn refusal_report(
 fn against_text(
     alloc: Global,
     state: &State,
-    asked: &Asked,
+    parsed: &ParsedCommand,
     found: &Option<Cause>,
     reason: Reason,
 ) -> Result<Vec<u8>, AllocError>
-    ensures { IfOk result (λ text. text.items ≡ against_text state.now asked.now found.now reason) }
+    ensures { IfOk result (λ text. text.items ≡ against_text state.now parsed.now found.now reason) }
 {
-    let sides = render_sides(alloc, asked);
-    both(sides, facts_text(alloc, state, asked, found, reason))
+    let sides = render_sides(alloc, parsed);
+    both(sides, facts_text(alloc, state, parsed, found, reason))
 }
 
 // Renders what exists and what does not: the subject of a refusal, by the cause that was found.
 fn facts_text(
     alloc: Global,
     state: &State,
-    asked: &Asked,
+    parsed: &ParsedCommand,
     found: &Option<Cause>,
     reason: Reason,
 ) -> Result<Vec<u8>, AllocError>
-    ensures { IfOk result (λ text. text.items ≡ facts_text state.now asked.now found.now reason) }
+    ensures { IfOk result (λ text. text.items ≡ facts_text state.now parsed.now found.now reason) }
 {
     match reason {
-        Reason::NoBranch => render_absent(alloc, state, asked),
-        Reason::BranchExists => render_new(alloc, state, asked),
-        Reason::PatchExists => render_recorded(alloc, state, asked),
-        Reason::NoPatch => render_lacked(alloc, state, asked),
-        Reason::NothingToDo => render_nothing(alloc, state, asked),
+        Reason::NoBranch => render_absent(alloc, state, parsed),
+        Reason::BranchExists => render_new(alloc, state, parsed),
+        Reason::PatchExists => render_recorded(alloc, state, parsed),
+        Reason::NoPatch => render_lacked(alloc, state, parsed),
+        Reason::NothingToDo => render_nothing(alloc, state, parsed),
         Reason::SameBranch => render_branches(alloc, state),
         _ => found_text(alloc, found),
     }
 }
 
 // Renders the hint on the refusal of a command.
-fn cure_at(state: &State, asked: &Asked, found: &Option<Cause>, reason: Reason) -> &'static str
-    ensures { result.now ≡ cure_at state.now asked.now found.now reason }
+fn cure_at(
+    state: &State,
+    parsed: &ParsedCommand,
+    found: &Option<Cause>,
+    reason: Reason,
+) -> &'static str
+    ensures { result.now ≡ cure_at state.now parsed.now found.now reason }
 {
     match (reason, found) {
-        (Reason::PatchExists, _) => record_cure(state, asked),
+        (Reason::PatchExists, _) => record_cure(state, parsed),
         (Reason::TooLarge, Some(cause)) => limit_cure(cause),
-        (Reason::Depends, _) => depends_cure(asked),
+        (Reason::Depends, _) => depends_cure(parsed),
         _ => cure(reason),
     }
 }
@@ -200,10 +205,14 @@ fn found_text(alloc: Global, found: &Option<Cause>) -> Result<Vec<u8>, AllocErro
 }
 
 // Renders why a command is refused for a reason; for a question only what its refusal says.
-fn cause_found(state: &State, asked: &Asked, reason: Reason) -> Result<Option<Cause>, AllocError>
-    ensures { IfOk result (λ found. found ≡ cause_found state.now asked.now reason) }
+fn cause_found(
+    state: &State,
+    parsed: &ParsedCommand,
+    reason: Reason,
+) -> Result<Option<Cause>, AllocError>
+    ensures { IfOk result (λ found. found ≡ cause_found state.now parsed.now reason) }
 {
-    let Asked::Call(call) = asked else {
+    let ParsedCommand::Call(call) = parsed else {
         return Ok(None);
     };
     match reason {

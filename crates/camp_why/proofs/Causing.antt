@@ -95,22 +95,22 @@ is_sized changes size = (λ j. not (le-leb 1 (length changes) size.0 j && le-leb
 -- ---- causes of a record
 
 module _ (state : Contents) (branch name : List ℕ) (changes : List Primitive) (catches : List Catch) (has : Has state branch catches) where
-  abbrev asked : Call
-  asked = call.Record branch name changes
+  abbrev request : Call
+  request = call.Record branch name changes
 
-  in_branch : RecordsIn state asked catches changes
+  in_branch : RecordsIn state request catches changes
   in_branch = record { branch = branch; name = name; records = refl; has = has }
 
-  explains : (cause : Cause) → record_cause state.limits.catches changes (Some catches) ≡ Some cause → IsSo state asked cause → IsExplained state asked (refusal_by cause)
-  explains cause told is_so = record {
+  explains : (cause : Cause) → record_cause state.limits.catches changes (Some catches) ≡ Some cause → IsSo state request cause → IsExplained state request (refusal_by cause)
+  explains cause reported is_so = record {
     cause = cause;
-    told = cond-true (is_of_changes (refusal_by cause)) (record_cause state.limits.catches changes (catches_of state.branches branch)) None (by_cause cause)
-        ∙ ap (record_cause state.limits.catches changes) has ∙ told;
+    reported = cond-true (is_of_changes (refusal_by cause)) (record_cause state.limits.catches changes (catches_of state.branches branch)) None (by_cause cause)
+        ∙ ap (record_cause state.limits.catches changes) has ∙ reported;
     of = refl;
     is_so = is_so;
   }
 
-  fills : nat_lt state.limits.catches (length catches + length changes) ≡ true → IsExplained state asked TooLarge
+  fills : nat_lt state.limits.catches (length catches + length changes) ≡ true → IsExplained state request TooLarge
   fills full = explains (FullBranch (length catches) (length changes) state.limits.catches) (cond-true _ _ _ full) (record {
     catches = catches;
     changes = changes;
@@ -121,16 +121,16 @@ module _ (state : Contents) (branch name : List ℕ) (changes : List Primitive) 
     full = ltb-true state.limits.catches (length catches + length changes) full;
   })
 
-  is_long : nat_lt state.limits.catches (length catches + length changes) ≡ false → list_any has_long_side changes ≡ true → IsExplained state asked TooLarge
+  is_long : nat_lt state.limits.catches (length catches + length changes) ≡ false → list_any has_long_side changes ≡ true → IsExplained state request TooLarge
   is_long few any = by_first (first_long 1 changes) refl (finds 0 changes)
     where
-      by_first : (found : Option Cause) → first_long 1 changes ≡ found → Finds 0 changes found → IsExplained state asked TooLarge
+      by_first : (found : Option Cause) → first_long 1 changes ≡ found → Finds 0 changes found → IsExplained state request TooLarge
       by_first None first none = absurd (false≢true (sym none ∙ any))
       by_first (Some cause) first (at_first, some) =
           let place : suc (0 + at_first.before) ≡ suc at_first.before = omega arith in
-          let told : cause_or (first_long 1 changes) (stop_from changes (tree_of catches)) ≡ Some (long_at (suc (0 + at_first.before)) at_first.hunk) =
+          let reported : cause_or (first_long 1 changes) (stop_from changes (tree_of catches)) ≡ Some (long_at (suc (0 + at_first.before)) at_first.hunk) =
           ap (λ o. cause_or o (stop_from changes (tree_of catches))) first ∙ ap Some at_first.is in
-          explains (long_at (suc (0 + at_first.before)) at_first.hunk) (cond-false _ _ _ few ∙ told) (record {
+          explains (long_at (suc (0 + at_first.before)) at_first.hunk) (cond-false _ _ _ few ∙ reported) (record {
             catches = catches;
             changes = changes;
             in_branch = in_branch;
@@ -148,22 +148,22 @@ module _ (state : Contents) (branch name : List ℕ) (changes : List Primitive) 
 
   -- too many changes, or too long sides
   large_by : (full long : Bool) → nat_lt state.limits.catches (length catches + length changes) ≡ full → list_any has_long_side changes ≡ long
-      → full || (long || not (is_patch_sized changes)) ≡ true → IsPatchSized changes → IsExplained state asked TooLarge
+      → full || (long || not (is_patch_sized changes)) ≡ true → IsPatchSized changes → IsExplained state request TooLarge
   large_by true long full any e size = fills full
   large_by false true few any e size = is_long few any
   large_by false false few none e size = absurd (false≢true (sym (is_sized changes size) ∙ e))
 
-  pub is_large : is_too_large state.limits.catches catches changes ≡ true → IsPatchSized changes → IsExplained state asked TooLarge
+  pub is_large : is_too_large state.limits.catches catches changes ≡ true → IsPatchSized changes → IsExplained state request TooLarge
   is_large e size = large_by (nat_lt state.limits.catches (length catches + length changes)) (list_any has_long_side changes) refl refl e size
 
   pub stops : is_too_large state.limits.catches catches changes ≡ false → (tree : Files) → LeadsTo catches tree → (refusal : Refusal) → (with_stop : StopsWith 1 changes tree refusal)
-      → IsExplained state asked (refusal_at with_stop.stop.why)
+      → IsExplained state request (refusal_at with_stop.stop.why)
   stops small tree leads refusal with_stop =
       let (few, others) = or_parts (nat_lt state.limits.catches (length catches + length changes)) _ small in
       let short = (or_parts (list_any has_long_side changes) _ others).0 in
-      let told : cause_or (first_long 1 changes) (stop_from changes (tree_of catches)) ≡ Some (Stops with_stop.stop) =
+      let reported : cause_or (first_long 1 changes) (stop_from changes (tree_of catches)) ≡ Some (Stops with_stop.stop) =
       (λ j. cause_or (none_found changes (first_long 1 changes) (finds 0 changes) short j) (stop_from changes (tree_found catches tree leads j))) ∙ ap stop_cause with_stop.first in
-      explains (Stops with_stop.stop) (cond-false _ _ _ few ∙ told) (record {
+      explains (Stops with_stop.stop) (cond-false _ _ _ few ∙ reported) (record {
         catches = catches;
         changes = changes;
         in_branch = in_branch;

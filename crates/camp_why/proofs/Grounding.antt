@@ -87,35 +87,35 @@ none_in [] e = refl
 none_in (name ∷ names) e = absurd (false≢true e)
 
 -- the cause of a stop is the ground of its refusal
-stop_ground : (state : Contents) (asked : Call) (why : Hindrance) → IsExplained state asked (refusal_at why) → IsGround state asked (refusal_at why)
-stop_ground state asked (hindrance.Misfit misfit) explains = explains
-stop_ground state asked (hindrance.TooLong count) explains = explains
+stop_ground : (state : Contents) (request : Call) (why : Hindrance) → IsExplained state request (refusal_at why) → IsGround state request (refusal_at why)
+stop_ground state request (hindrance.Misfit misfit) explains = explains
+stop_ground state request (hindrance.TooLong count) explains = explains
 
 -- what blocks a pull or an obliteration is the ground of its refusal
-blocked_ground : (state : Contents) (asked : Call) (why : Blocked) → IsBlockedBy state asked why
-    → IsGround state asked (refusal_of why)
-blocked_ground state asked (blocked.Depends patch on) is = (blocked.Depends patch on, refl, is)
-blocked_ground state asked (blocked.Diverged name) is = (blocked.Diverged name, refl, is)
-blocked_ground state asked (blocked.NoMerge left right) is = (blocked.NoMerge left right, refl, is)
+blocked_ground : (state : Contents) (request : Call) (why : Blocked) → IsBlockedBy state request why
+    → IsGround state request (refusal_of why)
+blocked_ground state request (blocked.Depends patch on) is = (blocked.Depends patch on, refl, is)
+blocked_ground state request (blocked.Diverged name) is = (blocked.Diverged name, refl, is)
+blocked_ground state request (blocked.NoMerge left right) is = (blocked.NoMerge left right, refl, is)
 
 -- ---- call by call
 
 module _ (state : Contents) (lawful : IsLawfulState state) (refusal : Refusal) where
-  module _ (asked : Call) where
-    ground : (other : Refusal) → other ≡ refusal → IsGround state asked other → IsGround state asked refusal
-    ground other same is = subst (IsGround state asked) same is
+  module _ (request : Call) where
+    ground : (other : Refusal) → other ≡ refusal → IsGround state request other → IsGround state request refusal
+    ground other same is = subst (IsGround state request) same is
 
   of_branch : (new from : List ℕ) → step state (call.Branch new from) ≡ refused refusal → IsGround state (call.Branch new from) refusal
   of_branch new from e =
-      let asked = call.Branch new from in
+      let request = call.Branch new from in
       by_branch refusal (catches_of state.branches from) from _ e
-      (λ none same. ground asked (NoBranch from) same (refl, none))
+      (λ none same. ground request (NoBranch from) same (refl, none))
       (λ catches has e1. by_test refusal (is_some (catches_of state.branches new)) (BranchExists new) _ e1
-      (λ there same. ground asked (BranchExists new) same (refl, found_some (catches_of state.branches new) there))
+      (λ there same. ground request (BranchExists new) same (refl, found_some (catches_of state.branches new) there))
       (λ free e2. by_test refusal (nat_le state.limits.branches (length state.branches)) TooLarge _ e2
-      (λ full same. ground asked TooLarge same (record {
+      (λ full same. ground request TooLarge same (record {
         cause = FullRepository (length state.branches) state.limits.branches;
-        told = refl;
+        reported = refl;
         of = refl;
         is_so = record { new = new; from = from; copies = refl; counts = refl; limit = refl; full = leb-true state.limits.branches (length state.branches) full };
       }))
@@ -124,13 +124,13 @@ module _ (state : Contents) (lawful : IsLawfulState state) (refusal : Refusal) w
   of_record : (branch name : List ℕ) (changes : List Primitive) → IsCall (call.Record branch name changes) → AllByRecursion InRange changes
       → step state (call.Record branch name changes) ≡ refused refusal → IsGround state (call.Record branch name changes) refusal
   of_record branch name changes size range e =
-      let asked = call.Record branch name changes in
+      let request = call.Record branch name changes in
       by_branch refusal (catches_of state.branches branch) branch _ e
-      (λ none same. ground asked (NoBranch branch) same (refl, none))
+      (λ none same. ground request (NoBranch branch) same (refl, none))
       (λ catches has e1. by_test refusal (stands state.branches name) (PatchExists name) _ e1
-      (λ there same. ground asked (PatchExists name) same (refl, there))
+      (λ there same. ground request (PatchExists name) same (refl, there))
       (λ free e2. by_test refusal (is_too_large state.limits.catches catches changes) TooLarge _ e2
-      (λ large same. ground asked TooLarge same (is_large state branch name changes catches has large size))
+      (λ large same. ground request TooLarge same (is_large state branch name changes catches has large size))
       (λ small e3.
       let by = lawful_branch state lawful branch catches has in
       by_led catches has small by.tree by.leads (changed changes by.tree) refl
@@ -149,21 +149,21 @@ module _ (state : Contents) (lawful : IsLawfulState state) (refusal : Refusal) w
   of_pull : (from to : List ℕ) (names : Option (List (List ℕ))) → step state (call.Pull from to names) ≡ refused refusal
       → IsGround state (call.Pull from to names) refusal
   of_pull from to names e =
-      let asked = call.Pull from to names in
+      let request = call.Pull from to names in
       by_branch refusal (catches_of state.branches from) from _ e
-      (λ none same. ground asked (NoBranch from) same (inl refl, none))
+      (λ none same. ground request (NoBranch from) same (inl refl, none))
       (λ theirs from_has e1. by_branch refusal (catches_of state.branches to) to _ e1
-      (λ none same. ground asked (NoBranch to) same (inr refl, none))
+      (λ none same. ground request (NoBranch to) same (inr refl, none))
       (λ ours to_has e2. by_test refusal (bytes_eq from to) (SameBranch to) _ e2
-      (λ one same. ground asked (SameBranch to) same ((bytes_eq-Decides from to).0 one, refl))
+      (λ one same. ground request (SameBranch to) same ((bytes_eq-Decides from to).0 one, refl))
       (λ two e3. by_patches refusal (first_lacked theirs (listed theirs names)) _ e3
-      (λ name lacks same. ground asked (NoPatch name) same (theirs, from_has, lacks))
+      (λ name lacks same. ground request (NoPatch name) same (theirs, from_has, lacks))
       (λ all e4. by_test refusal (is_empty (wanted ours (listed theirs names))) NothingToDo _ e4
-      (λ none same. ground asked NothingToDo same (theirs, ours, from_has, to_has, none_in (wanted ours (listed theirs names)) none))
+      (λ none same. ground request NothingToDo same (theirs, ours, from_has, to_has, none_in (wanted ours (listed theirs names)) none))
       (λ some e5. by_test refusal (is_full_with state.limits.catches ours theirs (wanted ours (listed theirs names))) TooLarge _ e5
-      (λ full same. ground asked TooLarge same (record {
+      (λ full same. ground request TooLarge same (record {
         cause = FullWithPull (length ours) (length (brought theirs ours names)) state.limits.catches;
-        told = (λ j. full_with_pull state.limits.catches (from_has j) (to_has j) names);
+        reported = (λ j. full_with_pull state.limits.catches (from_has j) (to_has j) names);
         of = refl;
         is_so = record {
           from = from;
@@ -181,30 +181,30 @@ module _ (state : Contents) (lawful : IsLawfulState state) (refusal : Refusal) w
         };
       }))
       (λ room e6. by_outcome refusal state to (pulled theirs ours (wanted ours (listed theirs names))) e6
-      (λ why is same. ground asked (refusal_of why) same
-      (blocked_ground state asked why (theirs, ours, from_has, to_has, is)))))))))
+      (λ why is same. ground request (refusal_of why) same
+      (blocked_ground state request why (theirs, ours, from_has, to_has, is)))))))))
 
   of_obliterate : (branch : List ℕ) (names : List (List ℕ)) → step state (call.Obliterate branch names) ≡ refused refusal
       → IsGround state (call.Obliterate branch names) refusal
   of_obliterate branch names e =
-      let asked = call.Obliterate branch names in
+      let request = call.Obliterate branch names in
       by_branch refusal (catches_of state.branches branch) branch _ e
-      (λ none same. ground asked (NoBranch branch) same (refl, none))
+      (λ none same. ground request (NoBranch branch) same (refl, none))
       (λ catches has e1. by_patches refusal (first_lacked catches names) _ e1
-      (λ name lacks same. ground asked (NoPatch name) same (catches, has, lacks))
+      (λ name lacks same. ground request (NoPatch name) same (catches, has, lacks))
       (λ all e2. by_test refusal (is_empty names) NothingToDo _ e2
-      (λ none same. ground asked NothingToDo same (none_in names none))
+      (λ none same. ground request NothingToDo same (none_in names none))
       (λ some e3. by_outcome refusal state branch (obliterated catches names) e3
-      (λ why is same. ground asked (refusal_of why) same (blocked_ground state asked why (catches, has, is))))))
+      (λ why is same. ground request (refusal_of why) same (blocked_ground state request why (catches, has, is))))))
 
   -- a question is refused only if there is no branch
-  of_question : (asked : Call) (branch : List ℕ) (tells : List Catch → Decision)
-      → option_map_or tells (catches_of state.branches branch) (refused (NoBranch branch)) ≡ refused refusal
-      → (catches_of state.branches branch ≡ None → IsGround state asked (NoBranch branch))
-      → ((catches : List Catch) → Has state branch catches → ¬ (tells catches ≡ refused refusal)) → IsGround state asked refusal
-  of_question asked branch tells e lacks never =
-      by_branch refusal (catches_of state.branches branch) branch tells e
-      (λ none same. ground asked (NoBranch branch) same (lacks none)) (λ catches has e1. absurd (never catches has e1))
+  of_question : (request : Call) (branch : List ℕ) (reports : List Catch → Decision)
+      → option_map_or reports (catches_of state.branches branch) (refused (NoBranch branch)) ≡ refused refusal
+      → (catches_of state.branches branch ≡ None → IsGround state request (NoBranch branch))
+      → ((catches : List Catch) → Has state branch catches → ¬ (reports catches ≡ refused refusal)) → IsGround state request refusal
+  of_question request branch reports e lacks never =
+      by_branch refusal (catches_of state.branches branch) branch reports e
+      (λ none same. ground request (NoBranch branch) same (lacks none)) (λ catches has e1. absurd (never catches has e1))
 
 pub have_grounds : RefusalsHaveGrounds
 have_grounds state (call.Branch new from) refusal lawful is range e = of_branch state lawful refusal new from e
@@ -222,15 +222,15 @@ have_grounds state (call.Names branch) refusal lawful is range e =
 
 -- ---- if a refusal does not say it all, its ground is a cause
 
-unwanted : (asked : Call) (refusal : Refusal) → is_of_changes refusal ≡ false → is_of_limit refusal ≡ false → wants_cause asked refusal ≡ false
+unwanted : (request : Call) (refusal : Refusal) → is_of_changes refusal ≡ false → is_of_limit refusal ≡ false → wants_cause request refusal ≡ false
 unwanted (call.Record branch name made) refusal changes limit = changes
 unwanted other refusal changes limit = limit
 
-ground_explains : (state : Contents) (asked : Call) (refusal : Refusal) → IsGround state asked refusal → wants_cause asked refusal ≡ true → IsExplained state asked refusal
-ground_explains state asked TooLarge is wants = is
-ground_explains state asked DoesNotApply is wants = is
-ground_explains state asked other is wants = absurd (false≢true (sym (unwanted asked other refl refl) ∙ wants))
+ground_explains : (state : Contents) (request : Call) (refusal : Refusal) → IsGround state request refusal → wants_cause request refusal ≡ true → IsExplained state request refusal
+ground_explains state request TooLarge is wants = is
+ground_explains state request DoesNotApply is wants = is
+ground_explains state request other is wants = absurd (false≢true (sym (unwanted request other refl refl) ∙ wants))
 
 pub refusals_explained : RefusalsAreExplained
-refusals_explained state asked refusal lawful is range e wants =
-    ground_explains state asked refusal (have_grounds state asked refusal lawful is range e) wants
+refusals_explained state request refusal lawful is range e wants =
+    ground_explains state request refusal (have_grounds state request refusal lawful is range e) wants

@@ -1,6 +1,6 @@
 -- When a change applies, and when it does not.
 use Rattle.camp_why.proofs.Words.{Bool, true, false, cond, ◌++◌, ◌+◌, ◌-◌, ◌≡◌, ◌≢◌, ◌≤◌, ◌<◌, ◌∙◌, ◌∷◌, ℕ, zero, suc, List, [], Option, Some, None, get, insert, ap, append_assoc, arith, bytes_eq, bytes_eq-Decides, drop, drop-drop, drop_all, drop_at, false≢true, length, length-append, length-drop, length-take-le, ltb-false, ltb-true, nat_lt, none-some, not, not-false, not-true, refl, same_Some, slice_get, slice_get_past, subst, sym, take, take-append-drop, Files, Lines, SplicesLines, Applies, InRange, Edit, Primitive, Add, Hunk, Remove, IsMisfit, find_misfit, other_line, Misfit, EndsBefore, FileIsThere, HasLines, NoFile, OtherLine}
-use Rattle.camp_why.specs.Misfits.{Edits, AreInFile, add_misfit, edit_misfit, ends_before, lacking, lacking_at, misfit_or, remove_misfit}
+use Rattle.camp_why.specs.Misfits.{AreInFile, Edits, add_misfit, edit_misfit, ends_before, lacking, lacking_at, misfit_or, remove_misfit}
 
 -- ---- lists from an index on
 
@@ -139,8 +139,8 @@ module _ (hunk : Edit) (tree : Files) (lines : Lines) (found : get tree hunk.pat
       alike at stands expected within is_expected (get_drop lines (hunk.line - 1) at ∙ is_there)
 
   -- a line differs
-  other_told : (why : Misfit) → FindsOther hunk.line hunk.old (drop (hunk.line - 1) lines) why → IsMisfit (Hunk hunk) tree why
-  other_told why finds =
+  other_is_misfit : (why : Misfit) → FindsOther hunk.line hunk.old (drop (hunk.line - 1) lines) why → IsMisfit (Hunk hunk) tree why
+  other_is_misfit why finds =
       let is_so : IsMisfit (Hunk hunk) tree (OtherLine (hunk.line + finds.before) finds.stands finds.expected) =
       record {
         hunk = hunk;
@@ -178,7 +178,7 @@ module _ (hunk : Edit) (tree : Files) (lines : Lines) (found : get tree hunk.pat
 
   by_lines : (other : Option Misfit) → Compares hunk.line hunk.old (drop (hunk.line - 1) lines) other
       → Verdict (Hunk hunk) tree (misfit_or other (ends_before hunk (length lines)))
-  by_lines (Some why) finds = other_told why finds
+  by_lines (Some why) finds = other_is_misfit why finds
   by_lines None none = by_end none (nat_lt (length lines) (hunk.line - 1 + length hunk.old)) refl
 
 verdict : (change : Primitive) (tree : Files) → Verdict change tree (find_misfit change tree)
@@ -201,8 +201,8 @@ verdict (Hunk hunk) tree = by (get tree hunk.path) refl
     by (Some lines) is =
         by_lines hunk tree lines is (other_line hunk.line hunk.old (drop (hunk.line - 1) lines)) (compares hunk.line hunk.old (drop (hunk.line - 1) lines))
 
-pub is_told : (change : Primitive) (tree : Files) (why : Misfit) → find_misfit change tree ≡ Some why → IsMisfit change tree why
-is_told change tree why e = subst (Verdict change tree) e (verdict change tree)
+pub is_misfit : (change : Primitive) (tree : Files) (why : Misfit) → find_misfit change tree ≡ Some why → IsMisfit change tree why
+is_misfit change tree why e = subst (Verdict change tree) e (verdict change tree)
 
 pub none_applies : (change : Primitive) (tree : Files) → InRange change → find_misfit change tree ≡ None → (next : Files) × Applies change tree next
 none_applies change tree range e = subst (Verdict change tree) e (verdict change tree) range

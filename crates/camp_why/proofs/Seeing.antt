@@ -37,15 +37,15 @@ is_nothing seen.Nothing = true
 is_nothing other = false
 
 -- the hint is true; if there is none, this holds
-record Says (k : FaultKind) (line : List ℕ) (Else : Type 0) (told : Hint) : Type 0 where
-  is_seen : IsSeen k line told
-  else_so : told ≡ seen.Nothing → Else
+record Says (k : FaultKind) (line : List ℕ) (Else : Type 0) (reported : Hint) : Type 0 where
+  is_seen : IsSeen k line reported
+  else_so : reported ≡ seen.Nothing → Else
 
 module _ (k : FaultKind) (line : List ℕ) {Else : Type 0} where
   -- by a test
-  tell : (test : Bool) (told other : Hint) → is_nothing told ≡ false → (test ≡ true → IsSeen k line told) → (test ≡ false → Says k line Else other) → Says k line Else (cond test told other)
-  tell true told other some holds fails = record { is_seen = holds refl; else_so = λ none. absurd (false≢true (sym some ∙ ap is_nothing none)) }
-  tell false told other some holds fails = fails refl
+  tell : (test : Bool) (reported other : Hint) → is_nothing reported ≡ false → (test ≡ true → IsSeen k line reported) → (test ≡ false → Says k line Else other) → Says k line Else (cond test reported other)
+  tell true reported other some holds fails = record { is_seen = holds refl; else_so = λ none. absurd (false≢true (sym some ∙ ap is_nothing none)) }
+  tell false reported other some holds fails = fails refl
 
   nothing : Else → Says k line Else seen.Nothing
   nothing so = record { is_seen = tt; else_so = λ none. so }
@@ -132,4 +132,4 @@ says kind.BadLine line = tell kind.BadLine line (is_cut line) seen.TooLong seen.
 says other line = nothing other line tt
 
 pub are_seen : HintsAreSeen
-are_seen = record { told = λ k line. (says k line).is_seen; none = λ k line. (says k line).else_so }
+are_seen = record { reported = λ k line. (says k line).is_seen; none = λ k line. (says k line).else_so }

@@ -1,7 +1,7 @@
 -- Changes that are made one after the other, up to the first that can't be made.
 use Rattle.std.specs.List.{AllByRecursion}
 use Rattle.camp_why.proofs.Words.{◌+◌, ◌≡◌, ◌∙◌, ◌∷◌, ℕ, suc, Bool, true, false, cond, List, [], length, take, slice_get, None, Some, Option, ap, arith, ltb-true, nat_lt, none-some, option_map_or, refl, subst, sym, get, Files, Lines, AppliesEach, Applies, Applies-from_applied, InRange, Primitive, applied, applied-from_Applies, path_of, find_misfit, Misfit, Err, Ok, Result}
-use Rattle.camp_why.proofs.Misfitting.{is_told, none_applies, not_applied}
+use Rattle.camp_why.proofs.Misfitting.{is_misfit, none_applies, not_applied}
 use Rattle.camp_call.specs.declared.replies.Refusal.{Refusal}
 use Rattle.camp_call.specs.declared.replies.Refusal.TheVariants.{DoesNotApply, TooLarge}
 use Rattle.camp_repo.specs.Steps.{changed, led_to, longest_file, then_from}
@@ -39,10 +39,10 @@ module _ (change : Primitive) (tree : Files) where
 
   by_reason : (reason : Option Misfit) → find_misfit change tree ≡ reason → Hinders (hindrance_or reason (made_long (path_of change) (applied change tree)))
   by_reason None is = in_tree (applied change tree) refl
-  by_reason (Some reason) is = is_told change tree reason is
+  by_reason (Some reason) is = is_misfit change tree reason is
 
-  pub hindrance_told : (why : Hindrance) → hindrance change tree ≡ Some why → IsHindrance change tree why
-  hindrance_told why e = subst Hinders e (by_reason (find_misfit change tree) refl)
+  pub is_hindrance : (why : Hindrance) → hindrance change tree ≡ Some why → IsHindrance change tree why
+  is_hindrance why e = subst Hinders e (by_reason (find_misfit change tree) refl)
 
 -- changes stop after this many others
 record StopsBehind (at : ℕ) (changes : List Primitive) (tree : Files) (stop : Stop) : Type 0 where
@@ -81,18 +81,18 @@ module _ (at : ℕ) (change : Primitive) (changes : List Primitive) (tree : File
       → StopsIn at (change ∷ changes) tree (stop_or (suc at) change h made (first_stop (suc (suc at)) changes))
   stop_by behind (Some why) is made led =
       let number : suc at ≡ suc (at + 0) = omega arith in
-      record { before = 0; numbered = number; met = tree; leads = refl; change = change; is = refl; of_file = refl; hinders = hindrance_told change tree why is }
+      record { before = 0; numbered = number; met = tree; leads = refl; change = change; is = refl; of_file = refl; hinders = is_hindrance change tree why is }
   stop_by behind None is None led = tt
   stop_by behind None is (Some next) led = stop_later next led (first_stop (suc (suc at)) changes next) (behind next)
 
-stop_told : (at : ℕ) (changes : List Primitive) (tree : Files) → StopsIn at changes tree (first_stop (suc at) changes tree)
-stop_told at [] tree = tt
-stop_told at (change ∷ changes) tree =
-    stop_by at change changes tree (stop_told (suc at) changes) (hindrance change tree) refl (applied change tree) refl
+is_stop_of : (at : ℕ) (changes : List Primitive) (tree : Files) → StopsIn at changes tree (first_stop (suc at) changes tree)
+is_stop_of at [] tree = tt
+is_stop_of at (change ∷ changes) tree =
+    stop_by at change changes tree (is_stop_of (suc at) changes) (hindrance change tree) refl (applied change tree) refl
 
 pub is_stop : (changes : List Primitive) (tree : Files) (stop : Stop) → first_stop 1 changes tree ≡ Some stop → IsStop changes tree stop
 is_stop changes tree stop e =
-    let behind : StopsBehind 0 changes tree stop = subst (StopsIn 0 changes tree) e (stop_told 0 changes tree) in
+    let behind : StopsBehind 0 changes tree stop = subst (StopsIn 0 changes tree) e (is_stop_of 0 changes tree) in
     let number : suc (0 + behind.before) ≡ suc behind.before = omega arith in
     record {
       before = behind.before;
@@ -130,7 +130,7 @@ applies_free : (change : Primitive) (tree next : Files) → applied change tree 
     → find_misfit change tree ≡ reason → reason ≡ None
 applies_free change tree next made None is = refl
 applies_free change tree next made (Some why) is =
-    absurd (not_applied change tree next why (is_told change tree why is) (Applies-from_applied change tree next made))
+    absurd (not_applied change tree next why (is_misfit change tree why is) (Applies-from_applied change tree next made))
 
 module _ (at : ℕ) (change : Primitive) (changes : List Primitive) (tree : Files) (refusal : Refusal) (range : InRange change)
     (behind : (next : Files) → changed changes next ≡ Err refusal → StopsWith (suc at) changes next refusal) where

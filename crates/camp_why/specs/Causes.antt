@@ -102,37 +102,37 @@ refusal_by (Stops stop) = refusal_at stop.why
 refusal_by other = TooLarge
 
 -- a repository has this number of branches, and its limits allow no more
-pub record FillsRepository (state : Contents) (asked : Call) (count most : ℕ) : Type 0 where
+pub record FillsRepository (state : Contents) (request : Call) (count most : ℕ) : Type 0 where
   pub new : List ℕ
   pub from : List ℕ
-  pub copies : asked ≡ call.Branch new from
+  pub copies : request ≡ call.Branch new from
   pub counts : count ≡ length state.branches
   pub limit : most ≡ state.limits.branches
   pub full : most ≤ count
 
 -- changes are recorded in a branch with these catches
-pub record RecordsIn (state : Contents) (asked : Call) (catches : List Catch) (changes : List Primitive) : Type 0 where
+pub record RecordsIn (state : Contents) (request : Call) (catches : List Catch) (changes : List Primitive) : Type 0 where
   pub branch : List ℕ
   pub name : List ℕ
-  pub records : asked ≡ call.Record branch name changes
+  pub records : request ≡ call.Record branch name changes
   pub has : Has state branch catches
 
 -- a branch has this number of changes, and with those of a record it would exceed its limit
-pub record FillsBranch (state : Contents) (asked : Call) (has more most : ℕ) : Type 0 where
+pub record FillsBranch (state : Contents) (request : Call) (has more most : ℕ) : Type 0 where
   pub catches : List Catch
   pub changes : List Primitive
-  pub in_branch : RecordsIn state asked catches changes
+  pub in_branch : RecordsIn state request catches changes
   pub counts : has ≡ length catches
   pub brings : more ≡ length changes
   pub limit : most ≡ state.limits.catches
   pub full : most < has + more
 
 -- a branch has this number of changes, and with those of a pull it would exceed its limit
-pub record FillsWithPull (state : Contents) (asked : Call) (has more most : ℕ) : Type 0 where
+pub record FillsWithPull (state : Contents) (request : Call) (has more most : ℕ) : Type 0 where
   pub from : List ℕ
   pub to : List ℕ
   pub names : Option (List (List ℕ))
-  pub pulls : asked ≡ call.Pull from to names
+  pub pulls : request ≡ call.Pull from to names
   pub theirs : List Catch
   pub ours : List Catch
   pub from_has : Has state from theirs
@@ -155,25 +155,25 @@ pub record IsLongAt (changes : List Primitive) (number : ℕ) (path : List ℕ) 
   pub long : has_long_side (Hunk hunk) ≡ true
 
 -- a record has such a change
-pub record HasLongSide (state : Contents) (asked : Call) (number : ℕ) (path : List ℕ) (old new : ℕ) : Type 0 where
+pub record HasLongSide (state : Contents) (request : Call) (number : ℕ) (path : List ℕ) (old new : ℕ) : Type 0 where
   pub catches : List Catch
   pub changes : List Primitive
-  pub in_branch : RecordsIn state asked catches changes
+  pub in_branch : RecordsIn state request catches changes
   pub is_long : IsLongAt changes number path old new
 
 -- the changes of a record stop at one of them, from the tree of their branch
-pub record StopsAt (state : Contents) (asked : Call) (stop : Stop) : Type 0 where
+pub record StopsAt (state : Contents) (request : Call) (stop : Stop) : Type 0 where
   pub catches : List Catch
   pub changes : List Primitive
-  pub in_branch : RecordsIn state asked catches changes
+  pub in_branch : RecordsIn state request catches changes
   pub tree : Files
   pub leads : LeadsTo catches tree
   pub is_stop : IsStop changes tree stop
 
 -- what a cause says of a call and a state is true
 abbrev pub IsSo : Contents → Call → Cause → Type 0
-IsSo state asked (FullRepository count most) = FillsRepository state asked count most
-IsSo state asked (FullBranch has more most) = FillsBranch state asked has more most
-IsSo state asked (FullWithPull has more most) = FillsWithPull state asked has more most
-IsSo state asked (LongSide change path old new) = HasLongSide state asked change path old new
-IsSo state asked (Stops stop) = StopsAt state asked stop
+IsSo state request (FullRepository count most) = FillsRepository state request count most
+IsSo state request (FullBranch has more most) = FillsBranch state request has more most
+IsSo state request (FullWithPull has more most) = FillsWithPull state request has more most
+IsSo state request (LongSide change path old new) = HasLongSide state request change path old new
+IsSo state request (Stops stop) = StopsAt state request stop

@@ -27,7 +27,7 @@ NeedsBranch (call.Names branch) name = branch ≡ name
 
 -- it names one that does not exist
 abbrev pub LacksBranch : Contents → Call → List ℕ → Type 0
-LacksBranch state asked name = NeedsBranch asked name × (catches_of state.branches name ≡ None)
+LacksBranch state request name = NeedsBranch request name × (catches_of state.branches name ≡ None)
 
 -- it creates a branch that exists
 abbrev pub MakesAgain : Contents → Call → List ℕ → Type 0
@@ -73,7 +73,7 @@ IsBlockedBy state other why = ⊥
 
 -- the refusal says why
 abbrev pub IsBlocked : Contents → Call → Refusal → Type 0
-IsBlocked state asked refusal = (why : Blocked) × (refusal_of why ≡ refusal) × IsBlockedBy state asked why
+IsBlocked state request refusal = (why : Blocked) × (refusal_of why ≡ refusal) × IsBlockedBy state request why
 
 -- a branch is pulled into itself
 abbrev pub PullsItself : Call → List ℕ → Type 0
@@ -82,20 +82,20 @@ PullsItself other name = ⊥
 
 -- what a refusal says of a call at a state is true
 abbrev pub IsGround : Contents → Call → Refusal → Type 0
-IsGround state asked (refusal.NoBranch name) = LacksBranch state asked name
-IsGround state asked (refusal.BranchExists name) = MakesAgain state asked name
-IsGround state asked (refusal.PatchExists name) = RecordsAgain state asked name
-IsGround state asked (refusal.NoPatch name) = LacksPatch state asked name
-IsGround state asked refusal.NothingToDo = DoesNothing state asked
-IsGround state asked refusal.TooLarge = IsExplained state asked refusal.TooLarge
-IsGround state asked refusal.DoesNotApply = IsExplained state asked refusal.DoesNotApply
-IsGround state asked (refusal.Depends patch on) = IsBlocked state asked (refusal.Depends patch on)
-IsGround state asked (refusal.Diverged name) = IsBlocked state asked (refusal.Diverged name)
-IsGround state asked (refusal.NoMerge left right) = IsBlocked state asked (refusal.NoMerge left right)
-IsGround state asked (refusal.SameBranch name) = PullsItself asked name
+IsGround state request (refusal.NoBranch name) = LacksBranch state request name
+IsGround state request (refusal.BranchExists name) = MakesAgain state request name
+IsGround state request (refusal.PatchExists name) = RecordsAgain state request name
+IsGround state request (refusal.NoPatch name) = LacksPatch state request name
+IsGround state request refusal.NothingToDo = DoesNothing state request
+IsGround state request refusal.TooLarge = IsExplained state request refusal.TooLarge
+IsGround state request refusal.DoesNotApply = IsExplained state request refusal.DoesNotApply
+IsGround state request (refusal.Depends patch on) = IsBlocked state request (refusal.Depends patch on)
+IsGround state request (refusal.Diverged name) = IsBlocked state request (refusal.Diverged name)
+IsGround state request (refusal.NoMerge left right) = IsBlocked state request (refusal.NoMerge left right)
+IsGround state request (refusal.SameBranch name) = PullsItself request name
 
 -- if a lawful state refuses a call, what its refusal says is true
 abbrev pub RefusalsHaveGrounds : Type 0
 RefusalsHaveGrounds =
-    (state : Contents) (asked : Call) (refusal : Refusal) → IsLawfulState state → IsCall asked → IsInRange asked →
-    step state asked ≡ refused refusal → IsGround state asked refusal
+    (state : Contents) (request : Call) (refusal : Refusal) → IsLawfulState state → IsCall request → IsInRange request →
+    step state request ≡ refused refusal → IsGround state request refusal

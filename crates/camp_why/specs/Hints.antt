@@ -307,5 +307,5 @@ ShowsNothing other line = Unit {0}
 
 -- for each kind and each line: the hint is true, and if there is none, none applies
 pub record HintsAreSeen : Type 0 where
-  pub told : (kind : FaultKind) (line : List ℕ) → IsSeen kind line (hint kind line)
+  pub reported : (kind : FaultKind) (line : List ℕ) → IsSeen kind line (hint kind line)
   pub none : (kind : FaultKind) (line : List ℕ) → hint kind line ≡ seen.Nothing → ShowsNothing kind line

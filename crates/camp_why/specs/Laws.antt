@@ -18,7 +18,7 @@ use Rattle.camp_why.specs.declared.misfits.Misfit.{Misfit}
 
 -- the reported reason is a true one, and if there is one, the change does not apply; if there is none, it applies
 pub record MisfitsAreReasons : Type 0 where
-  pub told : (change : Primitive) (tree : Files) (why : Misfit) → find_misfit change tree ≡ Some why → IsMisfit change tree why
+  pub reported : (change : Primitive) (tree : Files) (why : Misfit) → find_misfit change tree ≡ Some why → IsMisfit change tree why
   pub stand : (change : Primitive) (tree next : Files) (why : Misfit) → IsMisfit change tree why → ¬ (Applies change tree next)
   pub none : (change : Primitive) (tree : Files) → InRange change → find_misfit change tree ≡ None → (next : Files) × Applies change tree next
 
@@ -28,11 +28,11 @@ wants_cause (call.Record branch name changes) refusal = is_of_changes refusal
 wants_cause other refusal = is_of_limit refusal
 
 -- the reported cause is one of this refusal, and what it says is true
-pub record IsExplained (state : Contents) (asked : Call) (refusal : Refusal) : Type 0 where
+pub record IsExplained (state : Contents) (request : Call) (refusal : Refusal) : Type 0 where
   pub cause : Cause
-  pub told : explained state asked refusal ≡ Some cause
+  pub reported : explained state request refusal ≡ Some cause
   pub of : refusal_by cause ≡ refusal
-  pub is_so : IsSo state asked cause
+  pub is_so : IsSo state request cause
 
 -- the changes of a call are in range, as each change that a program holds is
 abbrev pub IsInRange : Call → Type 0
@@ -42,5 +42,5 @@ IsInRange other = Unit {0}
 -- if a call is refused at a state, and its refusal does not say it all, a cause is reported
 abbrev pub RefusalsAreExplained : Type 0
 RefusalsAreExplained =
-    (state : Contents) (asked : Call) (refusal : Refusal) → IsLawfulState state → IsCall asked → IsInRange asked →
-    step state asked ≡ refused refusal → wants_cause asked refusal ≡ true → IsExplained state asked refusal
+    (state : Contents) (request : Call) (refusal : Refusal) → IsLawfulState state → IsCall request → IsInRange request →
+    step state request ≡ refused refusal → wants_cause request refusal ≡ true → IsExplained state request refusal

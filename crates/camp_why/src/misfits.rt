@@ -1,7 +1,7 @@
 //! Why a change does not apply to a tree.
 ghost use Rattle.std.specs.Prelude.{◌≡◌, ◌-◌, IfOk, Some, drop};
 ghost use Rattle.camp_prim.specs.declared.primitives.Primitive.TheVariants.{Hunk as AHunk, Remove};
-ghost use Rattle.camp_why.specs.Misfits.{ends_before, other_line, find_misfit};
+ghost use Rattle.camp_why.specs.Misfits.{ends_before, find_misfit, other_line};
 
 use camp_base::{Line, Path, Tree};
 use camp_prim::{Hunk, Primitive};

@@ -4,10 +4,10 @@ ghost use Rattle.camp_prim.specs.Applied.{applied};
 ghost use Rattle.std.specs.FinMap.{get};
 ghost use Rattle.camp_why.specs.Stops.{first_stop, hindrance, long_file};
 
-use crate::misfits::{Misfit, find_misfit};
 use camp_base::{Apply, Path, Tree};
 use camp_prim::Primitive;
 use camp_repo::MAX_FILE_LINES;
+use crate::misfits::{Misfit, find_misfit};
 use std::alloc::AllocError;
 
 /// Where a record stops.
@@ -49,7 +49,7 @@ pub(crate) fn first_stop(tree: &Tree, changes: &[Primitive]) -> Result<Option<St
 
 // Makes a change to a tree, or returns why it can't be made.
 fn make(change: &Primitive, tree: &mut Tree) -> Result<Option<Hindrance>, AllocError>
-    ensures tells { IfOk result (λ found. found ≡ hindrance change.now tree.old) }
+    ensures reports { IfOk result (λ found. found ≡ hindrance change.now tree.old) }
     ensures makes { IfOk result (λ found. found ≡ None → applied change.now tree.old ≡ Some tree.new) }
 {
     let path = change.path();

@@ -44,17 +44,17 @@ module _ {B F Q A E H : Type 0} (backend : backends.Ghosts B Q A E) (framing : f
 
   -- requests were read and executed one after the other, where these bytes were pending; before each but the first the
   -- group might go on
-  abbrev pub Follows : GroupLimits → B → F → List ℕ → List (Step Q A) → B → F → Type 0
-  Follows limits before from pending [] after to = (before ≡ after) × (from ≡ to)
-  Follows limits before from pending (step ∷ steps) after to =
+  abbrev pub ExecutesInOrder : GroupLimits → B → F → List ℕ → List (Step Q A) → B → F → Type 0
+  ExecutesInOrder limits before from pending [] after to = (before ≡ after) × (from ≡ to)
+  ExecutesInOrder limits before from pending (step ∷ steps) after to =
       (next : B) × (on : F) × Executes before from step.request step.bytes (Ok step.response) next on
       × IfSteps steps (MayGoOn limits next on (pending ++ framing.renders step.response))
-      × Follows limits next on (pending ++ framing.renders step.response) steps after to
+      × ExecutesInOrder limits next on (pending ++ framing.renders step.response) steps after to
 
   -- requests were read and executed, and this is what is written for their responses
   pub record Gathered (limits : GroupLimits) (before : B) (from : F) (after : B) (to : F) (text : List ℕ) : Type 0 where
     pub steps : List (Step Q A)
-    pub follows : Follows limits before from [] steps after to
+    pub follows : ExecutesInOrder limits before from [] steps after to
     pub text_is : text ≡ responses steps
 
   -- a request was read and not executed, for this reason

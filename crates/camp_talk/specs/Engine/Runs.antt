@@ -1,7 +1,7 @@
 -- What a conversation did: groups of requests, each committed before its responses were written.
 use Rattle.std.specs.Prelude.{◌≡◌, ◌⊎◌, ◌-◌, ◌^◌, ℕ, List, [], ◌∷◌, length, Option, Result, Ok, Err, flat_map}
 use Rattle.std.specs.Io.KnownBytes.{Appends, Consumes, Keeps}
-use Rattle.camp_talk.specs.Engine.Groups.{Follows, HasSteps, IfSteps, RunsGroup, Step, responses}
+use Rattle.camp_talk.specs.Engine.Groups.{ExecutesInOrder, HasSteps, IfSteps, RunsGroup, Step, responses}
 use Rattle.camp_talk.specs.Talks.{AppendsSome}
 use Rattle.camp_talk.specs.declared.engine.backends.Backend as backends
 use Rattle.camp_talk.specs.declared.engine.framings.Framing as framings
@@ -21,21 +21,21 @@ module _ {B Q A E : Type 0} (backend : backends.Ghosts B Q A E) where
 -- what became of pending responses. Ok: the whole history is durable, and exactly they were written. Commit: the commit
 -- failed, and nothing was written. Write: the whole history is durable, and a prefix of them was written.
 module _ {B Q A E H : Type 0} (backend : backends.Ghosts B Q A E) where
-  abbrev pub Settles : B → List ℕ → Option (List ℕ) → Result (Unit {0}) (Stop E H) → B → Option (List ℕ) → Type 0
-  Settles before text old (Ok done) after new = IsCommitted backend before after × Appends old new text
-  Settles before text old (Err (stop.Commit why)) after new = backend.commits before (Err why) after × Keeps old new
-  Settles before text old (Err (stop.Write error)) after new = IsCommitted backend before after × AppendsSome old new text
-  Settles before text old (Err (stop.Read why)) after new = ⊥
-  Settles before text old (Err (stop.Execute why)) after new = ⊥
-  Settles before text old (Err stop.Memory) after new = ⊥
-  Settles before text old (Err stop.Internal) after new = ⊥
+  abbrev pub FlushesGroup : B → List ℕ → Option (List ℕ) → Result (Unit {0}) (Stop E H) → B → Option (List ℕ) → Type 0
+  FlushesGroup before text old (Ok done) after new = IsCommitted backend before after × Appends old new text
+  FlushesGroup before text old (Err (stop.Commit why)) after new = backend.commits before (Err why) after × Keeps old new
+  FlushesGroup before text old (Err (stop.Write error)) after new = IsCommitted backend before after × AppendsSome old new text
+  FlushesGroup before text old (Err (stop.Read why)) after new = ⊥
+  FlushesGroup before text old (Err (stop.Execute why)) after new = ⊥
+  FlushesGroup before text old (Err stop.Memory) after new = ⊥
+  FlushesGroup before text old (Err stop.Internal) after new = ⊥
 
 module _ {B F Q A E H : Type 0} (backend : backends.Ghosts B Q A E) (framing : framings.Ghosts F Q A H) (limits : GroupLimits) where
   -- groups of requests were read and executed, and each was committed before the next one; none is empty
   abbrev pub Commits : B → F → List (List (Step Q A)) → B → F → Type 0
   Commits before from [] after to = (before ≡ after) × (from ≡ to)
   Commits before from (steps ∷ groups) after to =
-      (executed next : B) × (on : F) × HasSteps steps × Follows backend framing limits before from [] steps executed on
+      (executed next : B) × (on : F) × HasSteps steps × ExecutesInOrder backend framing limits before from [] steps executed on
       × IsCommitted backend executed next × Commits next on groups after to
 
   -- groups were executed and committed, exactly the bytes of their requests were read, and exactly their responses were
@@ -56,7 +56,7 @@ module _ {B F Q A E H : Type 0} (backend : backends.Ghosts B Q A E) (framing : f
     pub executed : B
     pub text : List ℕ
     pub gathers : RunsGroup backend framing limits begun at why executed to text
-    pub settles : Settles backend executed text held result last new
+    pub flushes : FlushesGroup backend executed text held result last new
 
   -- it was that with any group
   pub record StopsAfterGroup (result : Result (Unit {0}) (Stop E H)) (first : B) (from : F) (old : Option (List ℕ)) (last : B) (to : F)

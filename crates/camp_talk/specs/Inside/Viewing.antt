@@ -8,14 +8,14 @@ use Rattle.camp_talk.specs.Views.{Sees, SeesAll}
 -- a command was read, whole or as far as the input has it, and its answer was appended
 pub record SeesStep (remaining rest : Option (List ℕ)) (old new : List ℕ) (state : Contents) (before : ℕ)
     (whole : Bool) (after : ℕ) : Type 0 where
-  pub said : Exchange
-  pub reads : ReadsCommand remaining rest whole said.command
-  pub sees : Sees state before said after
-  pub grows : new ≡ old ++ said.answer
+  pub exchange : Exchange
+  pub reads : ReadsCommand remaining rest whole exchange.command
+  pub sees : Sees state before exchange after
+  pub grows : new ≡ old ++ exchange.answer
 
 -- exactly these commands were read and answered so far
 pub record HasAnsweredView (request rest old new : List ℕ) (state : Contents) (lines : ℕ) : Type 0 where
-  pub said : List Exchange
-  pub sees : SeesAll state 0 said lines
-  pub reads : request ≡ flat_map (λ exchange. exchange.command) said ++ rest
-  pub writes : new ≡ old ++ flat_map (λ exchange. exchange.answer) said
+  pub exchanges : List Exchange
+  pub sees : SeesAll state 0 exchanges lines
+  pub reads : request ≡ flat_map (λ exchange. exchange.command) exchanges ++ rest
+  pub writes : new ≡ old ++ flat_map (λ exchange. exchange.answer) exchanges

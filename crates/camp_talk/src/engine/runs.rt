@@ -1,6 +1,6 @@
 //! Conversations.
 ghost use Rattle.std.specs.Prelude.{◌≡◌, [], Err, MatchResult, OnOk};
-ghost use Rattle.camp_talk.specs.Engine.Runs.{IsCommitted, ResponsesAreDurable, RunsAll, Settles};
+ghost use Rattle.camp_talk.specs.Engine.Runs.{FlushesGroup, IsCommitted, ResponsesAreDurable, RunsAll};
 
 use crate::engine::groups::{Halt, gather};
 use crate::engine::{Backend, Framing, GroupLimits};
@@ -41,7 +41,7 @@ pub fn run<Q: Drop, A: Drop, B: Backend<Q, A>, F: Framing<Q, A>, W: Write>(
     let mut pending = Vec::new(alloc);
     for _ in 0..u64::MAX {
         let halt = gather(backend, framing, &mut pending, limits);
-        if let Err(fault) = settle(backend, &mut pending, writer) {
+        if let Err(fault) = commit_and_write(backend, &mut pending, writer) {
             return Err(fault);
         }
         match halt {
@@ -57,12 +57,12 @@ pub fn run<Q: Drop, A: Drop, B: Backend<Q, A>, F: Framing<Q, A>, W: Write>(
 
 // Commits, unless nothing is waiting, and then writes what is pending and flushes. If the commit fails nothing is
 // written.
-fn settle<Q, A, H, B: Backend<Q, A>, W: Write>(
+fn commit_and_write<Q, A, H, B: Backend<Q, A>, W: Write>(
     backend: &mut B,
     pending: &mut Vec<u8>,
     writer: &mut W,
 ) -> Result<(), Stop<B::Fault, H>>
-    ensures settles { Settles B.Backend backend.old pending.old.items (W.contents writer.old) result backend.new (W.contents writer.new) }
+    ensures flushes { FlushesGroup B.Backend backend.old pending.old.items (W.contents writer.old) result backend.new (W.contents writer.new) }
     ensures empty { OnOk result (pending.new.items ≡ []) }
 {
     if let Err(why) = commit_waiting(backend) {

@@ -8,14 +8,14 @@ returns-in-Ok-clause-serves g c durable front holds =
     let old = c.args.kept.now in
     let serves = rw (c.in-Ok-true.field-0-test, c.new-frame.ensures.items) at c.in-Ok-true.ensures.serves in
     serves_so g.D.Disk.seen g.D.Disk.may_leave durable _ _ (g.W.Write.contents c.args.writer.now) old (record old { book = c.serve.new.book }) _ refl refl front holds
-    serves c.settle.new.kept c.settle.ensures.book c.settle.new.held.items (g.W.Write.contents c.settle.new.writer) c.in-Ok.field-0 c.in-Ok.ensures.settles
+    serves c.commit_and_flush.new.kept c.commit_and_flush.ensures.book c.commit_and_flush.new.held.items (g.W.Write.contents c.commit_and_flush.new.writer) c.in-Ok.field-0 c.in-Ok.ensures.flushes
 
 pub returns-in-Ok-true-clause-serves : goal.returns-in-Ok-true-clause-serves
 returns-in-Ok-true-clause-serves g c durable front holds =
     let old = c.args.kept.now in
     let serves = rw (c.in-Ok-true.field-0-test, c.new-frame.ensures.items) at c.in-Ok-true.ensures.serves in
     serves_not g.D.Disk.seen g.D.Disk.may_leave durable _ _ (g.W.Write.contents c.args.writer.now) old (record old { book = c.serve.new.book }) _ refl refl front holds
-    serves c.settle.new.kept c.settle.ensures.book c.settle.new.held.items (g.W.Write.contents c.settle.new.writer) c.in-Err-settle.fault c.in-Err-settle.ensures.settles
+    serves c.commit_and_flush.new.kept c.commit_and_flush.ensures.book c.commit_and_flush.new.held.items (g.W.Write.contents c.commit_and_flush.new.writer) c.in-Err-commit_and_flush.fault c.in-Err-commit_and_flush.ensures.flushes
 
 pub returns-in-Ok-false-clause-serves : goal.returns-in-Ok-false-clause-serves
 returns-in-Ok-false-clause-serves g c durable front holds =

@@ -1,7 +1,7 @@
-use Rattle.camp_talk.specs.Accounts.{Account, no_diagnostic}
+use Rattle.camp_talk.specs.Diagnostics.{Diagnostic, no_diagnostic}
 use Rattle.std.proofs.Common.{◌≡◌, ◌∙◌, ℕ, Bool, true, false, List, Ok, refl, rules, subst, sym}
 use Rattle.std.specs.Io.Buffered.{reader_remaining}
-use Rattle.camp_kept_talk.specs.Going.{AfterStep, BuffersAnswers}
+use Rattle.camp_kept_talk.specs.Buffering.{AfterStep, BuffersAnswers}
 use Rattle.camp_kept_talk.proofs.Leading.{at, begins, talk_stops}
 use Rattle.camp_kept_talk.proofs.Stopping.{stays_begun, stays_on}
 use Rattle.camp_kept_talk.proofs.talks.talk_kept.Goals as goal
@@ -14,10 +14,10 @@ loop-held-init g c = (
       let kept = c.args.kept.now in
       subst
       (λ (lines : ℕ). BuffersAnswers g.D.Disk.seen g.D.Disk.may_leave durable a a now now c.new-held.result.answers.items (at kept.book 0 no_diagnostic)
-      (at kept.book lines c.new-held.result.cause) kept)
+      (at kept.book lines c.new-held.result.diagnostic) kept)
       (sym c.new-held.ensures.first)
-      (subst (λ (cause : Account). BuffersAnswers g.D.Disk.seen g.D.Disk.may_leave durable a a now now c.new-held.result.answers.items (at kept.book 0 no_diagnostic) (at kept.book 0 cause) kept)
-      (sym c.new-held.ensures.cause)
+      (subst (λ (diagnostic : Diagnostic). BuffersAnswers g.D.Disk.seen g.D.Disk.may_leave durable a a now now c.new-held.result.answers.items (at kept.book 0 no_diagnostic) (at kept.book 0 diagnostic) kept)
+      (sym c.new-held.ensures.diagnostic)
       (subst (λ (held : List ℕ). BuffersAnswers g.D.Disk.seen g.D.Disk.may_leave durable a a now now held (at kept.book 0 no_diagnostic) (at kept.book 0 no_diagnostic) kept)
       (sym c.new-held.ensures.none) (begins g.D.Disk.seen g.D.Disk.may_leave durable a now now (at kept.book 0 no_diagnostic) kept 0 no_diagnostic front holds))),
   refl,
@@ -32,10 +32,10 @@ loop-held-preserved g c =
           (λ (more : Bool). AfterStep g.D.Disk.seen g.D.Disk.may_leave durable (reader_remaining g.R.Read.remaining c.args.reader.now)
           (reader_remaining g.R.Read.remaining c.take_stored_step.new.reader) (g.W.Write.contents c.args.writer.now)
           (g.W.Write.contents c.take_stored_step.new.writer) c.take_stored_step.new.held.answers.items
-          (record { history = c.args.kept.now.book; lines = 0; cause = no_diagnostic })
-          (record { history = c.take_stored_step.new.kept.book; lines = c.take_stored_step.new.held.lines; cause = c.take_stored_step.new.held.cause }) (Ok more) c.take_stored_step.new.kept) more
-          (c.in_ok-take_stored_step.ensures.goes durable (reader_remaining g.R.Read.remaining c.args.reader.now) (g.W.Write.contents c.args.writer.now)
-          (record { history = c.args.kept.now.book; lines = 0; cause = no_diagnostic }) (c.loop-held.invariant.0 durable front holds)),
+          (record { history = c.args.kept.now.book; lines = 0; diagnostic = no_diagnostic })
+          (record { history = c.take_stored_step.new.kept.book; lines = c.take_stored_step.new.held.lines; diagnostic = c.take_stored_step.new.held.diagnostic }) (Ok more) c.take_stored_step.new.kept) more
+          (c.in_ok-take_stored_step.ensures.buffers durable (reader_remaining g.R.Read.remaining c.args.reader.now) (g.W.Write.contents c.args.writer.now)
+          (record { history = c.args.kept.now.book; lines = 0; diagnostic = no_diagnostic }) (c.loop-held.invariant.0 durable front holds)),
       search rules,
       λ stopped.
           let stays = c.loop-held.invariant.2 stopped in
@@ -50,7 +50,7 @@ returns-in_err-take_stored_step-clause-promises g c durable front holds =
     let now = g.W.Write.contents c.args.writer.now in
     let first = at c.args.kept.now.book 0 no_diagnostic in
     talk_stops g.D.Disk.seen g.D.Disk.may_leave durable a (reader_remaining g.R.Read.remaining c.take_stored_step.new.reader) now (g.W.Write.contents c.take_stored_step.new.writer) first
-    c.take_stored_step.new.kept c.from_residual.result c.in_err-take_stored_step.field-0.0 c.from_residual.ensures.1 (c.in_err-take_stored_step.ensures.goes durable a now first (c.loop-held.invariant.0 durable front holds))
+    c.take_stored_step.new.kept c.from_residual.result c.in_err-take_stored_step.field-0.0 c.from_residual.ensures.1 (c.in_err-take_stored_step.ensures.buffers durable a now first (c.loop-held.invariant.0 durable front holds))
 
 pub returns-clause-promises : goal.returns-clause-promises
 returns-clause-promises g c durable front holds =
@@ -58,7 +58,7 @@ returns-clause-promises g c durable front holds =
     subst
     (λ (more : Bool). AfterStep g.D.Disk.seen g.D.Disk.may_leave durable (reader_remaining g.R.Read.remaining c.args.reader.now)
     (reader_remaining g.R.Read.remaining c.take_stored_step.new.reader) (g.W.Write.contents c.args.writer.now)
-    (g.W.Write.contents c.take_stored_step.new.writer) c.take_stored_step.new.held.answers.items (record { history = c.args.kept.now.book; lines = 0; cause = no_diagnostic })
-    (record { history = c.take_stored_step.new.kept.book; lines = c.take_stored_step.new.held.lines; cause = c.take_stored_step.new.held.cause }) (Ok more) c.take_stored_step.new.kept) none
-    (c.in_ok-take_stored_step.ensures.goes durable (reader_remaining g.R.Read.remaining c.args.reader.now) (g.W.Write.contents c.args.writer.now)
-    (record { history = c.args.kept.now.book; lines = 0; cause = no_diagnostic }) (c.loop-held.invariant.0 durable front holds))
+    (g.W.Write.contents c.take_stored_step.new.writer) c.take_stored_step.new.held.answers.items (record { history = c.args.kept.now.book; lines = 0; diagnostic = no_diagnostic })
+    (record { history = c.take_stored_step.new.kept.book; lines = c.take_stored_step.new.held.lines; diagnostic = c.take_stored_step.new.held.diagnostic }) (Ok more) c.take_stored_step.new.kept) none
+    (c.in_ok-take_stored_step.ensures.buffers durable (reader_remaining g.R.Read.remaining c.args.reader.now) (g.W.Write.contents c.args.writer.now)
+    (record { history = c.args.kept.now.book; lines = 0; diagnostic = no_diagnostic }) (c.loop-held.invariant.0 durable front holds))

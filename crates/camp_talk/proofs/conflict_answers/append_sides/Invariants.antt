@@ -1,5 +1,5 @@
 use Rattle.camp_talk.proofs.Words.{◌≡◌, ◌++◌, take, flat_map}
-use Rattle.camp_talk.specs.Told.{side_text}
+use Rattle.camp_talk.specs.QuestionAnswers.{side_text}
 use Rattle.camp_talk.proofs.conflict_answers.append_sides.Given as goal
 
 abbrev pub invariant-loop-side : goal.invariant-loop-side

@@ -1,5 +1,5 @@
-use Rattle.camp_talk.proofs.CutOff.{faults_told}
+use Rattle.camp_talk.proofs.CutOff.{faults_described}
 use Rattle.camp_talk.proofs.laws.faults_are_described.Goals as goal
 
 pub returns : goal.returns
-returns c = record { law = faults_told }
+returns c = record { law = faults_described }

@@ -1,7 +1,7 @@
 use Rattle.std.proofs.lemmas.Fn.{filter_same}
 use Rattle.std.specs.Prelude.{filter}
 use Rattle.camp_talk.proofs.Words.{rules, ◌∙◌, ap}
-use Rattle.camp_talk.specs.Against.{holds}
+use Rattle.camp_talk.specs.Obstacles.{holds}
 use Rattle.camp_talk.proofs.obstacle_reports.holders.Goals as goal
 
 pub returns : goal.returns

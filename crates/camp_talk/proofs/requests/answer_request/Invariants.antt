@@ -1,11 +1,11 @@
-use Rattle.camp_talk.specs.Accounts.{no_diagnostic}
-use Rattle.camp_talk.proofs.Words.{Holds, Some, ◌-◌, ◌^◌}
+use Rattle.camp_talk.specs.Diagnostics.{no_diagnostic}
+use Rattle.camp_talk.proofs.Words.{HasAnswered, Some, ◌-◌, ◌^◌}
 use Rattle.camp_talk.proofs.requests.answer_request.Given as goal
 
-abbrev pub invariant-loop-cause : goal.invariant-loop-cause
-invariant-loop-cause l =
-    Holds (Some l.initial.reader) (Some l.reader) (Some l.initial.answer.items) (Some l.answer.items)
-    (record { history = l.initial.book; lines = 0; cause = no_diagnostic }) (record { history = l.book; lines = l.lines; cause = l.cause })
+abbrev pub invariant-loop-diagnostic : goal.invariant-loop-diagnostic
+invariant-loop-diagnostic l =
+    HasAnswered (Some l.initial.reader) (Some l.reader) (Some l.initial.answer.items) (Some l.answer.items)
+    (record { history = l.initial.book; lines = 0; diagnostic = no_diagnostic }) (record { history = l.book; lines = l.lines; diagnostic = l.diagnostic })
 
-abbrev pub decreases-loop-cause : goal.decreases-loop-cause
-decreases-loop-cause l = 2 ^ 64 - l.lines
+abbrev pub decreases-loop-diagnostic : goal.decreases-loop-diagnostic
+decreases-loop-diagnostic l = 2 ^ 64 - l.lines

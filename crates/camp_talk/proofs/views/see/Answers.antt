@@ -14,9 +14,9 @@ returns-in-Ok-shown-clause-sees g c =
     let shown = c.in-Ok-shown.ensures.shows in
     let lines : length (lines_of command.bytes.items) ≡ length (lines_of read.command) =
     ap (λ (ls : List (List ℕ)). length ls) read.lines ∙ length-map (lines_of read.command) as_read in
-    let gives = subst (λ (ls : List (List ℕ)). Gives command.asked (parsed_lines ls)) read.lines c.in-Ok.ensures.asked in
+    let gives = subst (λ (ls : List (List ℕ)). Gives command.parsed (parsed_lines ls)) read.lines c.in-Ok.ensures.parsed in
     record {
-      said = record { command = read.command; answer = shown.0 };
+      exchange = record { command = read.command; answer = shown.0 };
       reads = read.reads;
       sees = record {
         shows = shown.2 (parsed_lines (lines_in read.command)) gives;

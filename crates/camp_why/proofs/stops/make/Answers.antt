@@ -10,8 +10,8 @@ unreachable-requires c =
     let (next, applies) = none_applies c.args.change.now c.args.tree.now c.path-path.ensures.in_range free in
     never.0 next applies
 
-pub returns-clause-tells : goal.returns-clause-tells
-returns-clause-tells c =
+pub returns-clause-reports : goal.returns-clause-reports
+returns-clause-reports c =
     let free = sym c.in_ok-why.ensures.exact ∙ c.in_default.is in
     made_so c.args.change.now c.args.tree.now c.apply.new.tree free c.in-Ok.ensures.exact c.path-path.result.now c.path-path.ensures.value c.long_file.result c.long_file.ensures
 

@@ -11,16 +11,16 @@ use denote.Param.Send.{IsSend, AllSend, owning_send, struct_send, sendable}
 use Rattle.std.proofs.Crossing as heap
 use Rattle.std_alloc.proofs.SendSync.{quiet, lies}
 use Rattle.std_heap.proofs.Global.TheSendSync as handle
-use Rattle.camp_c.specs.contracts.kept.Kept as Kept
-use Rattle.camp_c.proofs.kept.Kept.TheSendSync.{the_send as kept_send}
+use Rattle.camp_c.specs.contracts.objects.OpenObject as OpenObject
+use Rattle.camp_c.proofs.objects.OpenObject.TheSendSync.{the_send as object_send}
 use Rattle.camp_c.specs.contracts.handles.Keeper.{the_row, the_type}
 
-kept : (a : Global) (p : Ptr) (s : Option Kept.the_row.Denot) → Keyless (keeper_owns a p s)
-kept a p (Some x) = (lies Kept.the_row kept_send p x, heap.frees.frees a (raw (lone Kept.the_row.mir)) p)
-kept a p None = tt
+keyless_object : (a : Global) (p : Ptr) (s : Option OpenObject.the_row.Denot) → Keyless (keeper_owns a p s)
+keyless_object a p (Some x) = (lies OpenObject.the_row object_send p x, heap.frees.frees a (raw (lone OpenObject.the_row.mir)) p)
+keyless_object a p None = tt
 
 pub send : IsSend the_row
 send =
     let all : AllSend (fields the_type) = (search sendable, (handle.the_field_send, tt)) in
-    owning_send the_type all (λ k. kept k.alloc k.at k.held)
+    owning_send the_type all (λ k. keyless_object k.alloc k.at k.held)
     (λ k. quiet (to the_type) (exits_of k (fields the_type)) ((struct_send (shape the_type) all).leaving k))

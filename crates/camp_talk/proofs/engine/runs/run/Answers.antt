@@ -8,12 +8,12 @@ loop-init g c = (run_begins g.B.Backend g.F.Framing c.args.limits c.args.backend
 pub returns-in-Err : goal.returns-in-Err
 returns-in-Err g c =
     run_stops g.B.Backend g.F.Framing c.args.limits c.args.backend.now c.args.framing.now (g.W.Write.contents c.args.writer.now) _ _ _ c.loop.invariant.0.0 _ _ _ _ _
-    c.gather-halt.result c.gather-halt.ensures c.in-Err.fault c.in-Err.ensures.settles
+    c.gather-halt.result c.gather-halt.ensures c.in-Err.fault c.in-Err.ensures.flushes
 
 pub loop-preserved : goal.loop-preserved
 loop-preserved g c = (
   run_goes_on g.B.Backend g.F.Framing c.args.limits c.args.backend.now c.args.framing.now (g.W.Write.contents c.args.writer.now) _ _ _ c.loop.invariant.0.0 _ _ _ _ _
-      c.loop.counter c.loop.invariant.0.1 c.in-Pause.ensures c.in_default.field-0 c.in_default.ensures.settles,
+      c.loop.counter c.loop.invariant.0.1 c.in-Pause.ensures c.in_default.field-0 c.in_default.ensures.flushes,
   search rules,
 )
 

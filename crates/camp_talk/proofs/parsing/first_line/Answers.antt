@@ -1,5 +1,5 @@
 use Rattle.camp_talk.proofs.Words.{List, ℕ, map, sym, ap, ◌∙◌, lines_without_end, first_of, without_end}
-use Rattle.camp_talk.proofs.asking.first_line.Goals as goal
+use Rattle.camp_talk.proofs.parsing.first_line.Goals as goal
 
 pub returns-in-Some : goal.returns-in-Some
 returns-in-Some c = record {

@@ -2,7 +2,7 @@
 ghost use Rattle.std.specs.Prelude.{◌≡◌, [], Err, false, MatchResult};
 ghost use Rattle.std.specs.Io.KnownBytes.{Appends};
 ghost use Rattle.camp_kept.specs.Keeping.{disk_in, may_commit};
-ghost use Rattle.camp_kept_talk.specs.Going.{IsUnwritten, Settles};
+ghost use Rattle.camp_kept_talk.specs.Buffering.{FlushesAnswers, IsUnwritten};
 ghost use Rattle.camp_kept_talk.specs.Stopping.{CountsStored, stopped_fault};
 ghost use Rattle.camp_talk.specs.Talks.{AppendsSome};
 
@@ -14,14 +14,14 @@ use std::io::Write;
 
 /// Persists all accepted calls, and then writes the buffered answers, and flushes them. If the calls are not
 /// persisted, nothing is written.
-#[tactic(auto, using(crate::proofs::Leading::settles_so))]
-pub(crate) fn settle<D: Disk, W: Write>(
+#[tactic(auto, using(crate::proofs::Leading::flushes_so))]
+pub(crate) fn commit_and_flush<D: Disk, W: Write>(
     alloc: Global,
     kept: &mut Kept<D>,
     held: &mut Vec<u8>,
     writer: &mut W,
 ) -> Result<(), StoredFault>
-    ensures settles { Settles D.Disk.seen D.Disk.may_leave kept.old held.old.items (W.contents writer.old) result kept.new held.new.items (W.contents writer.new) }
+    ensures flushes { FlushesAnswers D.Disk.seen D.Disk.may_leave kept.old held.old.items (W.contents writer.old) result kept.new held.new.items (W.contents writer.new) }
     ensures stopped { may_commit kept.old ≡ false → (result ≡ Err stopped_fault) × (kept.new ≡ kept.old) × (writer.new ≡ writer.old) }
     ensures faults { CountsStored result (D.Disk.faults (disk_in kept.old)) (D.Disk.faults (disk_in kept.new)) }
     ensures book { kept.new.book ≡ kept.old.book }

@@ -50,15 +50,15 @@ abbrev pub counted : List ℕ → List ℕ → List ℕ
 counted word text = word ++ space ∷ decimal (length (lines_of text)) ++ newline ∷ text
 
 -- the text of the result of a question: its answer, or its refusal as that of a call
-abbrev pub told : {A : Type 0} → (A → List ℕ) → AnswerOf A → List ℕ
-told text_of (Ok answer) = text_of answer
-told text_of (Err refusal) = reply_text (Refused refusal)
+abbrev pub answer_or_refusal : {A : Type 0} → (A → List ℕ) → AnswerOf A → List ℕ
+answer_or_refusal text_of (Ok answer) = text_of answer
+answer_or_refusal text_of (Err refusal) = reply_text (Refused refusal)
 
 -- this text reports the result of a question
-pub record RendersAnswer {A : Type 0} (text_of : A → List ℕ) (ComesTo : AnswerOf A → Type 0) (text : List ℕ) : Type 0 where
+pub record RendersAnswer {A : Type 0} (text_of : A → List ℕ) (IsAnswer : AnswerOf A → Type 0) (text : List ℕ) : Type 0 where
   pub answer : AnswerOf A
-  pub comes : ComesTo answer
-  pub tells : text ≡ told text_of answer
+  pub is_answer : IsAnswer answer
+  pub reports : text ≡ answer_or_refusal text_of answer
 
 -- names after the word of a command, each on a line
 abbrev pub names_answer : List ℕ → List (List ℕ) → List ℕ

@@ -11,8 +11,8 @@ use Rattle.camp_script.specs.declared.faults.FaultKind.TheVariants.{BadNumber, U
 use Rattle.camp_script.specs.declared.faults.LineFault.{LineFault}
 use Rattle.camp_talk.specs.Help.{commands, example}
 use Rattle.camp_talk.specs.Refusals.{number_of, reasons}
-use Rattle.camp_talk.specs.declared.questions.Asked.{Asked}
-use Rattle.camp_talk.specs.declared.questions.Asked.TheVariants as asked
+use Rattle.camp_talk.specs.declared.questions.ParsedCommand.{ParsedCommand}
+use Rattle.camp_talk.specs.declared.questions.ParsedCommand.TheVariants as parsed
 use Rattle.camp_talk.specs.declared.questions.Reason.{Reason}
 use Rattle.camp_talk.specs.declared.questions.Question.{Question}
 use Rattle.camp_talk.specs.declared.questions.Question.TheVariants as question
@@ -157,27 +157,27 @@ call_in ([] ∷ []) = Ok None
 call_in sections = fault_at 1 UnknownCommand
 
 -- the parsed command of a call, if there is one
-abbrev pub parsed_call : Option Call → Asked
-parsed_call None = asked.Nothing
-parsed_call (Some call) = asked.Call call
+abbrev pub parsed_call : Option Call → ParsedCommand
+parsed_call None = parsed.Nothing
+parsed_call (Some call) = parsed.Call call
 
 -- the parsed command of a script
-abbrev pub parsed_script : List (List Call) → Result Asked LineFault
+abbrev pub parsed_script : List (List Call) → Result ParsedCommand LineFault
 parsed_script script = call_in script >>= λ call. Ok (parsed_call call)
 
 -- the question what a call would do; there must be one
-abbrev pub foreseen_call : Option Call → Result Asked LineFault
+abbrev pub foreseen_call : Option Call → Result ParsedCommand LineFault
 foreseen_call None = fault_at 1 UnknownCommand
-foreseen_call (Some call) = Ok (asked.Question (question.WhatIf call))
+foreseen_call (Some call) = Ok (parsed.Question (question.WhatIf call))
 
 -- the parsed command of a script after `whatif`
-abbrev pub foreseen_in : List (List Call) → Result Asked LineFault
+abbrev pub foreseen_in : List (List Call) → Result ParsedCommand LineFault
 foreseen_in script = call_in script >>= foreseen_call
 
 -- the parsed command if the first word is not `whatif`: a question, or else the call of a script
-abbrev pub question_or_call : Result (List (List Call)) LineFault → Option Question → Result Asked LineFault
+abbrev pub question_or_call : Result (List (List Call)) LineFault → Option Question → Result ParsedCommand LineFault
 question_or_call script None = script >>= parsed_script
-question_or_call script (Some question) = Ok (asked.Question question)
+question_or_call script (Some question) = Ok (parsed.Question question)
 
 -- a word asks for the diagnostic of the last fault or refusal; if that is a carriage return at the end of a line, it
 -- has one too
@@ -185,11 +185,11 @@ abbrev pub is_why : List ℕ → Bool
 is_why word = bytes_eq word (codes "why") || bytes_eq word (codes "why\r")
 
 -- this question, if no word follows
-abbrev pub why_of : List (List ℕ) → Result Asked LineFault
-why_of words = no_words 1 words >>= λ none. Ok asked.Why
+abbrev pub why_of : List (List ℕ) → Result ParsedCommand LineFault
+why_of words = no_words 1 words >>= λ none. Ok parsed.Why
 
 -- the parsed command, by the words of a first line, and the script of its call
-abbrev pub parsed_words : List (List ℕ) → Result (List (List Call)) LineFault → Result Asked LineFault
+abbrev pub parsed_words : List (List ℕ) → Result (List (List Call)) LineFault → Result ParsedCommand LineFault
 parsed_words [] script = script >>= parsed_script
 parsed_words (word ∷ words) script =
     if bytes_eq word (codes "whatif") then (script >>= foreseen_in)
@@ -197,9 +197,9 @@ parsed_words (word ∷ words) script =
     else (question_of word words >>= question_or_call script))
 
 -- the parsed command of these lines, or their fault
-abbrev pub parsed_lines : List (List ℕ) → Result Asked LineFault
+abbrev pub parsed_lines : List (List ℕ) → Result ParsedCommand LineFault
 parsed_lines lines = parsed_words (words_of (first_of lines)) (script_in lines)
 
 -- the parsed command of bytes, or their fault
-abbrev pub parsed_command : List ℕ → Result Asked LineFault
+abbrev pub parsed_command : List ℕ → Result ParsedCommand LineFault
 parsed_command command = parsed_lines (lines_in command)

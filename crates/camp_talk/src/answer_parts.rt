@@ -4,8 +4,8 @@ ghost use Rattle.std.specs.List.{flat_map};
 ghost use Rattle.camp_script.specs.Texts.{reply_text};
 ghost use Rattle.camp_questions.specs.declared.faults.Unanswered.TheVariants as fault;
 ghost use Rattle.camp_call.specs.declared.replies.Reply.TheVariants as reply;
-ghost use Rattle.camp_call.specs.declared.replies.Refusal.{Refusal as SaidRefusal};
-ghost use Rattle.camp_talk.specs.Told.{counted};
+ghost use Rattle.camp_call.specs.declared.replies.Refusal.{Refusal as SpecRefusal};
+ghost use Rattle.camp_talk.specs.QuestionAnswers.{counted};
 
 use crate::readings::count_lines;
 use camp_questions::Unanswered;
@@ -74,7 +74,7 @@ pub(crate) fn append_parts(text: &mut Vec<u8>, parts: &[&[u8]]) -> Result<(), Al
 
 /// Renders the refusal of a question without an answer. Out of memory has no text.
 pub(crate) fn unanswered(alloc: Global, why: Unanswered) -> Result<Vec<u8>, AllocError>
-    ensures { IfOk result (λ text. (refusal : SaidRefusal) × (why ≡ fault.Refused refusal) × (text.items ≡ reply_text (reply.Refused refusal))) }
+    ensures { IfOk result (λ text. (refusal : SpecRefusal) × (why ≡ fault.Refused refusal) × (text.items ≡ reply_text (reply.Refused refusal))) }
 {
     match why {
         Unanswered::Refused(refusal) => answer_text(alloc, &Ok(Reply::Refused(refusal))),

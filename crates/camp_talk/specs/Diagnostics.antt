@@ -3,14 +3,14 @@ use Rattle.std.specs.Prelude.{ℕ, Bool, true, false, ◌||◌, ◌==◌, List, 
 use Rattle.camp_script.specs.Behind.{behind_word}
 use Rattle.camp_script.specs.Lines.{words_of}
 use Rattle.camp_script.specs.Pieces.{begins_edit, begins_with}
-use Rattle.camp_talk.specs.declared.awaited.Awaited.{Awaited}
-use Rattle.camp_talk.specs.declared.awaited.Awaited.TheVariants.{Body, Group, GroupBody, Nothing, Signed}
+use Rattle.camp_talk.specs.declared.recovery.Recovery.{Recovery}
+use Rattle.camp_talk.specs.declared.recovery.Recovery.TheVariants.{Body, Group, GroupBody, Nothing, Signed}
 use Rattle.camp_why.specs.Hints.{begins_signed, call_part, first_word}
 
 -- ---- the lines of a command that was cut off
 
 -- a line of the cut-off command may still come
-abbrev pub is_recovering : Awaited → Bool
+abbrev pub is_recovering : Recovery → Bool
 is_recovering Nothing = false
 is_recovering Signed = true
 is_recovering Body = true
@@ -18,7 +18,7 @@ is_recovering Group = true
 is_recovering GroupBody = true
 
 -- a line may be one of it
-abbrev pub may_be : Awaited → List ℕ → Bool
+abbrev pub may_be : Recovery → List ℕ → Bool
 may_be Nothing line = false
 may_be Signed line = begins_signed line
 may_be Body line = true
@@ -27,7 +27,7 @@ may_be GroupBody line = true
 
 -- the lines that may come after a line: as in a command that is not cut off, a body ends with `end`, and a group with
 -- `done`
-abbrev pub recovery_after : Awaited → List ℕ → Awaited
+abbrev pub recovery_after : Recovery → List ℕ → Recovery
 recovery_after Nothing line = Nothing
 recovery_after Signed line = Body
 recovery_after Body line = if bytes_eq line (codes "end") then Nothing else Body
@@ -69,7 +69,7 @@ abbrev pub is_edit : List ℕ → Bool
 is_edit word = is_form (codes "edit") (codes "Edit") (codes "EDIT") word
 
 -- the lines that follow, by the first of some words that says it; else these
-abbrev pub recovery_in_words : List (List ℕ) → Awaited → Awaited
+abbrev pub recovery_in_words : List (List ℕ) → Recovery → Recovery
 recovery_in_words [] other = other
 recovery_in_words (word ∷ words) other =
     if is_short word then Nothing
@@ -80,37 +80,37 @@ recovery_in_words (word ∷ words) other =
 -- the lines that follow a record, by the rest of its line after the branch: by the words after the name, if its
 -- change is one of them; else by the word in the place of the name, which may have been left out; else a line with a
 -- sign, followed by a body
-abbrev pub recovery_after_branch : List ℕ → Awaited
+abbrev pub recovery_after_branch : List ℕ → Recovery
 recovery_after_branch line = recovery_in_words (words_of (behind_word line)) (recovery_in_words (words_of line) Signed)
 
 -- the lines that follow a line that is cut off from them, if it is a record, or may be a misspelt one
-abbrev pub recovery_of_line : List ℕ → Awaited
+abbrev pub recovery_of_line : List ℕ → Recovery
 recovery_of_line line = recovery_after_branch (behind_word (behind_word (call_part line)))
 
 -- ---- the diagnostic and the recovery state
 
 -- the diagnostic of the last fault or refusal: the lines that `why` shows, none if there was none; and the lines of
 -- its command that may still come, if that is a record that was cut off by a fault in its first line, or may be one
-pub record Account : Type 0 where
-  pub told : List ℕ
-  pub awaited : Awaited
+pub record Diagnostic : Type 0 where
+  pub report : List ℕ
+  pub recovery : Recovery
 
 -- the state before any fault or refusal
-abbrev pub no_diagnostic : Account
-no_diagnostic = record { told = []; awaited = Nothing }
+abbrev pub no_diagnostic : Diagnostic
+no_diagnostic = record { report = []; recovery = Nothing }
 
 -- the same lines; none of its command may come
-abbrev pub closed : Account → Account
-closed account = record { told = account.told; awaited = Nothing }
+abbrev pub closed : Diagnostic → Diagnostic
+closed diagnostic = record { report = diagnostic.report; recovery = Nothing }
 
 -- the same lines, after one of its command came
-abbrev pub passed : Account → List ℕ → Account
-passed account line = record { told = account.told; awaited = recovery_after account.awaited line }
+abbrev pub advanced : Diagnostic → List ℕ → Diagnostic
+advanced diagnostic line = record { report = diagnostic.report; recovery = recovery_after diagnostic.recovery line }
 
 -- an answer leaves the state as it is: it is empty, or out of memory
 abbrev pub leaves_diagnostic : List ℕ → Bool
 leaves_diagnostic answer = length answer == 0 || bytes_eq answer (codes "memory\n")
 
 -- the state after an answer that is neither a fault nor a refusal
-abbrev pub diagnostic_after : List ℕ → Account → Account
-diagnostic_after answer account = if leaves_diagnostic answer then account else closed account
+abbrev pub diagnostic_after : List ℕ → Diagnostic → Diagnostic
+diagnostic_after answer diagnostic = if leaves_diagnostic answer then diagnostic else closed diagnostic

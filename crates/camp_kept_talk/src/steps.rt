@@ -3,16 +3,16 @@ ghost use Rattle.std.specs.Prelude.{◌≡◌, ◌⊎◌, [], true, false, IfErr
 ghost use Rattle.std.specs.Io.KnownBytes.{Appends, Keeps};
 ghost use Rattle.camp_kept.specs.Accepting.{Stored};
 ghost use Rattle.camp_kept.specs.Keeping.{disk_in, may_commit};
-ghost use Rattle.camp_kept_talk.specs.Going.{AfterStep, AfterFlush, BuffersAnswers, WritesAllOrNone, WritesNone, write_as_memory};
+ghost use Rattle.camp_kept_talk.specs.Buffering.{AfterFlush, AfterStep, BuffersAnswers, WritesAllOrNone, WritesNone, write_as_memory};
 ghost use Rattle.camp_kept_talk.specs.Stopping.{CountsStored, StaysStopped, stopped_fault};
-ghost use Rattle.camp_talk.specs.Accounts.{no_diagnostic};
-ghost use Rattle.camp_talk.specs.Answers.{Standing};
+ghost use Rattle.camp_talk.specs.Diagnostics.{no_diagnostic};
+ghost use Rattle.camp_talk.specs.Answers.{SessionState};
 ghost use Rattle.camp_talk.specs.Talks.{HasGrown, ReadsWithin};
 
 use crate::StoredFault;
-use crate::settling::settle;
+use crate::flushing::commit_and_flush;
 use camp_kept::{Disk, Kept};
-use camp_talk::{Account, TalkFault, turn};
+use camp_talk::{Diagnostic, TalkFault, take_step};
 use std::alloc::Global;
 use std::io::{BufRead, Write};
 
@@ -30,7 +30,7 @@ pub struct AnswerBuffer {
     /// The number of lines that were read.
     pub lines: u64,
     /// The diagnostic of the last fault or refusal.
-    pub cause: Account,
+    pub diagnostic: Diagnostic,
 }
 
 impl AnswerBuffer {
@@ -38,12 +38,12 @@ impl AnswerBuffer {
     pub fn new(alloc: Global) -> AnswerBuffer
         ensures none { result.answers.items ≡ [] }
         ensures first { result.lines ≡ 0 }
-        ensures cause { result.cause ≡ no_diagnostic }
+        ensures diagnostic { result.diagnostic ≡ no_diagnostic }
     {
         AnswerBuffer {
             answers: Vec::new(alloc),
             lines: 0,
-            cause: Account::new(alloc),
+            diagnostic: Diagnostic::new(alloc),
         }
     }
 }
@@ -58,18 +58,18 @@ pub fn take_stored_step<D: Disk, R: BufRead, W: Write>(
     reader: &mut R,
     writer: &mut W,
 ) -> Result<bool, StoredFault>
-    ensures goes { (durable : Stored) (remaining old : Option (List ℕ)) (first : Standing)
+    ensures buffers { (durable : Stored) (remaining old : Option (List ℕ)) (first : SessionState)
         → BuffersAnswers D.Disk.seen D.Disk.may_leave durable remaining (R.remaining reader.old) old (W.contents writer.old) held.old.answers.items first
-        (record { history = kept.old.book; lines = held.old.lines; cause = held.old.cause }) kept.old
+        (record { history = kept.old.book; lines = held.old.lines; diagnostic = held.old.diagnostic }) kept.old
         → AfterStep D.Disk.seen D.Disk.may_leave durable remaining (R.remaining reader.new) old (W.contents writer.new) held.new.answers.items first
-        (record { history = kept.new.book; lines = held.new.lines; cause = held.new.cause }) result kept.new }
+        (record { history = kept.new.book; lines = held.new.lines; diagnostic = held.new.diagnostic }) result kept.new }
     ensures counts { IfOk result (λ more. more ≡ true → HasGrown held.old.lines held.new.lines) }
     // It reads no more than a command has; and if the calls can't be persisted, it writes all buffered
     // answers, or nothing.
     ensures within { ReadsWithin (R.remaining reader.old) (R.remaining reader.new) }
     ensures whole { IfErr result (WritesAllOrNone held.old.answers.items (W.contents writer.old) (W.contents writer.new)) }
     // If no command is ready, the buffered answers are written.
-    ensures settles { is_ready ≡ false → IfOk result (λ more. more ≡ true → Appends (W.contents writer.old) (W.contents writer.new) held.old.answers.items) }
+    ensures flushes { is_ready ≡ false → IfOk result (λ more. more ≡ true → Appends (W.contents writer.old) (W.contents writer.new) held.old.answers.items) }
     // If a commit has failed at the disk before, nothing is written.
     ensures stopped { may_commit kept.old ≡ false → StaysStopped kept.old kept.new writer.old writer.new
         × MatchResult result (λ more. more ≡ true) (λ why. why ≡ stopped_fault) }
@@ -88,16 +88,16 @@ fn flush_first<D: Disk, W: Write>(
     is_ready: bool,
     writer: &mut W,
 ) -> Result<(), StoredFault>
-    ensures goes { (durable : Stored) (remaining rest old : Option (List ℕ)) (first : Standing)
+    ensures buffers { (durable : Stored) (remaining rest old : Option (List ℕ)) (first : SessionState)
         → BuffersAnswers D.Disk.seen D.Disk.may_leave durable remaining rest old (W.contents writer.old) held.old.answers.items first
-        (record { history = kept.old.book; lines = held.old.lines; cause = held.old.cause }) kept.old
+        (record { history = kept.old.book; lines = held.old.lines; diagnostic = held.old.diagnostic }) kept.old
         → AfterFlush D.Disk.seen D.Disk.may_leave durable remaining rest old (W.contents writer.new) held.new.answers.items first
-        (record { history = kept.new.book; lines = held.new.lines; cause = held.new.cause }) result kept.new }
+        (record { history = kept.new.book; lines = held.new.lines; diagnostic = held.new.diagnostic }) result kept.new }
     ensures lines { held.new.lines ≡ held.old.lines }
     ensures whole { MatchResult result
         (λ _. Appends (W.contents writer.old) (W.contents writer.new) held.old.answers.items ⊎ Keeps (W.contents writer.old) (W.contents writer.new))
         (WritesAllOrNone held.old.answers.items (W.contents writer.old) (W.contents writer.new)) }
-    ensures settles { is_ready ≡ false → OnOk result (Appends (W.contents writer.old) (W.contents writer.new) held.old.answers.items) }
+    ensures flushes { is_ready ≡ false → OnOk result (Appends (W.contents writer.old) (W.contents writer.new) held.old.answers.items) }
     ensures stopped { may_commit kept.old ≡ false → (kept.new ≡ kept.old) × (writer.new ≡ writer.old) × IfErr result (λ why. why ≡ stopped_fault) }
     ensures faults { CountsStored result (D.Disk.faults (disk_in kept.old)) (D.Disk.faults (disk_in kept.new)) }
     ensures clean { D.Disk.is_clean (disk_in kept.new) ≡ D.Disk.is_clean (disk_in kept.old) }
@@ -105,7 +105,7 @@ fn flush_first<D: Disk, W: Write>(
     if may_wait(kept, held, is_ready) {
         return Ok(());
     }
-    settle(alloc, kept, &mut held.answers, writer)
+    commit_and_flush(alloc, kept, &mut held.answers, writer)
 }
 
 // True if the buffered answers may wait: a command is ready, and not many are pending.
@@ -116,7 +116,7 @@ fn may_wait<D: Disk>(kept: &Kept<D>, held: &AnswerBuffer, is_ready: bool) -> boo
 }
 
 // Reads a command and executes it. At the end of the input everything is flushed.
-#[tactic(auto, using(crate::proofs::Writing::turns_within))]
+#[tactic(auto, using(crate::proofs::Writing::step_reads_within))]
 fn read_and_buffer<D: Disk, R: BufRead, W: Write>(
     alloc: Global,
     kept: &mut Kept<D>,
@@ -124,11 +124,11 @@ fn read_and_buffer<D: Disk, R: BufRead, W: Write>(
     reader: &mut R,
     writer: &mut W,
 ) -> Result<bool, StoredFault>
-    ensures goes { (durable : Stored) (remaining old : Option (List ℕ)) (first : Standing)
+    ensures buffers { (durable : Stored) (remaining old : Option (List ℕ)) (first : SessionState)
         → BuffersAnswers D.Disk.seen D.Disk.may_leave durable remaining (R.remaining reader.old) old (W.contents writer.old) held.old.answers.items first
-        (record { history = kept.old.book; lines = held.old.lines; cause = held.old.cause }) kept.old
+        (record { history = kept.old.book; lines = held.old.lines; diagnostic = held.old.diagnostic }) kept.old
         → AfterStep D.Disk.seen D.Disk.may_leave durable remaining (R.remaining reader.new) old (W.contents writer.new) held.new.answers.items first
-        (record { history = kept.new.book; lines = held.new.lines; cause = held.new.cause }) result kept.new }
+        (record { history = kept.new.book; lines = held.new.lines; diagnostic = held.new.diagnostic }) result kept.new }
     ensures counts { IfOk result (λ more. more ≡ true → HasGrown held.old.lines held.new.lines) }
     ensures within { ReadsWithin (R.remaining reader.old) (R.remaining reader.new) }
     ensures none { IfErr result (WritesNone (W.contents writer.old) (W.contents writer.new)) }
@@ -138,21 +138,21 @@ fn read_and_buffer<D: Disk, R: BufRead, W: Write>(
     ensures faults { CountsStored result (D.Disk.faults (disk_in kept.old)) (D.Disk.faults (disk_in kept.new)) }
     ensures clean { D.Disk.is_clean (disk_in kept.new) ≡ D.Disk.is_clean (disk_in kept.old) }
 {
-    let turned = turn(
+    let turned = take_step(
         alloc,
         &mut kept.book,
         &mut held.lines,
-        &mut held.cause,
+        &mut held.diagnostic,
         reader,
         &mut held.answers,
     );
     match turned {
         Ok(true) => Ok(true),
-        Ok(false) => match settle(alloc, kept, &mut held.answers, writer) {
+        Ok(false) => match commit_and_flush(alloc, kept, &mut held.answers, writer) {
             Ok(()) => Ok(false),
             Err(fault) => Err(fault),
         },
-        Err(why) => match settle(alloc, kept, &mut held.answers, writer) {
+        Err(why) => match commit_and_flush(alloc, kept, &mut held.answers, writer) {
             Ok(()) => Err(StoredFault::Talk(without_room(why))),
             Err(fault) => Err(fault),
         },

@@ -2,28 +2,28 @@
 ghost use Rattle.std.specs.Prelude.{◌≡◌, Some};
 ghost use Rattle.camp_c.specs.Handles.{AsksRepository, AsksView, answer_of, answer_of_view};
 
-use crate::codes::{CLOSED, DONE, MEMORY};
 use camp_session::{Session, View};
+use crate::codes::{CLOSED, DONE, MEMORY};
 use std::alloc::Global;
 
 /// The value of an open handle.
 #[derive(Drop)]
-pub enum Kept {
+pub enum OpenObject {
     Session(Session),
     View(View),
 }
 
-impl Kept {
+impl OpenObject {
     /// Asks a repository.
     pub(crate) fn ask(&mut self, alloc: Global, text: &[u8]) -> i32
         ensures { AsksRepository (Some self.old) text.now result (Some self.new) }
     {
         match self {
-            Kept::Session(session) => match session.ask(alloc, text) {
+            OpenObject::Session(session) => match session.ask(alloc, text) {
                 Ok(()) => DONE,
                 Err(_) => MEMORY,
             },
-            Kept::View(_) => CLOSED,
+            OpenObject::View(_) => CLOSED,
         }
     }
 
@@ -32,11 +32,11 @@ impl Kept {
         ensures { AsksView (Some self.old) text.now result (Some self.new) }
     {
         match self {
-            Kept::View(view) => match view.ask(alloc, text) {
+            OpenObject::View(view) => match view.ask(alloc, text) {
                 Ok(()) => DONE,
                 Err(_) => MEMORY,
             },
-            Kept::Session(_) => CLOSED,
+            OpenObject::Session(_) => CLOSED,
         }
     }
 
@@ -45,8 +45,8 @@ impl Kept {
         ensures { result.now ≡ answer_of (Some self.now) }
     {
         match self {
-            Kept::Session(session) => session.answer(),
-            Kept::View(_) => &[],
+            OpenObject::Session(session) => session.answer(),
+            OpenObject::View(_) => &[],
         }
     }
 
@@ -55,8 +55,8 @@ impl Kept {
         ensures { result.now ≡ answer_of_view (Some self.now) }
     {
         match self {
-            Kept::View(view) => view.answer(),
-            Kept::Session(_) => &[],
+            OpenObject::View(view) => view.answer(),
+            OpenObject::Session(_) => &[],
         }
     }
 }

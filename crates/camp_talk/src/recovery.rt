@@ -1,15 +1,15 @@
 //! The lines of a command that was cut off by a fault in its first line.
 ghost use Rattle.std.specs.Prelude.{◌≡◌};
 ghost use Rattle.camp_script.specs.Lines.{words_of};
-ghost use Rattle.camp_talk.specs.Accounts.{recovery_after, begins_command, is_edit, is_form, is_group, is_record, is_short, recovery_after_branch, recovery_of_line, may_be, recovery_in_words};
+ghost use Rattle.camp_talk.specs.Diagnostics.{begins_command, is_edit, is_form, is_group, is_record, is_short, may_be, recovery_after, recovery_after_branch, recovery_in_words, recovery_of_line};
 
-use crate::asking::is_word;
+use crate::parsing::is_word;
 use camp_script::{Words, begins_edit, begins_with, behind_word};
 use camp_why::{begins_signed, call_part};
 
 /// The lines that may still come of a command that was cut off from them.
 #[derive(Clone, Copy)]
-pub(crate) enum Awaited {
+pub(crate) enum Recovery {
     Nothing,
     /// A line with a sign, followed by those of a body.
     Signed,
@@ -21,29 +21,29 @@ pub(crate) enum Awaited {
     GroupBody,
 }
 
-impl Awaited {
+impl Recovery {
     /// True if a line may be one of them.
     pub(crate) fn may_be(self, line: &[u8]) -> bool
         ensures { result ≡ may_be self line.now }
     {
         match self {
-            Awaited::Nothing => false,
-            Awaited::Signed => begins_signed(line),
+            Recovery::Nothing => false,
+            Recovery::Signed => begins_signed(line),
             _ => true,
         }
     }
 
     /// Returns the lines that may come after a line.
-    pub(crate) fn after(self, line: &[u8]) -> Awaited
+    pub(crate) fn after(self, line: &[u8]) -> Recovery
         ensures { result ≡ recovery_after self line.now }
     {
         match self {
-            Awaited::Nothing => Awaited::Nothing,
-            Awaited::Signed => Awaited::Body,
-            Awaited::Body if is_word(line, b"end") => Awaited::Nothing,
-            Awaited::GroupBody if is_word(line, b"end") => Awaited::Group,
-            Awaited::Group if begins_edit(line) => Awaited::GroupBody,
-            Awaited::Group if begins_with(line, b"done") => Awaited::Nothing,
+            Recovery::Nothing => Recovery::Nothing,
+            Recovery::Signed => Recovery::Body,
+            Recovery::Body if is_word(line, b"end") => Recovery::Nothing,
+            Recovery::GroupBody if is_word(line, b"end") => Recovery::Group,
+            Recovery::Group if begins_edit(line) => Recovery::GroupBody,
+            Recovery::Group if begins_with(line, b"done") => Recovery::Nothing,
             same => same,
         }
     }
@@ -51,7 +51,7 @@ impl Awaited {
 
 /// Returns the lines that follow a line that is cut off from them, if it is a record, or may be a misspelt
 /// one.
-pub(crate) fn recovery_of_line(line: &[u8]) -> Awaited
+pub(crate) fn recovery_of_line(line: &[u8]) -> Recovery
     ensures { result ≡ recovery_of_line line.now }
 {
     recovery_after_branch(behind_word(behind_word(call_part(line))))
@@ -79,25 +79,25 @@ pub(crate) fn is_record(line: &[u8]) -> bool
 }
 
 // Returns the lines that follow a record, by the rest of its line after the branch.
-fn recovery_after_branch(line: &[u8]) -> Awaited
+fn recovery_after_branch(line: &[u8]) -> Recovery
     ensures { result ≡ recovery_after_branch line.now }
 {
-    recovery_in_words(behind_word(line), recovery_in_words(line, Awaited::Signed))
+    recovery_in_words(behind_word(line), recovery_in_words(line, Recovery::Signed))
 }
 
 // Returns the lines that follow, by the first word of a line that says it; else these.
-fn recovery_in_words(line: &[u8], other: Awaited) -> Awaited
+fn recovery_in_words(line: &[u8], other: Recovery) -> Recovery
     ensures { result ≡ recovery_in_words (words_of line.now) other }
 {
     for word in Words::new(line) {
         if is_short(word) {
-            return Awaited::Nothing;
+            return Recovery::Nothing;
         }
         if is_group(word) {
-            return Awaited::Group;
+            return Recovery::Group;
         }
         if is_edit(word) {
-            return Awaited::Body;
+            return Recovery::Body;
         }
     }
     other

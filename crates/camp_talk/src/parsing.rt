@@ -1,13 +1,13 @@
 //! Parsing commands.
 ghost use Rattle.std.specs.Prelude.{◌≡◌, ◌∷◌, [], List, Result, bytes_eq, codes};
-ghost use Rattle.camp_call.specs.declared.calls.Call.{Call as SaidCall};
+ghost use Rattle.camp_call.specs.declared.calls.Call.{Call as SpecCall};
 ghost use Rattle.camp_script.specs.Gives.{Gives};
 ghost use Rattle.camp_script.specs.Lines.{is_skipped, lines_of, words_of};
-ghost use Rattle.camp_script.specs.declared.faults.LineFault.{LineFault as SaidFault};
-ghost use Rattle.camp_talk.specs.Asking.{parsed_words, call_in, first_of, is_why, why_of};
+ghost use Rattle.camp_script.specs.declared.faults.LineFault.{LineFault as SpecFault};
+ghost use Rattle.camp_talk.specs.Parsing.{call_in, first_of, is_why, parsed_words, why_of};
 
 use crate::question_words::read_question;
-use crate::questions::{Asked, Question};
+use crate::questions::{ParsedCommand, Question};
 use bstr::ByteSlice;
 use camp_call::Call;
 use camp_script::{FaultKind, Script, ScriptFault, Words, at_line, without_end};
@@ -35,8 +35,8 @@ pub(crate) fn parse_command(
     alloc: Global,
     bytes: &[u8],
     script: Result<Script, ScriptFault>,
-) -> Result<Asked, ScriptFault>
-    ensures { (reading : Result (List (List SaidCall)) SaidFault) → Gives script reading →
+) -> Result<ParsedCommand, ScriptFault>
+    ensures { (reading : Result (List (List SpecCall)) SpecFault) → Gives script reading →
         Gives result (parsed_words (words_of (first_of (lines_of bytes.now))) reading) }
 {
     let mut words = Words::new(first_line(bytes));
@@ -50,7 +50,7 @@ pub(crate) fn parse_command(
         return read_why(words);
     }
     match read_question(alloc, word, words) {
-        Ok(Some(question)) => Ok(Asked::Question(question)),
+        Ok(Some(question)) => Ok(ParsedCommand::Question(question)),
         Ok(None) => read_call(script),
         Err(fault) => Err(fault),
     }
@@ -83,12 +83,12 @@ fn call_in(script: Script) -> Result<Option<Call>, ScriptFault>
     Ok(Some(calls.swap_remove(0)))
 }
 
-fn read_call(script: Result<Script, ScriptFault>) -> Result<Asked, ScriptFault>
-    ensures { (reading : Result (List (List SaidCall)) SaidFault) → Gives script reading → Gives result (parsed_words [] reading) }
+fn read_call(script: Result<Script, ScriptFault>) -> Result<ParsedCommand, ScriptFault>
+    ensures { (reading : Result (List (List SpecCall)) SpecFault) → Gives script reading → Gives result (parsed_words [] reading) }
 {
     match call_in(script?)? {
-        Some(call) => Ok(Asked::Call(call)),
-        None => Ok(Asked::Nothing),
+        Some(call) => Ok(ParsedCommand::Call(call)),
+        None => Ok(ParsedCommand::Nothing),
     }
 }
 
@@ -100,21 +100,21 @@ fn is_why(word: &[u8]) -> bool
     is_word(word, b"why") || is_word(word, b"why\r")
 }
 
-fn read_why(words: Words<'_>) -> Result<Asked, ScriptFault>
+fn read_why(words: Words<'_>) -> Result<ParsedCommand, ScriptFault>
     ensures { Gives result (why_of words.entry) }
 {
     let mut words = words;
     match words.next() {
-        None => Ok(Asked::Why),
+        None => Ok(ParsedCommand::Why),
         Some(_) => Err(at_line(1, FaultKind::WrongNumberOfWords)),
     }
 }
 
-fn read_what_if(script: Result<Script, ScriptFault>) -> Result<Asked, ScriptFault>
-    ensures { (reading : Result (List (List SaidCall)) SaidFault) → Gives script reading → Gives result (parsed_words (codes "whatif" ∷ []) reading) }
+fn read_what_if(script: Result<Script, ScriptFault>) -> Result<ParsedCommand, ScriptFault>
+    ensures { (reading : Result (List (List SpecCall)) SpecFault) → Gives script reading → Gives result (parsed_words (codes "whatif" ∷ []) reading) }
 {
     match call_in(script?)? {
-        Some(call) => Ok(Asked::Question(Question::WhatIf(call))),
+        Some(call) => Ok(ParsedCommand::Question(Question::WhatIf(call))),
         None => Err(at_line(1, FaultKind::UnknownCommand)),
     }
 }

@@ -5,14 +5,14 @@ use Rattle.camp_kept.specs.Accepting.{IsFrontOf, Stored, stored_of}
 use Rattle.camp_kept.specs.Keeping.{AreFirst, Holds, IsStoreOf, LeavesKept, stored_in, disk_in}
 use Rattle.camp_kept.specs.declared.faults.KeptFault.{KeptFault}
 use Rattle.camp_kept.specs.declared.kept.Kept.{Kept}
-use Rattle.camp_kept_talk.specs.Promises.{Promises, Told, durable_at_least}
+use Rattle.camp_kept_talk.specs.Promises.{AnswersWritten, Promises, durable_at_least}
 use Rattle.camp_kept_talk.specs.Stopping.{LeavesDurable}
 use Rattle.camp_kept_talk.specs.declared.faults.StoredFault.{StoredFault}
 use Rattle.camp_kept_talk.specs.declared.faults.StoredFault.TheVariants as fault
-use Rattle.camp_talk.specs.Answers.{Standing}
+use Rattle.camp_talk.specs.Answers.{SessionState}
 use Rattle.camp_talk.specs.Entries.{Entries}
 use Rattle.camp_talk.specs.Talks.{AppendsSome, EndsWithStep, ReadsWithin}
-use Rattle.camp_talk.specs.Talks.{Holds as HasAnswered}
+use Rattle.camp_talk.specs.Talks.{HasAnswered}
 use Rattle.camp_talk.specs.declared.faults.TalkFault.{TalkFault}
 use Rattle.camp_talk.specs.declared.faults.TalkFault.TheVariants.{Internal, Memory, Read, Write}
 
@@ -46,9 +46,9 @@ WritesNone before after (fault.Frame why) = Unit {0}
 WritesNone before after (fault.Write error) = Unit {0}
 
 -- commands were answered one after the other, followed by a step with a fault, which is reported like this
-pub record EndsReported (remaining rest old now : Option (List ℕ)) (first : Standing) (told : TalkFault) (history : Entries) : Type 0 where
+pub record EndsReported (remaining rest old now : Option (List ℕ)) (first : SessionState) (reported : TalkFault) (history : Entries) : Type 0 where
   pub why : TalkFault
-  pub told_is : told ≡ write_as_memory why
+  pub reported_is : reported ≡ write_as_memory why
   pub ends : EndsWithStep remaining rest old now first (Err why) history
 
 module _ {D : Type 0} (seen : D → List ℕ) (may_leave : D → List ℕ → Type 0) where
@@ -64,42 +64,42 @@ module _ {D : Type 0} (seen : D → List ℕ) (may_leave : D → List ℕ → Ty
   -- buffered answers are flushed to a writer. Ok: all calls are persisted, and then exactly the answers were written.
   -- Kept: nothing was written, and the repository is as the commit left it. Write: all calls are persisted, and a
   -- prefix of the answers was written.
-  abbrev pub Settles : Kept D → List ℕ → Option (List ℕ) → Result (Unit {0}) StoredFault → Kept D → List ℕ → Option (List ℕ) → Type 0
-  Settles old held before (Ok done) new now after = AllAreDurable old new × (now ≡ []) × Appends before after held
-  Settles old held before (Err (fault.Kept why)) new now after = MayBeDurable old new × Keeps before after × LeavesKept why old new
-  Settles old held before (Err (fault.Talk why)) new now after = ⊥
-  Settles old held before (Err (fault.Frame why)) new now after = ⊥
-  Settles old held before (Err (fault.Write error)) new now after = AllAreDurable old new × AppendsSome before after held
+  abbrev pub FlushesAnswers : Kept D → List ℕ → Option (List ℕ) → Result (Unit {0}) StoredFault → Kept D → List ℕ → Option (List ℕ) → Type 0
+  FlushesAnswers old held before (Ok done) new now after = AllAreDurable old new × (now ≡ []) × Appends before after held
+  FlushesAnswers old held before (Err (fault.Kept why)) new now after = MayBeDurable old new × Keeps before after × LeavesKept why old new
+  FlushesAnswers old held before (Err (fault.Talk why)) new now after = ⊥
+  FlushesAnswers old held before (Err (fault.Frame why)) new now after = ⊥
+  FlushesAnswers old held before (Err (fault.Write error)) new now after = AllAreDurable old new × AppendsSome before after held
 
-  module _ (durable : Stored) (remaining rest old now : Option (List ℕ)) (held : List ℕ) (first last : Standing) (kept : Kept D) where
+  module _ (durable : Stored) (remaining rest old now : Option (List ℕ)) (held : List ℕ) (first last : SessionState) (kept : Kept D) where
     -- where these first calls were durable: commands were answered up to a place, and all calls that were accepted
     -- until then are durable; before the first answer the same calls are, at least. The answers to the commands after
     -- the place are buffered.
     pub record BuffersAnswers : Type 0 where
-      pub middle : Standing
+      pub middle : SessionState
       pub left : Option (List ℕ)
-      pub told : HasAnswered remaining left old now first middle
-      pub behind : HasAnswered left rest (Some []) (Some held) middle last
+      pub written : HasAnswered remaining left old now first middle
+      pub pending : HasAnswered left rest (Some []) (Some held) middle last
       pub calls : Stored
       pub holds : Holds seen may_leave calls kept
       pub still : IsFrontOf durable calls
-      pub since : IsFrontOf (durable_at_least told.said durable (stored_of middle.history)) calls
+      pub since : IsFrontOf (durable_at_least written.exchanges durable (stored_of middle.history)) calls
       pub within : IsFrontOf calls (stored_of last.history)
 
   -- a step has failed: the answers to the commands after the place are buffered, perhaps in part; and no more was
   -- read after them than a command has
-  pub record FailsBuffered (durable : Stored) (remaining rest old now : Option (List ℕ)) (held : List ℕ) (first : Standing) (kept : Kept D) : Type 0 where
-    pub middle : Standing
-    pub last : Standing
+  pub record FailsBuffered (durable : Stored) (remaining rest old now : Option (List ℕ)) (held : List ℕ) (first : SessionState) (kept : Kept D) : Type 0 where
+    pub middle : SessionState
+    pub last : SessionState
     pub left : Option (List ℕ)
     pub right : Option (List ℕ)
-    pub told : HasAnswered remaining left old now first middle
-    pub behind : Told left right (Some []) (Some held) middle last
+    pub written : HasAnswered remaining left old now first middle
+    pub pending : AnswersWritten left right (Some []) (Some held) middle last
     pub reads : ReadsWithin right rest
     pub calls : Stored
     pub holds : Holds seen may_leave calls kept
     pub still : IsFrontOf durable calls
-    pub since : IsFrontOf (durable_at_least told.said durable (stored_of middle.history)) calls
+    pub since : IsFrontOf (durable_at_least written.exchanges durable (stored_of middle.history)) calls
     pub within : IsFrontOf calls (stored_of last.history)
     pub is : last.history ≡ kept.book
 
@@ -108,28 +108,28 @@ module _ {D : Type 0} (seen : D → List ℕ) (may_leave : D → List ℕ → Ty
   -- accepted calls are those of all these commands. Whatever a crash leaves is a store of some prefix of them, the
   -- same each time, with all those up to the place, or at least those that were durable at first; or it is a store of
   -- all. Either no commit is possible any more, or that prefix is durable.
-  pub record StopsNotDurable (durable : Stored) (remaining rest old now : Option (List ℕ)) (first : Standing) (why : KeptFault) (kept : Kept D) : Type 0 where
-    pub middle : Standing
-    pub last : Standing
+  pub record StopsNotDurable (durable : Stored) (remaining rest old now : Option (List ℕ)) (first : SessionState) (why : KeptFault) (kept : Kept D) : Type 0 where
+    pub middle : SessionState
+    pub last : SessionState
     pub left : Option (List ℕ)
     pub right : Option (List ℕ)
-    pub told : HasAnswered remaining left old now first middle
-    pub behind : Told left right None None middle last
+    pub written : HasAnswered remaining left old now first middle
+    pub pending : AnswersWritten left right None None middle last
     pub reads : ReadsWithin right rest
     pub is : last.history ≡ kept.book
     pub calls : Stored
     pub still : IsFrontOf durable calls
-    pub since : IsFrontOf (durable_at_least told.said durable (stored_of middle.history)) calls
+    pub since : IsFrontOf (durable_at_least written.exchanges durable (stored_of middle.history)) calls
     pub within : IsFrontOf calls (stored_in kept)
     pub crash : (c : List ℕ) → may_leave (disk_in kept) c → IsStoreOf calls c ⊎ IsStoreOf (stored_in kept) c
     pub leaves : LeavesDurable seen may_leave why calls kept
 
   -- the writer failed: commands were answered, and a prefix of their answers was written; no more was read than a
   -- further one has. The accepted calls are those of all these commands, and they are durable.
-  pub record StopsUnwritten (remaining rest old now : Option (List ℕ)) (first : Standing) (kept : Kept D) : Type 0 where
-    pub last : Standing
+  pub record StopsUnwritten (remaining rest old now : Option (List ℕ)) (first : SessionState) (kept : Kept D) : Type 0 where
+    pub last : SessionState
     pub right : Option (List ℕ)
-    pub told : Told remaining right old now first last
+    pub written : AnswersWritten remaining right old now first last
     pub reads : ReadsWithin right rest
     pub is : last.history ≡ kept.book
     pub holds : Holds seen may_leave (stored_in kept) kept
@@ -137,7 +137,7 @@ module _ {D : Type 0} (seen : D → List ℕ) (may_leave : D → List ℕ → Ty
   -- a conversation has stopped at a fault: the promise holds. Kept: the calls could not be persisted. Write: the
   -- writer failed. Talk: a step had this fault, all accepted calls are durable, and all answers were written before
   -- it.
-  abbrev pub StopsWithFault : Stored → (remaining rest old now : Option (List ℕ)) → Standing → StoredFault → Kept D → Type 0
+  abbrev pub StopsWithFault : Stored → (remaining rest old now : Option (List ℕ)) → SessionState → StoredFault → Kept D → Type 0
   StopsWithFault durable remaining rest old now first (fault.Kept why) kept =
       Promises seen may_leave durable remaining old now first kept × StopsNotDurable durable remaining rest old now first why kept
   StopsWithFault durable remaining rest old now first (fault.Talk why) kept =
@@ -148,7 +148,7 @@ module _ {D : Type 0} (seen : D → List ℕ) (may_leave : D → List ℕ → Ty
       Promises seen may_leave durable remaining old now first kept × StopsUnwritten remaining rest old now first kept
 
   -- the result of a step
-  abbrev pub AfterStep : Stored → (remaining rest old now : Option (List ℕ)) → List ℕ → Standing → Standing → Result Bool StoredFault → Kept D → Type 0
+  abbrev pub AfterStep : Stored → (remaining rest old now : Option (List ℕ)) → List ℕ → SessionState → SessionState → Result Bool StoredFault → Kept D → Type 0
   AfterStep durable remaining rest old now held first last (Ok true) kept = BuffersAnswers durable remaining rest old now held first last kept
   AfterStep durable remaining rest old now held first last (Ok false) kept =
       Promises seen may_leave durable remaining old now first kept × EndsWithStep remaining rest old now first (Ok false) last.history
@@ -156,13 +156,13 @@ module _ {D : Type 0} (seen : D → List ℕ) (may_leave : D → List ℕ → Ty
   AfterStep durable remaining rest old now held first last (Err why) kept = StopsWithFault durable remaining rest old now first why kept
 
   -- the result of flushing
-  abbrev pub AfterFlush : Stored → (remaining rest old now : Option (List ℕ)) → List ℕ → Standing → Standing → Result (Unit {0}) StoredFault → Kept D → Type 0
+  abbrev pub AfterFlush : Stored → (remaining rest old now : Option (List ℕ)) → List ℕ → SessionState → SessionState → Result (Unit {0}) StoredFault → Kept D → Type 0
   AfterFlush durable remaining rest old now held first last (Ok done) kept = BuffersAnswers durable remaining rest old now held first last kept
   AfterFlush durable remaining rest old now held first last (Err why) kept = StopsWithFault durable remaining rest old now first why kept
 
   -- a conversation over a repository of which these first calls are durable, from its start: the promise holds. After
   -- Ok it was held to its end, and all accepted calls are durable.
-  abbrev pub TalksKept : Stored → (remaining rest old now : Option (List ℕ)) → Standing → Result (Unit {0}) StoredFault → Kept D → Type 0
+  abbrev pub TalksKept : Stored → (remaining rest old now : Option (List ℕ)) → SessionState → Result (Unit {0}) StoredFault → Kept D → Type 0
   TalksKept durable remaining rest old now first (Ok done) kept =
       Promises seen may_leave durable remaining old now first kept × EndsWithStep remaining rest old now first (Ok false) kept.book
       × Holds seen may_leave (stored_in kept) kept

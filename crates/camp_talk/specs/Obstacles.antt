@@ -11,23 +11,23 @@ use Rattle.camp_repo.specs.States.{Contents, catches_of}
 use Rattle.camp_repo.specs.Steps.{listed}
 use Rattle.camp_talk.specs.Pages.{page}
 use Rattle.camp_talk.specs.Refusals.{cure}
-use Rattle.camp_talk.specs.declared.questions.Asked.{Asked}
-use Rattle.camp_talk.specs.declared.questions.Asked.TheVariants as asked
+use Rattle.camp_talk.specs.declared.questions.ParsedCommand.{ParsedCommand}
+use Rattle.camp_talk.specs.declared.questions.ParsedCommand.TheVariants as parsed
 use Rattle.camp_talk.specs.declared.questions.Question.{Question}
 use Rattle.camp_talk.specs.declared.questions.Question.TheVariants as question
 use Rattle.camp_talk.specs.declared.questions.Reason.TheVariants as reason
-use Rattle.camp_talk.specs.declared.obstacle_reports.Place.{Place}
-use Rattle.camp_talk.specs.declared.obstacle_reports.Place.TheVariants.{Branch, From}
+use Rattle.camp_talk.specs.declared.obstacle_reports.BranchRole.{BranchRole}
+use Rattle.camp_talk.specs.declared.obstacle_reports.BranchRole.TheVariants.{Branch, From}
 
 -- ---- the branches and the patches that a command names
 
 -- the word for a branch in the form of a command
-abbrev pub role_word : Place → List ℕ
+abbrev pub role_word : BranchRole → List ℕ
 role_word From = codes "FROM"
 role_word Branch = codes "BRANCH"
 
 -- the branch from which a call takes something, or that it is about, and its word
-abbrev pub call_about : Call → Place × List ℕ
+abbrev pub call_about : Call → BranchRole × List ℕ
 call_about (call.Branch new from) = (From, from)
 call_about (call.Record branch name changes) = (Branch, branch)
 call_about (call.Pull from to names) = (From, from)
@@ -37,7 +37,7 @@ call_about (call.Conflicts branch) = (Branch, branch)
 call_about (call.Names branch) = (Branch, branch)
 
 -- the same of a question
-abbrev pub question_about : Question → Option (Place × List ℕ)
+abbrev pub question_about : Question → Option (BranchRole × List ℕ)
 question_about (question.Needs branch names) = Some (Branch, branch)
 question_about (question.Held branch names) = Some (Branch, branch)
 question_about (question.Missing from to) = Some (From, from)
@@ -52,16 +52,16 @@ question_about (question.Graph branch names) = Some (Branch, branch)
 question_about other = None
 
 -- the same of a command, if it names a branch
-abbrev pub about : Asked → Option (Place × List ℕ)
-about (asked.Call call) = Some (call_about call)
-about (asked.Question question) = question_about question
+abbrev pub about : ParsedCommand → Option (BranchRole × List ℕ)
+about (parsed.Call call) = Some (call_about call)
+about (parsed.Question question) = question_about question
 about other = None
 
 -- the branch that a command names as TO
-abbrev pub target : Asked → Option (List ℕ)
-target (asked.Call (call.Pull from to names)) = Some to
-target (asked.Question (question.Missing from to)) = Some to
-target (asked.Question (question.Along from to names)) = Some to
+abbrev pub target : ParsedCommand → Option (List ℕ)
+target (parsed.Call (call.Pull from to names)) = Some to
+target (parsed.Question (question.Missing from to)) = Some to
+target (parsed.Question (question.Along from to names)) = Some to
 target other = None
 
 -- the first listed patch that a branch lacks, if there is a list
@@ -80,10 +80,10 @@ question_lacks catches (question.Side branch name) = first_lacked catches (name 
 question_lacks catches other = None
 
 -- the first patch that a command names and a branch lacks
-abbrev pub lacks : List Catch → Asked → Option (List ℕ)
-lacks catches (asked.Call (call.Pull from to names)) = first_lacked_of catches names
-lacks catches (asked.Call (call.Obliterate branch names)) = first_lacked catches names
-lacks catches (asked.Question question) = question_lacks catches question
+abbrev pub lacks : List Catch → ParsedCommand → Option (List ℕ)
+lacks catches (parsed.Call (call.Pull from to names)) = first_lacked_of catches names
+lacks catches (parsed.Call (call.Obliterate branch names)) = first_lacked catches names
+lacks catches (parsed.Question question) = question_lacks catches question
 lacks catches other = None
 
 -- ---- names on a line
@@ -129,9 +129,9 @@ target_text None = []
 target_text (Some to) = codes ", and TO is " ++ to
 
 -- text: the branches that a command names as FROM, as BRANCH and as TO
-abbrev pub sides_text : Option (Place × List ℕ) → Option (List ℕ) → List ℕ
+abbrev pub sides_text : Option (BranchRole × List ℕ) → Option (List ℕ) → List ℕ
 sides_text None to = []
-sides_text (Some place) to = role_word place.0 ++ codes " is " ++ place.1 ++ target_text to ++ codes ".\n"
+sides_text (Some named) to = role_word named.0 ++ codes " is " ++ named.1 ++ target_text to ++ codes ".\n"
 
 -- text: there is no branch of a name
 abbrev pub no_branch_text : List ℕ → List ℕ
@@ -142,30 +142,30 @@ abbrev pub absent_text : Contents → List ℕ → List ℕ
 absent_text state branch = if is_some (catches_of state.branches branch) then [] else no_branch_text branch
 
 -- the branch TO, if it is another one
-abbrev pub other_target : Option (Place × List ℕ) → Option (List ℕ) → Option (List ℕ)
+abbrev pub other_target : Option (BranchRole × List ℕ) → Option (List ℕ) → Option (List ℕ)
 other_target None to = to
-other_target (Some place) None = None
-other_target (Some place) (Some to) = if bytes_eq place.1 to then None else Some to
+other_target (Some named) None = None
+other_target (Some named) (Some to) = if bytes_eq named.1 to then None else Some to
 
 -- text: the branches that a command names and that do not exist
-abbrev pub absent_sides : Contents → Option (Place × List ℕ) → Option (List ℕ) → List ℕ
-absent_sides state place to =
-    option_map_or (λ side. absent_text state side.1) place [] ++ option_map_or (absent_text state) (other_target place to) []
+abbrev pub absent_sides : Contents → Option (BranchRole × List ℕ) → Option (List ℕ) → List ℕ
+absent_sides state named to =
+    option_map_or (λ side. absent_text state side.1) named [] ++ option_map_or (absent_text state) (other_target named to) []
 
 -- text: the branch that a call would create exists, if it does
-abbrev pub new_text : Contents → Asked → List ℕ
-new_text state (asked.Call (call.Branch new from)) =
+abbrev pub new_text : Contents → ParsedCommand → List ℕ
+new_text state (parsed.Call (call.Branch new from)) =
     if is_some (catches_of state.branches new) then codes "There is a branch " ++ new ++ codes ".\n" else []
 new_text state other = []
 
 -- text: the branches that have the patch that a call would record
-abbrev pub recorded_text : Contents → Asked → List ℕ
-recorded_text state (asked.Call (call.Record branch name changes)) = holders_line name (holders state name)
+abbrev pub recorded_text : Contents → ParsedCommand → List ℕ
+recorded_text state (parsed.Call (call.Record branch name changes)) = holders_line name (holders state name)
 recorded_text state other = []
 
 -- the hint if the patch exists: pull it, unless the branch itself has it
-abbrev pub record_cure : Contents → Asked → List ℕ
-record_cure state (asked.Call (call.Record branch name changes)) =
+abbrev pub record_cure : Contents → ParsedCommand → List ℕ
+record_cure state (parsed.Call (call.Record branch name changes)) =
     if holds state name branch then page (codes "Take another name." ∷ []) else cure reason.PatchExists
 record_cure state other = cure reason.PatchExists
 
@@ -176,14 +176,14 @@ had_text (Some []) = page (codes "FROM has no patch." ∷ [])
 had_text (Some (name ∷ names)) = names_line (codes "TO has already:") (name ∷ names)
 
 -- the same of a command
-abbrev pub nothing_text : Contents → Asked → List ℕ
-nothing_text state (asked.Call (call.Pull from to names)) =
+abbrev pub nothing_text : Contents → ParsedCommand → List ℕ
+nothing_text state (parsed.Call (call.Pull from to names)) =
     had_text (option_map_or (λ catches. Some (listed catches names)) (catches_of state.branches from) None)
 nothing_text state other = []
 
 -- the hint if one patch depends on another: pull both, or take both out
-abbrev pub depends_cure : Asked → List ℕ
-depends_cure (asked.Call (call.Obliterate branch names)) = page (codes "List PATCH too; held tells all that has to go." ∷ [])
+abbrev pub depends_cure : ParsedCommand → List ℕ
+depends_cure (parsed.Call (call.Obliterate branch names)) = page (codes "List PATCH too; held tells all that has to go." ∷ [])
 depends_cure other = page (codes "List ON too; along tells all that a pull has to list." ∷ [])
 
 -- text: there is no patch of a name, after the word for what lacks it
@@ -200,11 +200,11 @@ lack_text state branch None = []
 lack_text state branch (Some name) = lack_line branch name ++ holders_line name (holders state name)
 
 -- the same of the first patch that a command names and the branch lacks, given its catches
-abbrev pub lack_in : Contents → Asked → List ℕ → Option (List Catch) → List ℕ
-lack_in state asked branch None = []
-lack_in state asked branch (Some catches) = lack_text state branch (lacks catches asked)
+abbrev pub lack_in : Contents → ParsedCommand → List ℕ → Option (List Catch) → List ℕ
+lack_in state parsed branch None = []
+lack_in state parsed branch (Some catches) = lack_text state branch (lacks catches parsed)
 
 -- the same of a command, if it names a branch
-abbrev pub lacked_text : Contents → Asked → Option (Place × List ℕ) → List ℕ
-lacked_text state asked None = []
-lacked_text state asked (Some place) = lack_in state asked place.1 (catches_of state.branches place.1)
+abbrev pub lacked_text : Contents → ParsedCommand → Option (BranchRole × List ℕ) → List ℕ
+lacked_text state parsed None = []
+lacked_text state parsed (Some named) = lack_in state parsed named.1 (catches_of state.branches named.1)

@@ -9,18 +9,18 @@ use Rattle.camp_script.specs.Lines.{lines_of, words_of}
 use Rattle.camp_script.specs.declared.faults.FaultKind.{FaultKind}
 use Rattle.camp_script.specs.declared.faults.FaultKind.TheVariants as kind
 use Rattle.camp_script.specs.declared.faults.LineFault.{LineFault}
-use Rattle.camp_talk.specs.Accounts.{Account, begins_command, is_record, recovery_of_line, may_be, passed}
-use Rattle.camp_talk.specs.Against.{about, absent_sides, branches_line, depends_cure, lacked_text, new_text, nothing_text, record_cure, recorded_text, sides_text, target}
-use Rattle.camp_talk.specs.Asking.{parsed_command, first_of, reason_at}
+use Rattle.camp_talk.specs.Diagnostics.{Diagnostic, advanced, begins_command, is_record, may_be, recovery_of_line}
+use Rattle.camp_talk.specs.Obstacles.{about, absent_sides, branches_line, depends_cure, lacked_text, new_text, nothing_text, record_cure, recorded_text, sides_text, target}
+use Rattle.camp_talk.specs.Parsing.{first_of, parsed_command, reason_at}
 use Rattle.camp_talk.specs.Cutting.{lines_in}
 use Rattle.camp_talk.specs.Pages.{page}
 use Rattle.camp_talk.specs.Refusals.{cure, saying}
-use Rattle.camp_talk.specs.Told.{counted}
+use Rattle.camp_talk.specs.QuestionAnswers.{counted}
 use Rattle.camp_talk.specs.Visible.{visible}
-use Rattle.camp_talk.specs.declared.awaited.Awaited.{Awaited}
-use Rattle.camp_talk.specs.declared.awaited.Awaited.TheVariants.{Body, Group, GroupBody, Nothing, Signed}
-use Rattle.camp_talk.specs.declared.questions.Asked.{Asked}
-use Rattle.camp_talk.specs.declared.questions.Asked.TheVariants as asked
+use Rattle.camp_talk.specs.declared.recovery.Recovery.{Recovery}
+use Rattle.camp_talk.specs.declared.recovery.Recovery.TheVariants.{Body, Group, GroupBody, Nothing, Signed}
+use Rattle.camp_talk.specs.declared.questions.ParsedCommand.{ParsedCommand}
+use Rattle.camp_talk.specs.declared.questions.ParsedCommand.TheVariants as parsed
 use Rattle.camp_talk.specs.declared.questions.Reason.{Reason}
 use Rattle.camp_talk.specs.declared.questions.Reason.TheVariants as reason
 use Rattle.camp_why.specs.Causes.{explained}
@@ -45,7 +45,7 @@ report_or_none (byte ∷ bytes) = byte ∷ bytes
 
 -- the same, after `why` and the number of its lines
 abbrev pub why_answer : List ℕ → List ℕ
-why_answer cause = counted (codes "why") (report_or_none cause)
+why_answer report = counted (codes "why") (report_or_none report)
 
 -- ---- of a command with a fault
 
@@ -145,7 +145,7 @@ word_text kind.BadName line = misnamed_text (misnamed (words_of line))
 word_text other line = []
 
 -- text: the lines after it are taken for its own, if it has some
-abbrev pub recovery_text : Awaited → List ℕ
+abbrev pub recovery_text : Recovery → List ℕ
 recovery_text Nothing = []
 recovery_text Signed = []
 recovery_text Body = page (codes "Behind it lines that begin no command are taken for its body, up to end." ∷ [])
@@ -154,9 +154,9 @@ recovery_text GroupBody = page (codes "Behind it lines that begin no command are
 
 -- the answer, the line, the word that has the fault, the hint on it, the rule, what to write, and which lines after
 -- it are taken for its own
-abbrev pub fault_lines : FaultKind → List ℕ → List ℕ → Awaited → List ℕ
-fault_lines kind line answer awaited =
-    answer ++ shown_line line ++ word_text kind line ++ hint_text (hint kind line) ++ rule kind ++ recovery_text awaited
+abbrev pub fault_lines : FaultKind → List ℕ → List ℕ → Recovery → List ℕ
+fault_lines kind line answer recovery =
+    answer ++ shown_line line ++ word_text kind line ++ hint_text (hint kind line) ++ rule kind ++ recovery_text recovery
 
 -- ---- of a command that is refused
 
@@ -234,9 +234,9 @@ found_text None = []
 found_text (Some found) = cause_text found
 
 -- why a command is refused at a state, by the reason in its answer; for a question only what its refusal says
-abbrev pub cause_found : Contents → Asked → Reason → Option Cause
-cause_found state (asked.Call call) reason.TooLarge = explained state call refusal.TooLarge
-cause_found state (asked.Call call) reason.DoesNotApply = explained state call refusal.DoesNotApply
+abbrev pub cause_found : Contents → ParsedCommand → Reason → Option Cause
+cause_found state (parsed.Call call) reason.TooLarge = explained state call refusal.TooLarge
+cause_found state (parsed.Call call) reason.DoesNotApply = explained state call refusal.DoesNotApply
 cause_found state other reason = None
 
 -- the reason of a refusal, by the words of its answer: the number follows `refused`
@@ -246,18 +246,18 @@ reason_in others = None
 
 -- text: what exists and what does not, in the state before the command: the subject of its refusal, by the cause that
 -- was found
-abbrev pub facts_text : Contents → Asked → Option Cause → Reason → List ℕ
-facts_text state asked found reason.NoBranch = absent_sides state (about asked) (target asked) ++ branches_line state
-facts_text state asked found reason.BranchExists = new_text state asked ++ branches_line state
-facts_text state asked found reason.PatchExists = recorded_text state asked
-facts_text state asked found reason.NoPatch = lacked_text state asked (about asked)
-facts_text state asked found reason.NothingToDo = nothing_text state asked
-facts_text state asked found reason.SameBranch = branches_line state
-facts_text state asked found other = found_text found
+abbrev pub facts_text : Contents → ParsedCommand → Option Cause → Reason → List ℕ
+facts_text state parsed found reason.NoBranch = absent_sides state (about parsed) (target parsed) ++ branches_line state
+facts_text state parsed found reason.BranchExists = new_text state parsed ++ branches_line state
+facts_text state parsed found reason.PatchExists = recorded_text state parsed
+facts_text state parsed found reason.NoPatch = lacked_text state parsed (about parsed)
+facts_text state parsed found reason.NothingToDo = nothing_text state parsed
+facts_text state parsed found reason.SameBranch = branches_line state
+facts_text state parsed found other = found_text found
 
 -- text: what prevents a command: the branches that it names, and what exists and what does not
-abbrev pub against_text : Contents → Asked → Option Cause → Reason → List ℕ
-against_text state asked found reason = sides_text (about asked) (target asked) ++ facts_text state asked found reason
+abbrev pub against_text : Contents → ParsedCommand → Option Cause → Reason → List ℕ
+against_text state parsed found reason = sides_text (about parsed) (target parsed) ++ facts_text state parsed found reason
 
 -- the hint if a limit would be exceeded
 abbrev pub limit_cure : Cause → List ℕ
@@ -269,22 +269,22 @@ limit_cure (cause.LongSide change path old new) = page (codes "Cut the edit in p
 limit_cure (cause.Stops stop) = page (codes "Put some of the lines into another file." ∷ [])
 
 -- the hint on the refusal of a command, by the cause that was found
-abbrev pub cure_at : Contents → Asked → Option Cause → Reason → List ℕ
-cure_at state asked found reason.PatchExists = record_cure state asked
-cure_at state asked (Some found) reason.TooLarge = limit_cure found
-cure_at state asked found reason.Depends = depends_cure asked
-cure_at state asked found other = cure other
+abbrev pub cure_at : Contents → ParsedCommand → Option Cause → Reason → List ℕ
+cure_at state parsed found reason.PatchExists = record_cure state parsed
+cure_at state parsed (Some found) reason.TooLarge = limit_cure found
+cure_at state parsed found reason.Depends = depends_cure parsed
+cure_at state parsed found other = cure other
 
 -- the answer, the first line of the command, the meaning of the answer, what prevents the command, and the hint
-abbrev pub refusal_report : Contents → Asked → List ℕ → List ℕ → Option Cause → Reason → List ℕ
-refusal_report state asked line answer found reason =
-    answer ++ shown_line line ++ saying reason ++ against_text state asked found reason ++ cure_at state asked found reason
+abbrev pub refusal_report : Contents → ParsedCommand → List ℕ → List ℕ → Option Cause → Reason → List ℕ
+refusal_report state parsed line answer found reason =
+    answer ++ shown_line line ++ saying reason ++ against_text state parsed found reason ++ cure_at state parsed found reason
 
 -- the same by its reason; of an answer without one only itself
-abbrev pub refusal_lines : Contents → Asked → List ℕ → List ℕ → Option Reason → List ℕ
-refusal_lines state asked line answer None = answer
-refusal_lines state asked line answer (Some reason) =
-    refusal_report state asked line answer (cause_found state asked reason) reason
+abbrev pub refusal_lines : Contents → ParsedCommand → List ℕ → List ℕ → Option Reason → List ℕ
+refusal_lines state parsed line answer None = answer
+refusal_lines state parsed line answer (Some reason) =
+    refusal_report state parsed line answer (cause_found state parsed reason) reason
 
 -- ---- of both
 
@@ -303,36 +303,36 @@ may_record kind line = is_record line || is_no_command kind line
 
 -- the lines that may follow a command with a fault of a kind in the line of a number: if that is its first, those
 -- that it was cut off from
-abbrev pub cut_off : ℕ → FaultKind → List ℕ → Awaited
+abbrev pub cut_off : ℕ → FaultKind → List ℕ → Recovery
 cut_off number kind line = if number == 1 && may_record kind line then recovery_of_line line else Nothing
 
 -- a fault is the consequence of one before it: its line begins no command, and may be one of a body or a group that
 -- was cut off
-abbrev pub is_consequence : Awaited → FaultKind → List ℕ → Bool
-is_consequence awaited kind line = may_be awaited line && is_no_command kind line
+abbrev pub is_consequence : Recovery → FaultKind → List ℕ → Bool
+is_consequence recovery kind line = may_be recovery line && is_no_command kind line
 
 -- the diagnostic of a command with a fault of its own, and the lines that may follow it
-abbrev pub own_fault_diagnostic : LineFault → List (List ℕ) → List ℕ → Account
+abbrev pub own_fault_diagnostic : LineFault → List (List ℕ) → List ℕ → Diagnostic
 own_fault_diagnostic fault lines answer =
-    let awaited = cut_off fault.line fault.kind (first_of lines) in
-    record { told = fault_lines fault.kind (line_at fault.line lines) answer awaited; awaited = awaited }
+    let recovery = cut_off fault.line fault.kind (first_of lines) in
+    record { report = fault_lines fault.kind (line_at fault.line lines) answer recovery; recovery = recovery }
 
 -- the diagnostic of a command with a fault; if that is the consequence of a fault before it, the lines about that one
 -- stay
-abbrev pub fault_diagnostic : Account → LineFault → List (List ℕ) → List ℕ → Account
+abbrev pub fault_diagnostic : Diagnostic → LineFault → List (List ℕ) → List ℕ → Diagnostic
 fault_diagnostic before fault lines answer =
-    if is_consequence before.awaited fault.kind (first_of lines) then passed before (first_of lines)
+    if is_consequence before.recovery fault.kind (first_of lines) then advanced before (first_of lines)
     else own_fault_diagnostic fault lines answer
 
 -- the diagnostic of a command that is not done, by the diagnostic before it, the state, its lines, its parsed form
 -- and its answer
-abbrev pub diagnostic_with : Account → Contents → List (List ℕ) → Result Asked LineFault → List ℕ → Account
+abbrev pub diagnostic_with : Diagnostic → Contents → List (List ℕ) → Result ParsedCommand LineFault → List ℕ → Diagnostic
 diagnostic_with before state lines (Err fault) answer = fault_diagnostic before fault lines answer
-diagnostic_with before state lines (Ok asked) answer = record {
-  told = refusal_lines state asked (first_of lines) answer (reason_in (words_of (first_of (lines_of answer))));
-  awaited = Nothing;
+diagnostic_with before state lines (Ok parsed) answer = record {
+  report = refusal_lines state parsed (first_of lines) answer (reason_in (words_of (first_of (lines_of answer))));
+  recovery = Nothing;
 }
 
 -- by the state, the command and its answer
-abbrev pub diagnostic_of : Account → Contents → List ℕ → List ℕ → Account
+abbrev pub diagnostic_of : Diagnostic → Contents → List ℕ → List ℕ → Diagnostic
 diagnostic_of before state command answer = diagnostic_with before state (lines_in command) (parsed_command command) answer
