@@ -24,7 +24,7 @@ use Rattle.camp_talk.specs.declared.faults.TalkFault.{TalkFault}
 use Rattle.camp_talk.specs.declared.faults.TalkFault.TheVariants as talk
 use Rattle.camp_talk.proofs.Firsts.{command_read}
 use Rattle.camp_talk.proofs.Growing.{answers_grow}
-use Rattle.camp_talk.proofs.TakesStep.{begins_so, holds_on}
+use Rattle.camp_talk.proofs.StepLemmas.{begins_so, holds_on}
 
 -- the state of a conversation over a book
 abbrev pub at : Entries → ℕ → Diagnostic → SessionState
@@ -69,9 +69,9 @@ module _ {D : Type 0} (seen : D → List ℕ) (may_leave : D → List ℕ → Ty
     }
 
     -- everything is persisted and written, and the conversation continues
-    pub settled : (new : Kept D) (after : Option (List ℕ)) (rest : List ℕ) → AllAreDurable seen may_leave kept new → rest ≡ [] → Appends now after held → new.book ≡ kept.book
+    pub flushed_answers : (new : Kept D) (after : Option (List ℕ)) (rest : List ℕ) → AllAreDurable seen may_leave kept new → rest ≡ [] → Appends now after held → new.book ≡ kept.book
         → BuffersAnswers seen may_leave durable a b old after rest first (at new.book lines diagnostic) new
-    settled new after rest keeps none grows same = record {
+    flushed_answers new after rest keeps none grows same = record {
       middle = at new.book lines diagnostic;
       left = b;
       written = written_now;
@@ -97,9 +97,9 @@ module _ {D : Type 0} (seen : D → List ℕ) (may_leave : D → List ℕ → Ty
       }
 
       -- a command was answered into the buffer
-      pub turned : (after : ℕ) (learnt : Diagnostic) → TakesStep b c (Some held) (Some more) (at kept.book lines diagnostic) (Ok true) (at new.book after learnt)
+      pub stepped : (after : ℕ) (learnt : Diagnostic) → TakesStep b c (Some held) (Some more) (at kept.book lines diagnostic) (Ok true) (at new.book after learnt)
           → BuffersAnswers seen may_leave durable a c old now more first (at new.book after learnt) new
-      turned after learnt takes_step = record {
+      stepped after learnt takes_step = record {
         middle = buffers.middle;
         left = buffers.left;
         written = buffers.written;
@@ -314,7 +314,7 @@ pub flushed_first : {D : Type 0} (seen : D → List ℕ) (may_leave : D → List
     (result : Result (Unit {0}) StoredFault) → BuffersAnswers seen may_leave durable a b old now held first (at kept.book lines diagnostic) kept → FlushesAnswers seen may_leave kept held now result new rest after
     → new.book ≡ kept.book → AfterFlush seen may_leave durable a b old after rest first (at new.book lines diagnostic) result new
 flushed_first seen may_leave durable a b old now after first kept new held rest lines diagnostic (Ok done) buffers flushes same =
-    settled seen may_leave durable a old now first kept b held lines diagnostic buffers new after rest flushes.0 flushes.1 flushes.2 same
+    flushed_answers seen may_leave durable a old now first kept b held lines diagnostic buffers new after rest flushes.0 flushes.1 flushes.2 same
 flushed_first seen may_leave durable a b old now after first kept new held rest lines diagnostic (Err why) buffers flushes same =
     stops_so seen may_leave durable a old now first kept b held (stays seen may_leave durable a old now first kept b held lines diagnostic buffers) new after same why rest flushes
 

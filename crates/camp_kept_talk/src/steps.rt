@@ -138,7 +138,7 @@ fn read_and_buffer<D: Disk, R: BufRead, W: Write>(
     ensures faults { CountsStored result (D.Disk.faults (disk_in kept.old)) (D.Disk.faults (disk_in kept.new)) }
     ensures clean { D.Disk.is_clean (disk_in kept.new) ≡ D.Disk.is_clean (disk_in kept.old) }
 {
-    let turned = take_step(
+    let stepped = take_step(
         alloc,
         &mut kept.book,
         &mut held.lines,
@@ -146,7 +146,7 @@ fn read_and_buffer<D: Disk, R: BufRead, W: Write>(
         reader,
         &mut held.answers,
     );
-    match turned {
+    match stepped {
         Ok(true) => Ok(true),
         Ok(false) => match commit_and_flush(alloc, kept, &mut held.answers, writer) {
             Ok(()) => Ok(false),
