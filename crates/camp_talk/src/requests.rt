@@ -13,7 +13,7 @@ use std::alloc::Global;
 /// answer; several commands have their answers in order. Lines count from the start of the request. After a
 /// fault the book has the effects of the commands before it; a command whose answer is not there whole may
 /// have been executed.
-#[tactic(auto, using(crate::proofs::TakesStep::begins_so, crate::proofs::TakesStep::holds_on))]
+#[tactic(auto, using(crate::proofs::StepLemmas::begins_so, crate::proofs::StepLemmas::holds_on))]
 pub fn answer_request(
     alloc: Global,
     book: &mut Book<State>,
