@@ -166,19 +166,19 @@ trimmed line = take (length line - suffix_len is_ascii_whitespace line) line
 
 -- text: two lines differ only at their ends, if they do
 abbrev pub ends_text : List ℕ → List ℕ → List ℕ
-ends_text stands expected =
-    if bytes_eq (trimmed stands) (trimmed expected)
+ends_text actual expected =
+    if bytes_eq (trimmed actual) (trimmed expected)
     then page (codes "They differ in white space at their ends, as a blank or a carriage return is." ∷ []) else []
 
 -- a text with the line of a file, and another one that an edit removes
 abbrev pub met_lines : ℕ → List ℕ → List ℕ → List ℕ
-met_lines at stands expected =
-    codes ": line " ++ decimal at ++ codes " is\n=" ++ stands ++ codes "\nand the edit takes away\n-" ++ expected
+met_lines at actual expected =
+    codes ": line " ++ decimal at ++ codes " is\n=" ++ actual ++ codes "\nand the edit takes away\n-" ++ expected
     ++ codes "\n"
 
 -- text: the file has another line than an edit removes
 abbrev pub met_text : ℕ → List ℕ → List ℕ → List ℕ
-met_text at stands expected = met_lines at (visible stands) (visible expected)
+met_text at actual expected = met_lines at (visible actual) (visible expected)
 
 -- a text with two numbers
 abbrev pub two_numbers : List ℕ → ℕ → List ℕ → ℕ → List ℕ → List ℕ
@@ -199,7 +199,7 @@ misfit_text (misfit.HasLines count) = codes ": its number of lines is " ++ decim
 misfit_text (misfit.EndsBefore has wants at lacks) =
     two_numbers (codes ": its number of lines is ") has (codes ", and the edit wants ") wants (codes " or more.\n")
     ++ lacks_text at lacks
-misfit_text (misfit.OtherLine at stands expected) = met_text at stands expected ++ ends_text stands expected
+misfit_text (misfit.OtherLine at actual expected) = met_text at actual expected ++ ends_text actual expected
 
 -- text: why a record stops
 abbrev pub hindrance_text : Hindrance → List ℕ

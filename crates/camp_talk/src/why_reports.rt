@@ -352,11 +352,11 @@ fn misfit_text(alloc: Global, misfit: &Misfit) -> Result<Vec<u8>, AllocError>
         } => ends_before_text(alloc, *has, *wants, *at, lacks),
         Misfit::OtherLine {
             at,
-            stands,
+            actual,
             expected,
         } => {
-            let mut text = met_text(alloc, *at, stands.bytes(), expected.bytes())?;
-            text.extend_from_slice(ends_text(stands.bytes(), expected.bytes()).as_bytes())?;
+            let mut text = met_text(alloc, *at, actual.bytes(), expected.bytes())?;
+            text.extend_from_slice(ends_text(actual.bytes(), expected.bytes()).as_bytes())?;
             Ok(text)
         }
     }
@@ -427,10 +427,10 @@ fn met_lines(alloc: Global, at: usize, there: &[u8], expected: &[u8]) -> Result<
 }
 
 // Renders that two lines differ only at their ends, if they do.
-fn ends_text(stands: &[u8], expected: &[u8]) -> &'static str
-    ensures { result.now ≡ ends_text stands.now expected.now }
+fn ends_text(actual: &[u8], expected: &[u8]) -> &'static str
+    ensures { result.now ≡ ends_text actual.now expected.now }
 {
-    if trimmed(stands) == trimmed(expected) {
+    if trimmed(actual) == trimmed(expected) {
         return "They differ in white space at their ends, as a blank or a carriage return is.\n";
     }
     ""

@@ -29,29 +29,29 @@ get_drop (line ∷ lines) (suc n) k =
 -- the first old lines are those of the file, as far as it has any
 abbrev AlikeUpTo : ℕ → Lines → Lines → Type 0
 AlikeUpTo count old lines =
-    (at : ℕ) (stands expected : List ℕ) → at < count → slice_get old at ≡ Some expected → slice_get lines at ≡ Some stands → stands ≡ expected
+    (at : ℕ) (actual expected : List ℕ) → at < count → slice_get old at ≡ Some expected → slice_get lines at ≡ Some actual → actual ≡ expected
 
 -- one more line before them
 alike_more : (count : ℕ) (first : List ℕ) (other : List ℕ) (old lines : Lines) → other ≡ first → AlikeUpTo count old lines
     → AlikeUpTo (suc count) (first ∷ old) (other ∷ lines)
-alike_more count first other old lines same behind zero stands expected within is_expected is_there =
+alike_more count first other old lines same behind zero actual expected within is_expected is_there =
     same_Some _ _ (sym is_there) ∙ same ∙ same_Some _ _ is_expected
-alike_more count first other old lines same behind (suc at) stands expected within is_expected is_there =
-    behind at stands expected (omega (arith, within)) is_expected is_there
+alike_more count first other old lines same behind (suc at) actual expected within is_expected is_there =
+    behind at actual expected (omega (arith, within)) is_expected is_there
 
 -- the first line that differs comes after this many that do not
 record FindsOther (at : ℕ) (old lines : Lines) (why : Misfit) : Type 0 where
   before : ℕ
-  stands : List ℕ
+  actual : List ℕ
   expected : List ℕ
-  is : why ≡ OtherLine (at + before) stands expected
+  is : why ≡ OtherLine (at + before) actual expected
   is_expected : slice_get old before ≡ Some expected
-  is_there : slice_get lines before ≡ Some stands
-  other : stands ≢ expected
+  is_there : slice_get lines before ≡ Some actual
+  other : actual ≢ expected
   alike : AlikeUpTo before old lines
 
-differ : (stands expected : List ℕ) → bytes_eq stands expected ≡ false → stands ≢ expected
-differ stands expected unlike same = false≢true (sym unlike ∙ (bytes_eq-Decides stands expected).1 same)
+differ : (actual expected : List ℕ) → bytes_eq actual expected ≡ false → actual ≢ expected
+differ actual expected unlike same = false≢true (sym unlike ∙ (bytes_eq-Decides actual expected).1 same)
 
 -- the result of comparing old lines with those of the file: the first that differs; if none does, they are the same,
 -- and are there if the file is long enough
@@ -60,47 +60,47 @@ Compares at old lines (Some why) = FindsOther at old lines why
 Compares at old lines None = AlikeUpTo (length old) old lines × (length old ≤ length lines → take (length old) lines ≡ old)
 
 -- by whether the first line is another one
-first_by : (at : ℕ) (expected stands : List ℕ) (old lines : Lines) (b : Bool) → bytes_eq stands expected ≡ b → (found : Option Misfit) → Compares (suc at) old lines found
-    → Compares at (expected ∷ old) (stands ∷ lines) (cond b found (Some (OtherLine at stands expected)))
-first_by at expected stands old lines true is (Some why) rest =
+first_by : (at : ℕ) (expected actual : List ℕ) (old lines : Lines) (b : Bool) → bytes_eq actual expected ≡ b → (found : Option Misfit) → Compares (suc at) old lines found
+    → Compares at (expected ∷ old) (actual ∷ lines) (cond b found (Some (OtherLine at actual expected)))
+first_by at expected actual old lines true is (Some why) rest =
     let place : suc at + rest.before ≡ at + suc rest.before = omega arith in
     record {
       before = suc rest.before;
-      stands = rest.stands;
+      actual = rest.actual;
       expected = rest.expected;
-      is = rest.is ∙ ap (λ n. OtherLine n rest.stands rest.expected) place;
+      is = rest.is ∙ ap (λ n. OtherLine n rest.actual rest.expected) place;
       is_expected = rest.is_expected;
       is_there = rest.is_there;
       other = rest.other;
-      alike = alike_more rest.before expected stands old lines ((bytes_eq-Decides stands expected).0 is) rest.alike;
+      alike = alike_more rest.before expected actual old lines ((bytes_eq-Decides actual expected).0 is) rest.alike;
     }
-first_by at expected stands old lines true is None rest =
-    let same = (bytes_eq-Decides stands expected).0 is in (
-      alike_more (length old) expected stands old lines same rest.0,
+first_by at expected actual old lines true is None rest =
+    let same = (bytes_eq-Decides actual expected).0 is in (
+      alike_more (length old) expected actual old lines same rest.0,
       (λ within. let behind = rest.1 (omega (arith, within)) in (λ j. same j ∷ behind j)),
     )
-first_by at expected stands old lines false is found rest =
+first_by at expected actual old lines false is found rest =
     let place : at ≡ at + 0 = omega arith in
     record {
       before = 0;
-      stands = stands;
+      actual = actual;
       expected = expected;
-      is = ap (λ n. OtherLine n stands expected) place;
+      is = ap (λ n. OtherLine n actual expected) place;
       is_expected = refl;
       is_there = refl;
-      other = differ stands expected is;
-      alike = λ at stands expected within. absurd (omega (arith, within));
+      other = differ actual expected is;
+      alike = λ at actual expected within. absurd (omega (arith, within));
     }
 
 compares : (at : ℕ) (old lines : Lines) → Compares at old lines (other_line at old lines)
-compares at [] [] = ((λ k stands expected within. absurd (omega (arith, within))), (λ within. refl))
-compares at [] (line ∷ lines) = ((λ k stands expected within. absurd (omega (arith, within))), (λ within. refl))
+compares at [] [] = ((λ k actual expected within. absurd (omega (arith, within))), (λ within. refl))
+compares at [] (line ∷ lines) = ((λ k actual expected within. absurd (omega (arith, within))), (λ within. refl))
 compares at (expected ∷ old) [] = (
-  (λ k stands other within is_expected is_there. absurd (none-some _ (sym (slice_get_past {X = List ℕ} [] k (omega arith)) ∙ is_there))),
+  (λ k actual other within is_expected is_there. absurd (none-some _ (sym (slice_get_past {X = List ℕ} [] k (omega arith)) ∙ is_there))),
   (λ within. absurd (omega (arith, within))),
 )
-compares at (expected ∷ old) (stands ∷ lines) =
-    first_by at expected stands old lines (bytes_eq stands expected) refl (other_line (suc at) old lines) (compares (suc at) old lines)
+compares at (expected ∷ old) (actual ∷ lines) =
+    first_by at expected actual old lines (bytes_eq actual expected) refl (other_line (suc at) old lines) (compares (suc at) old lines)
 
 -- ---- the reported reason is a true one, and if there is none, the change applies
 
@@ -135,13 +135,13 @@ module _ (hunk : Edit) (tree : Files) (lines : Lines) (found : get tree hunk.pat
 
   -- lines from the first of an edit on are those of the file at their places
   in_file : (count : ℕ) → AlikeUpTo count hunk.old (drop (hunk.line - 1) lines) → AreInFile hunk lines count
-  in_file count alike at stands expected within is_expected is_there =
-      alike at stands expected within is_expected (get_drop lines (hunk.line - 1) at ∙ is_there)
+  in_file count alike at actual expected within is_expected is_there =
+      alike at actual expected within is_expected (get_drop lines (hunk.line - 1) at ∙ is_there)
 
   -- a line differs
   other_is_misfit : (why : Misfit) → FindsOther hunk.line hunk.old (drop (hunk.line - 1) lines) why → IsMisfit (Hunk hunk) tree why
   other_is_misfit why finds =
-      let is_so : IsMisfit (Hunk hunk) tree (OtherLine (hunk.line + finds.before) finds.stands finds.expected) =
+      let is_so : IsMisfit (Hunk hunk) tree (OtherLine (hunk.line + finds.before) finds.actual finds.expected) =
       record {
         hunk = hunk;
         lines = lines;
@@ -172,8 +172,8 @@ module _ (hunk : Edit) (tree : Files) (lines : Lines) (found : get tree hunk.pat
   by_end none false is =
       λ range.
       let enough = ltb-false (length lines) (hunk.line - 1 + length hunk.old) is in
-      let stand = none.1 (omega (arith, enough, length-drop (hunk.line - 1) lines)) in
-      let (changed, splices) = can_splice hunk lines range.counted enough stand in
+      let prevents = none.1 (omega (arith, enough, length-drop (hunk.line - 1) lines)) in
+      let (changed, splices) = can_splice hunk lines range.counted enough prevents in
       (insert tree hunk.path changed, record { lines = lines; changed = changed; found = found; splices = splices; becomes = refl })
 
   by_lines : (other : Option Misfit) → Compares hunk.line hunk.old (drop (hunk.line - 1) lines) other
@@ -225,9 +225,9 @@ module _ (hunk : Edit) (lines other changed : Lines) (same : lines ≡ other) (s
       ∙ ap (λ n. length splices.before + n) (length-append hunk.old splices.after) in
       omega (arith, long, splices.at, counts, reaches, behind)
 
-  not_other : (before : ℕ) (stands expected : List ℕ) → slice_get hunk.old before ≡ Some expected
-      → slice_get lines (hunk.line - 1 + before) ≡ Some stands → ¬ (stands ≢ expected)
-  not_other before stands expected is_expected is_there differs =
+  not_other : (before : ℕ) (actual expected : List ℕ) → slice_get hunk.old before ≡ Some expected
+      → slice_get lines (hunk.line - 1 + before) ≡ Some actual → ¬ (actual ≢ expected)
+  not_other before actual expected is_expected is_there differs =
       let start : length splices.before ≡ hunk.line - 1 = omega (arith, splices.at) in
       let behind : drop (hunk.line - 1) lines ≡ hunk.old ++ splices.after =
       ap (drop (hunk.line - 1)) is ∙ drop_at splices.before (hunk.old ++ splices.after) (hunk.line - 1) start in
@@ -249,9 +249,9 @@ not_applied change tree next (HasLines count) m applies =
 not_applied change tree next (EndsBefore has wants at lacks) m applies =
     let splices = subst (λ c. Applies c tree next) m.edits.edits applies in
     not_behind m.hunk m.lines splices.lines splices.changed (same_Some _ _ (sym m.edits.found ∙ splices.found)) splices.splices has wants m.counts m.reaches m.behind
-not_applied change tree next (OtherLine at stands expected) m applies =
+not_applied change tree next (OtherLine at actual expected) m applies =
     let splices = subst (λ c. Applies c tree next) m.edits.edits applies in
-    not_other m.hunk m.lines splices.lines splices.changed (same_Some _ _ (sym m.edits.found ∙ splices.found)) splices.splices m.before stands expected m.is_expected m.is_there m.other
+    not_other m.hunk m.lines splices.lines splices.changed (same_Some _ _ (sym m.edits.found ∙ splices.found)) splices.splices m.before actual expected m.is_expected m.is_there m.other
 
 -- ---- line by line
 
@@ -259,21 +259,21 @@ not_applied change tree next (OtherLine at stands expected) m applies =
 abbrev pub found_from : ℕ → ℕ → Lines → Lines → Option Misfit
 found_from from at old lines = other_line (suc (from + at)) (drop at old) (drop (from + at) lines)
 
-module _ (from at : ℕ) (old lines : Lines) (stands expected : List ℕ) (is_expected : slice_get old at ≡ Some expected) (is_there : slice_get lines (from + at) ≡ Some stands) where
+module _ (from at : ℕ) (old lines : Lines) (actual expected : List ℕ) (is_expected : slice_get old at ≡ Some expected) (is_there : slice_get lines (from + at) ≡ Some actual) where
   here : found_from from at old lines
-      ≡ cond (bytes_eq stands expected) (other_line (suc (suc (from + at))) (drop (suc at) old) (drop (suc (from + at)) lines)) (Some (OtherLine (suc (from + at)) stands expected))
-  here = (λ j. other_line (suc (from + at)) (at_front old at expected is_expected j) (at_front lines (from + at) stands is_there j))
+      ≡ cond (bytes_eq actual expected) (other_line (suc (suc (from + at))) (drop (suc at) old) (drop (suc (from + at)) lines)) (Some (OtherLine (suc (from + at)) actual expected))
+  here = (λ j. other_line (suc (from + at)) (at_front old at expected is_expected j) (at_front lines (from + at) actual is_there j))
 
-  pub found_same : bytes_eq stands expected ≡ true → found_from from (at + 1) old lines ≡ found_from from at old lines
+  pub found_same : bytes_eq actual expected ≡ true → found_from from (at + 1) old lines ≡ found_from from at old lines
   found_same same =
       let next : at + 1 ≡ suc at = omega arith in
       let place : from + (at + 1) ≡ suc (from + at) = omega arith in
       (λ j. other_line (suc (place j)) (drop (next j) old) (drop (place j) lines))
-      ∙ sym (here ∙ ap (λ b. cond b (other_line (suc (suc (from + at))) (drop (suc at) old) (drop (suc (from + at)) lines)) (Some (OtherLine (suc (from + at)) stands expected))) same)
+      ∙ sym (here ∙ ap (λ b. cond b (other_line (suc (suc (from + at))) (drop (suc at) old) (drop (suc (from + at)) lines)) (Some (OtherLine (suc (from + at)) actual expected))) same)
 
-  pub found_other : bytes_eq stands expected ≡ false → found_from from at old lines ≡ Some (OtherLine (suc (from + at)) stands expected)
+  pub found_other : bytes_eq actual expected ≡ false → found_from from at old lines ≡ Some (OtherLine (suc (from + at)) actual expected)
   found_other other =
-      here ∙ ap (λ b. cond b (other_line (suc (suc (from + at))) (drop (suc at) old) (drop (suc (from + at)) lines)) (Some (OtherLine (suc (from + at)) stands expected))) other
+      here ∙ ap (λ b. cond b (other_line (suc (suc (from + at))) (drop (suc at) old) (drop (suc (from + at)) lines)) (Some (OtherLine (suc (from + at)) actual expected))) other
 
 pub found_none : (from at : ℕ) (old lines : Lines) → length old ≡ at → found_from from at old lines ≡ None
 found_none from at old lines all =
@@ -290,14 +290,14 @@ module _ (hunk : Edit) (lines : Lines) (from at : ℕ) (old : Lines) (found : fo
       let past : drop (from + at) lines ≡ [] = drop_none lines (from + at) is_none in
       sym (λ j. other_line (suc (from + at)) (at_front old at expected is_expected j) (past j)) ∙ found
 
-  module _ (stands expected : List ℕ) (is_expected : slice_get old at ≡ Some expected) (is_there : slice_get lines (from + at) ≡ Some stands) where
-    pub differs : true ≡ not (bytes_eq stands expected) → (s e : List ℕ) → s ≡ stands → e ≡ expected
+  module _ (actual expected : List ℕ) (is_expected : slice_get old at ≡ Some expected) (is_there : slice_get lines (from + at) ≡ Some actual) where
+    pub differs : true ≡ not (bytes_eq actual expected) → (s e : List ℕ) → s ≡ actual → e ≡ expected
         → Some (OtherLine (from + at + 1) s e) ≡ of_edit hunk lines
     differs other s e s_is e_is =
         let number : from + at + 1 ≡ suc (from + at) = omega arith in
         (λ j. Some (OtherLine (number j) (s_is j) (e_is j)))
-        ∙ sym (found_other from at old lines stands expected is_expected is_there (not-true (bytes_eq stands expected) (sym other)))
+        ∙ sym (found_other from at old lines actual expected is_expected is_there (not-true (bytes_eq actual expected) (sym other)))
         ∙ found
 
-    pub agrees : false ≡ not (bytes_eq stands expected) → found_from from (at + 1) old lines ≡ of_edit hunk lines
-    agrees same = found_same from at old lines stands expected is_expected is_there (not-false (bytes_eq stands expected) (sym same)) ∙ found
+    pub agrees : false ≡ not (bytes_eq actual expected) → found_from from (at + 1) old lines ≡ of_edit hunk lines
+    agrees same = found_same from at old lines actual expected is_expected is_there (not-false (bytes_eq actual expected) (sym same)) ∙ found

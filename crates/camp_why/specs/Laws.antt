@@ -19,7 +19,7 @@ use Rattle.camp_why.specs.declared.misfits.Misfit.{Misfit}
 -- the reported reason is a true one, and if there is one, the change does not apply; if there is none, it applies
 pub record MisfitsAreReasons : Type 0 where
   pub reported : (change : Primitive) (tree : Files) (why : Misfit) → find_misfit change tree ≡ Some why → IsMisfit change tree why
-  pub stand : (change : Primitive) (tree next : Files) (why : Misfit) → IsMisfit change tree why → ¬ (Applies change tree next)
+  pub prevents : (change : Primitive) (tree next : Files) (why : Misfit) → IsMisfit change tree why → ¬ (Applies change tree next)
   pub none : (change : Primitive) (tree : Files) → InRange change → find_misfit change tree ≡ None → (next : Files) × Applies change tree next
 
 -- a refusal of a call has a cause that it does not say: a limit, or a change of a record

@@ -26,8 +26,8 @@ remove_misfit (Some (line ∷ lines)) = Some (HasLines (length (line ∷ lines))
 abbrev pub other_line : ℕ → Lines → Lines → Option Misfit
 other_line at [] lines = None
 other_line at (expected ∷ old) [] = None
-other_line at (expected ∷ old) (stands ∷ lines) =
-    if bytes_eq stands expected then other_line (suc at) old lines else Some (OtherLine at stands expected)
+other_line at (expected ∷ old) (actual ∷ lines) =
+    if bytes_eq actual expected then other_line (suc at) old lines else Some (OtherLine at actual expected)
 
 -- the first old line past the end of a file of this length; none if the file is long enough
 abbrev pub lacking : Edit → ℕ → Option (List ℕ)
@@ -101,8 +101,8 @@ pub record Edits (change : Primitive) (tree : Files) (hunk : Edit) (lines : Line
 -- the old lines of an edit, of this number, are those of the file, as far as it has any
 abbrev pub AreInFile : Edit → Lines → ℕ → Type 0
 AreInFile hunk lines count =
-    (at : ℕ) (stands expected : List ℕ) → at < count → slice_get hunk.old at ≡ Some expected →
-    slice_get lines (hunk.line - 1 + at) ≡ Some stands → stands ≡ expected
+    (at : ℕ) (actual expected : List ℕ) → at < count → slice_get hunk.old at ≡ Some expected →
+    slice_get lines (hunk.line - 1 + at) ≡ Some actual → actual ≡ expected
 
 -- an edit wants at least this number of lines, and the file has fewer: the old lines up to its end are the same, and
 -- this is the first one past it, at this line
@@ -118,15 +118,15 @@ pub record ReachesBehind (change : Primitive) (tree : Files) (has wants at : ℕ
   pub is_at : at ≡ suc (hunk.line - 1 + (length lines - (hunk.line - 1)))
 
 -- at a line, counted from 1, the file differs from what an edit removes, and at none before it
-pub record MeetsOther (change : Primitive) (tree : Files) (at : ℕ) (stands expected : List ℕ) : Type 0 where
+pub record MeetsOther (change : Primitive) (tree : Files) (at : ℕ) (actual expected : List ℕ) : Type 0 where
   pub hunk : Edit
   pub lines : Lines
   pub edits : Edits change tree hunk lines
   pub before : ℕ
   pub is_at : at ≡ hunk.line + before
   pub is_expected : slice_get hunk.old before ≡ Some expected
-  pub is_there : slice_get lines (hunk.line - 1 + before) ≡ Some stands
-  pub other : stands ≢ expected
+  pub is_there : slice_get lines (hunk.line - 1 + before) ≡ Some actual
+  pub other : actual ≢ expected
   pub alike : AreInFile hunk lines before
 
 -- this is why a change does not apply to a tree
@@ -135,4 +135,4 @@ IsMisfit change tree FileIsThere = AddsAgain change tree
 IsMisfit change tree NoFile = ChangesNone change tree
 IsMisfit change tree (HasLines count) = RemovesLines change tree count
 IsMisfit change tree (EndsBefore has wants at lacks) = ReachesBehind change tree has wants at lacks
-IsMisfit change tree (OtherLine at stands expected) = MeetsOther change tree at stands expected
+IsMisfit change tree (OtherLine at actual expected) = MeetsOther change tree at actual expected

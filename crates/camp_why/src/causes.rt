@@ -3,10 +3,10 @@ ghost use Rattle.std.specs.Prelude.{◌≡◌, IfOk};
 ghost use Rattle.camp_repo.specs.States.{catches_of};
 ghost use Rattle.camp_why.specs.Causes.{explained, first_long, full_with_pull, is_of_changes, is_of_limit, long_cause, record_cause};
 
+use crate::stops::{Stop, first_stop};
 use camp_base::{Name, Path};
 use camp_prim::Primitive;
 use camp_repo::{Call, MAX_SIDE_LINES, Names, Refusal, State, count_brought};
-use crate::stops::{Stop, first_stop};
 use std::alloc::AllocError;
 
 /// Why a call is refused, if its refusal does not say it all.

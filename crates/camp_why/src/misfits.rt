@@ -28,7 +28,7 @@ pub enum Misfit {
     /// At a line, counted from 1, the file differs from what an edit removes.
     OtherLine {
         at: usize,
-        stands: Line,
+        actual: Line,
         expected: Line,
     },
 }
@@ -76,15 +76,15 @@ fn other_line(hunk: &Hunk, lines: &SharedList<Line>) -> Result<Option<Misfit>, A
     let from = hunk.line() as usize - 1;
     let old = hunk.old();
     for (at, expected) in old.iter().enumerate() {
-        let Some(stands) = lines.get(from + at) else {
+        let Some(actual) = lines.get(from + at) else {
             return Ok(None);
         };
-        if stands != expected {
-            let stands = stands.try_clone()?;
+        if actual != expected {
+            let actual = actual.try_clone()?;
             let expected = expected.try_clone()?;
             return Ok(Some(Misfit::OtherLine {
                 at: from + at + 1,
-                stands,
+                actual,
                 expected,
             }));
         }

@@ -4,10 +4,10 @@ ghost use Rattle.camp_prim.specs.Applied.{applied};
 ghost use Rattle.std.specs.FinMap.{get};
 ghost use Rattle.camp_why.specs.Stops.{first_stop, hindrance, long_file};
 
+use crate::misfits::{Misfit, find_misfit};
 use camp_base::{Apply, Path, Tree};
 use camp_prim::Primitive;
 use camp_repo::MAX_FILE_LINES;
-use crate::misfits::{Misfit, find_misfit};
 use std::alloc::AllocError;
 
 /// Where a record stops.

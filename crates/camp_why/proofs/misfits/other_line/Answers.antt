@@ -7,16 +7,16 @@ returns-then-ne c =
     let at = c.loop-at.at in
     let old = c.old-old.result.now in
     let from = c.line.result - 1 in
-    differs c.args.hunk.now c.args.lines.now from at old c.loop-at.invariant c.in-Some.stands.now c.index-old-at.result
+    differs c.args.hunk.now c.args.lines.now from at old c.loop-at.invariant c.in-Some.actual.now c.index-old-at.result
     (slice_get_read old (length old) at c.index-old-at.result refl (omega arith) c.index-old-at.is)
-    (sym c.in-Some.ensures.exact) c.if-ne.ensures _ _ c.in_ok-stands.ensures.exact c.in_ok-expected.ensures.exact
+    (sym c.in-Some.ensures.exact) c.if-ne.ensures _ _ c.in_ok-actual.ensures.exact c.in_ok-expected.ensures.exact
 
 pub loop-at-preserved : goal.loop-at-preserved
 loop-at-preserved c =
     let at = c.loop-at.at in
     let old = c.old-old.result.now in
     let from = c.line.result - 1 in
-    agrees c.args.hunk.now c.args.lines.now from at old c.loop-at.invariant c.in-Some.stands.now c.index-old-at.result
+    agrees c.args.hunk.now c.args.lines.now from at old c.loop-at.invariant c.in-Some.actual.now c.index-old-at.result
     (slice_get_read old (length old) at c.index-old-at.result refl (omega arith) c.index-old-at.is) (sym c.in-Some.ensures.exact) c.if-ne.ensures
 
 pub returns-in_default : goal.returns-in_default
