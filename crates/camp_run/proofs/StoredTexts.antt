@@ -12,14 +12,14 @@ use Rattle.camp_call.specs.declared.replies.Reply.TheVariants as reply
 use Rattle.camp_repo.proofs.AcceptedSteps.{obliterates_nothing, pulls_nothing}
 use Rattle.camp_repo.specs.States.{Contents, new_within}
 use Rattle.camp_repo.specs.Steps.{Decision, step}
-use Rattle.camp_run.specs.Keeping.{KeptLeadsBack, SeatZeroStays, at_seat_0, dones}
+use Rattle.camp_run.specs.StoredTexts.{KeptLeadsBack, SeatZeroIsPreserved, moved_to_seat_0, dones}
 use Rattle.camp_script.specs.Canonical.{IsScriptCall, CanBeWritten}
 use Rattle.camp_script.specs.Keeping.{CanStand, ListsNames, calls_of}
 use Rattle.camp_script.proofs.CanonicalCalls.{reads_back}
 
 module _ (limits : Bounds) where
   -- an accepted call that lists names lists at least one
-  lists_names : (state : Contents) (asked : Call) (next : Contents) → step state asked ≡ Next next → ListsNames asked
+  lists_names : (state : Contents) (given : Call) (next : Contents) → step state given ≡ Next next → ListsNames given
   lists_names state (call.Branch new from) next is = tt
   lists_names state (call.Record branch name changes) next is = tt
   lists_names state (call.Pull from to None) next is = tt
@@ -33,7 +33,7 @@ module _ (limits : Bounds) where
 
   -- the calls of a history that continues from a state are each accepted when they are executed again from there
   record Retraces (state : Contents) (history : Entries) : Type 0 where
-    books : accepted_from 0 state (calls_of history) ≡ at_seat_0 history
+    books : accepted_from 0 state (calls_of history) ≡ moved_to_seat_0 history
     replies : map Ok (replies_to state (calls_of history)) ≡ dones (state.count + 1) (calls_of history)
     lists : AllByRecursion ListsNames (calls_of history)
 
@@ -65,13 +65,13 @@ module _ (limits : Bounds) where
   can_stand : (calls : List Call) → AllByRecursion CanStand calls → AllByRecursion ListsNames calls
       → AllByRecursion IsScriptCall calls
   can_stand [] stand lists = tt
-  can_stand (asked ∷ calls) stand lists = (stand.0 lists.0, can_stand calls stand.1 lists.1)
+  can_stand (given ∷ calls) stand lists = (stand.0 lists.0, can_stand calls stand.1 lists.1)
 
-  run_at_seat_0 : (history : Entries) (from : Option Contents)
-      → run (repository_within limits) from (at_seat_0 history) ≡ run (repository_within limits) from history
-  run_at_seat_0 [] from = refl
-  run_at_seat_0 (entry ∷ history) from =
-      run_at_seat_0 history (option_and_then (λ s. (repository_within limits).after s entry.1) from)
+  run_moved_to_seat_0 : (history : Entries) (from : Option Contents)
+      → run (repository_within limits) from (moved_to_seat_0 history) ≡ run (repository_within limits) from history
+  run_moved_to_seat_0 [] from = refl
+  run_moved_to_seat_0 (entry ∷ history) from =
+      run_moved_to_seat_0 history (option_and_then (λ s. (repository_within limits).after s entry.1) from)
 
   can_be_written : (history : Entries) → AllByRecursion IsScriptCall (calls_of history) → length history ≤ 65_536
       → CanBeWritten (calls_of history ∷ [])
@@ -89,22 +89,22 @@ kept_leads_back limits history state replays stand few =
     record {
       reads = reads_back (calls_of history ∷ [])
           (can_be_written limits history (can_stand limits (calls_of history) stand again.lists) few);
-      comes = record {
+      is_serial = record {
         replies = ap (λ answers. answers ∷ []) (sym again.replies);
         books = sym again.books ∙ sym (append-nil (accepted_from 0 (new_within limits) (calls_of history)));
       };
-      leads = run_at_seat_0 limits history (Some (new_within limits)) ∙ replays;
+      leads = run_moved_to_seat_0 limits history (Some (new_within limits)) ∙ replays;
     }
 
-as_it_was : (history : Entries) → AllByRecursion (λ entry. entry.0 ≡ 0) history → at_seat_0 history ≡ history
+as_it_was : (history : Entries) → AllByRecursion (λ entry. entry.0 ≡ 0) history → moved_to_seat_0 history ≡ history
 as_it_was [] all = refl
 as_it_was (entry ∷ history) all =
-    ap (λ n. (n, entry.1) ∷ at_seat_0 history) (sym all.0) ∙ ap (λ h. entry ∷ h) (as_it_was history all.1)
+    ap (λ n. (n, entry.1) ∷ moved_to_seat_0 history) (sym all.0) ∙ ap (λ h. entry ∷ h) (as_it_was history all.1)
 
-pub seat_zero_stays : SeatZeroStays
-seat_zero_stays limits history state replays stand within all =
+pub seat_zero_is_preserved : SeatZeroIsPreserved
+seat_zero_is_preserved limits history state replays stand within all =
     let back = kept_leads_back limits history state replays stand within in
     record {
       reads = back.reads;
-      comes = subst (λ h. IsSerial limits (calls_of history ∷ []) (dones 1 (calls_of history) ∷ []) h) (as_it_was history all) back.comes;
+      is_serial = subst (λ h. IsSerial limits (calls_of history ∷ []) (dones 1 (calls_of history) ∷ []) h) (as_it_was history all) back.is_serial;
     }
