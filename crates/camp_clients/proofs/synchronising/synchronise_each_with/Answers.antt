@@ -7,19 +7,19 @@ loop-seat-preserved g c =
     let inv = c.loop-seat.invariant in
     let m = c.meet-seat.ensures in
     let next = ap length c.in-Some.ensures.steps.0 in
-    let knows = ok_holds (IsBeginning (history_of c.loop-seat.known) (history_of c.meet-seat.result.0)) c.meet-seat.result.2 m.meets.b_beginning
+    let knows = ok_holds (IsBeginning (history_of c.loop-seat.known) (history_of c.meet-seat.result.0)) c.meet-seat.result.2 m.synchronises.b_beginning
     (sym c.is_err.ensures.value ∙ c.if-is_err.false) in
     record {
       seat = m.seats.1;
-      number = m.meets.b_number ∙ inv.number;
-      seen = m.meets.b_seen ∙ inv.seen;
+      number = m.synchronises.b_number ∙ inv.number;
+      seen = m.synchronises.b_seen ∙ inv.seen;
       left = All-rest (IsSeatOf c.args.head.now) c.in-Some.seat _ c.loop-seat.seat-iterator.rest.items c.in-Some.ensures.steps.0 inv.left;
       seats = rw c.push_reserved.ensures.items
           (all_zipped_more (IsSynchronised c.args.head.now (history_of c.args.opener)) c.loop-seat.yielded c.loop-seat.all.items c.in-Some.seat _ inv.seats
           (record {
             is_seat = m.seats.0;
-            number = m.meets.a_number;
-            own_stays = m.meets.a_own;
+            number = m.synchronises.a_number;
+            own_stays = m.synchronises.a_own;
             knows = subst (λ h. IsBeginning h (history_of c.meet-seat.result.0)) inv.seen knows;
           }));
       room = omega (arith, next, inv.room, c.push_reserved.ensures.len, c.push_reserved.ensures.capacity);

@@ -15,26 +15,26 @@ loop-seat-preserved g c =
     let is_ok = sym c.is_err.ensures.value ∙ c.if-is_err.false in
     let counted : ((length c.loop-seat.all.items ≡ 0) ⊎ (c.if-is_empty.first ≡ c.loop-seat.first)) × (c.if-is_empty.first ≤ length now) = elim c.if-is_empty.branch [
       | then-is_empty w ↦ (inl (sym c.loop-seat.all.ok.0 ∙ eqb-true _ 0 (sym c.is_empty.ensures ∙ w.if-is_empty.true)), omega (arith, w.first-is, w.position-first.ensures.exact))
-      | else-is_empty w ↦ (inr w.first-is, omega (arith, w.first-is, inv.least, length-beginning m.meets.a_grows))
+      | else-is_empty w ↦ (inr w.first-is, omega (arith, w.first-is, inv.least, length-beginning m.synchronises.a_grows))
     ] in
     record {
       seat = m.seats.0;
-      number = m.meets.a_number ∙ inv.number;
-      grows = begins_through inv.grows m.meets.a_grows;
-      own_stays = subst (λ n. own n now ≡ own n (history_of c.loop-seat.known)) inv.number m.meets.a_own ∙ inv.own_stays;
+      number = m.synchronises.a_number ∙ inv.number;
+      grows = begins_through inv.grows m.synchronises.a_grows;
+      own_stays = subst (λ n. own n now ≡ own n (history_of c.loop-seat.known)) inv.number m.synchronises.a_own ∙ inv.own_stays;
       least = counted.1;
       left = All-rest (IsSeatOf head) seat _ c.loop-seat.seat-iterator.rest.items c.in-Some.ensures.steps.0 inv.left;
       seats = rw c.push_reserved.ensures.items
           (one_synchronised head c.loop-seat.first c.if-is_empty.first (history_of c.loop-seat.known) now c.loop-seat.yielded c.loop-seat.all.items seat _
-          m.meets.a_grows inv.seats counted.0
+          m.synchronises.a_grows inv.seats counted.0
           (record {
             is_seat = m.seats.1;
-            number = m.meets.b_number;
-            seen = m.meets.b_seen;
+            number = m.synchronises.b_number;
+            seen = m.synchronises.b_seen;
             earlier = now;
             synchronised = record {
-              known = ok_holds (IsBeginning (history_of seat) now) c.meet-other.result.2 m.meets.b_beginning is_ok;
-              own_known = ok_holds (own seat.known.number now ≡ own seat.known.number (history_of seat)) c.meet-other.result.2 m.meets.b_own is_ok;
+              known = ok_holds (IsBeginning (history_of seat) now) c.meet-other.result.2 m.synchronises.b_beginning is_ok;
+              own_known = ok_holds (own seat.known.number now ≡ own seat.known.number (history_of seat)) c.meet-other.result.2 m.synchronises.b_own is_ok;
             };
             long = counted.1;
             since = begins_self now;

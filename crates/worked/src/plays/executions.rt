@@ -6,15 +6,15 @@ use camp_script::answer_text;
 
 /// How often a command was executed so far, and its last answer.
 #[derive(Drop)]
-pub(crate) struct Asked {
+pub(crate) struct Executions {
     count: u32,
     last: Option<Answer>,
 }
 
-impl Asked {
+impl Executions {
     /// Starts with no execution.
-    pub(crate) fn nothing() -> Asked {
-        Asked {
+    pub(crate) fn nothing() -> Executions {
+        Executions {
             count: 0,
             last: None,
         }

@@ -2,7 +2,7 @@
 ghost use Rattle.std.specs.Prelude.{◌≡◌, ◌≤◌, length, IfOk};
 ghost use Rattle.camp_object.specs.Books.{replay_book};
 ghost use Rattle.camp_repo.specs.Objects.{repository};
-ghost use Rattle.camp_uses.specs.Kept.{all_at_seat_0};
+ghost use Rattle.camp_uses.specs.StoredBooks.{book_at_seat_0};
 ghost use Rattle.camp_script.specs.Sections.{most_writing_calls};
 
 use camp_clients::serial_from;
@@ -13,9 +13,9 @@ use std::alloc::{AllocError, Global};
 
 /// Writes a book as a script, reads the script, and executes it on a new repository with the same limits:
 /// returns the new book.
-pub fn keep_and_read(alloc: Global, book: &Book<State>) -> Result<Book<State>, AllocError>
+pub fn store_and_read(alloc: Global, book: &Book<State>) -> Result<Book<State>, AllocError>
     requires { length book.now.calls ≤ most_writing_calls }
-    ensures history { IfOk result (λ again. again ≡ all_at_seat_0 book.now) }
+    ensures history { IfOk result (λ again. again ≡ book_at_seat_0 book.now) }
     ensures state { IfOk result (λ again. replay_book repository again ≡ replay_book repository book.now) }
 {
     kept_text_leads_back();
