@@ -13,7 +13,7 @@ from tests.harness import programs
 from tests.harness.worked import REFUSED, failing_program, tables
 
 SECONDS, GATE = 170, "beside"
-GATE_WORDS = """memory-few memory-lists memory-book memory-seats memory-seats-versions memory-clients memory-heads calls-depending
+GATE_WORDS = """memory-few memory-lists memory-book memory-seats memory-seats-snapshots memory-clients memory-heads calls-depending
     calls-conflict calls-three-in-conflict calls-conflict-with-two calls-one-with-two calls-three-conflicts
     calls-on-a-conflict calls-equal-changes calls-moving""".split()
 # So many runs in a row that refuse nothing say that all allocations were refused.

@@ -21,7 +21,7 @@ use stops::Stop;
 
 fn main(rt: HostRuntime) -> ExitCode {
     let ended = match command_line(&rt) {
-        Ok(words) => match asked(rt.alloc(), words.as_slice()) {
+        Ok(words) => match parse_command_line(rt.alloc(), words.as_slice()) {
             Ok((options, limits)) => {
                 let (mut reader, mut writer) = (rt.stdin(), rt.stdout());
                 run(&rt, rt.alloc(), limits, &options, &mut reader, &mut writer).map_err(Stop::Run)
@@ -32,16 +32,19 @@ fn main(rt: HostRuntime) -> ExitCode {
     };
     match ended {
         Ok(()) => ExitCode::SUCCESS,
-        Err(stop) => ExitCode::from(stop.tell(&rt)),
+        Err(stop) => ExitCode::from(stop.report(&rt)),
     }
 }
 
-// Reads what the command line asks for: the options, and the limits of the repository.
-fn asked<'a>(alloc: Global, words: &'a [String]) -> Result<(Options<'a>, Limits), WordsFault>
-    ensures tries { IfOk result (λ asked. (1 ≤ asked.0.tries) × (asked.0.tries ≤ most_tries)) }
-    ensures limits { IfOk result (λ asked. option_map_or (λ text. limits_in text.now) asked.0.limits (Ok default_bounds) ≡ Ok asked.1) }
+// Parses the command line: the options, and the limits of the repository.
+fn parse_command_line<'a>(
+    alloc: Global,
+    words: &'a [String],
+) -> Result<(Options<'a>, Limits), WordsFault>
+    ensures tries { IfOk result (λ parsed. (1 ≤ parsed.0.tries) × (parsed.0.tries ≤ most_tries)) }
+    ensures limits { IfOk result (λ parsed. option_map_or (λ text. limits_in text.now) parsed.0.limits (Ok default_bounds) ≡ Ok parsed.1) }
 {
-    let asked = options(alloc, words)?;
-    let limits = asked.limits()?;
-    Ok((asked, limits))
+    let parsed = options(alloc, words)?;
+    let limits = parsed.limits()?;
+    Ok((parsed, limits))
 }

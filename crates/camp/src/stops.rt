@@ -13,7 +13,7 @@ pub(crate) enum Stop {
 
 impl Stop {
     /// Reports why, and returns the exit status.
-    pub(crate) fn tell<R: Print + Eprint>(&self, rt: &R) -> u8 {
+    pub(crate) fn report<R: Print + Eprint>(&self, rt: &R) -> u8 {
         match self {
             Stop::Words(fault) => fault.tell(rt, "camp"),
             Stop::Run(fault) => tell_fault(rt, "camp", fault, fault.status()),

@@ -1,6 +1,6 @@
 -- Lemmas on lists that go side by side.
 use Rattle.std.proofs.lemmas.List.{take_more, get_or-map, map_push, append_assoc}
-use Rattle.camp_clients.proofs.Words.{AllZip-long, all_zipped_more, Vec, vec_items, ArePutApart, Gathers, lists_of, section_of, ◌≡◌, ℕ, ◌+◌, ◌<◌, suc, zero, List, [], ◌∷◌, ◌++◌, length, take, get_or, Result, Ok, IfOk, refl, sym, ◌∙◌, ap, subst, add-one, arith, All, AllZip, remove, OnOk, is_err, false, Err}
+use Rattle.camp_clients.proofs.Words.{AllZip-long, all_zipped_more, Vec, vec_items, AreSeparated, Gathers, lists_of, section_of, ◌≡◌, ℕ, ◌+◌, ◌<◌, suc, zero, List, [], ◌∷◌, ◌++◌, length, take, get_or, Result, Ok, IfOk, refl, sym, ◌∙◌, ap, subst, add-one, arith, All, AllZip, remove, OnOk, is_err, false, Err}
 
 module _ {A B : Type 0} (R : A → B → Type 0) where
   -- one more element, at index i
@@ -29,10 +29,10 @@ gathers_push first made all one own so_far is = record {
 }
 
 -- one thread more brought a seat and answers
-pub apart_push : {Seat Own Fault : Type 0} (opening : Own) (made : List (Result (Seat × Own) Fault)) (seats : List Seat) (all : List Own)
+pub separated_push : {Seat Own Fault : Type 0} (opening : Own) (made : List (Result (Seat × Own) Fault)) (seats : List Seat) (all : List Own)
     (one : Result (Seat × Own) Fault) (seat : Seat) (own : Own)
-    → ArePutApart opening made seats all → one ≡ Ok (seat, own) → ArePutApart opening (made ++ one ∷ []) (seats ++ seat ∷ []) (all ++ own ∷ [])
-apart_push opening made seats all one seat own so_far is = record {
+    → AreSeparated opening made seats all → one ≡ Ok (seat, own) → AreSeparated opening (made ++ one ∷ []) (seats ++ seat ∷ []) (all ++ own ∷ [])
+separated_push opening made seats all one seat own so_far is = record {
   pairs = so_far.pairs ++ (seat, own) ∷ [];
   brought = all_zipped_more (λ one pair. one ≡ Ok pair) made so_far.pairs one (seat, own) so_far.brought is;
   firsts = ap (λ xs. xs ++ seat ∷ []) so_far.firsts ∙ sym (map_push (λ pair. pair.0) so_far.pairs (seat, own));
@@ -75,8 +75,8 @@ module _ {A B : Type 0} (R : A → B → Type 0) (P : B → Type 0) (each : (x :
 
 -- a fact about seat k + 1 is one about seat k of those after the first
 module _ {Seat : Type 0} (P : ℕ → Seat → Type 0) where
-  pub behind_first : (seats rest : List Seat) → rest ≡ remove seats 0 → ((k : ℕ) (d : Seat) → k < length seats → P k (get_or seats k d))
+  pub after_first : (seats rest : List Seat) → rest ≡ remove seats 0 → ((k : ℕ) (d : Seat) → k < length seats → P k (get_or seats k d))
       → (k : ℕ) (d : Seat) → k < length rest → P (k + 1) (get_or rest k d)
-  behind_first [] rest is each k d below = absurd (omega (arith, ap length is))
-  behind_first (x ∷ xs) rest is each k d below =
+  after_first [] rest is each k d below = absurd (omega (arith, ap length is))
+  after_first (x ∷ xs) rest is each k d below =
       rw (add-one k, is) (each (suc k) d (omega (arith, ap length is)))

@@ -5,9 +5,9 @@ pub same_seat : (seat : ℕ) → (seat == seat) ≡ true
 same_seat seat = elim (eqb_tells seat seat) [ inl same ↦ same.0 | inr other ↦ absurd (other.1 refl) ]
 
 -- if a seat has as many calls in the whole as in a prefix, the rest has none of it
-pub own_rest : {Call : Type 0} (seat : ℕ) (f h : List (ℕ × Call)) (beginning : IsBeginning f h) → own seat h ≡ own seat f → own seat beginning.rest ≡ []
-own_rest seat f h beginning same =
-    append_cancel_left (own seat f) (own seat beginning.rest) [] (sym (own-append seat f beginning.rest) ∙ ap (own seat) beginning.makes ∙ same ∙ sym (append-nil (own seat f)))
+pub own_rest : {Call : Type 0} (seat : ℕ) (f h : List (ℕ × Call)) (prefix : IsBeginning f h) → own seat h ≡ own seat f → own seat prefix.rest ≡ []
+own_rest seat f h prefix same =
+    append_cancel_left (own seat f) (own seat prefix.rest) [] (sym (own-append seat f prefix.rest) ∙ ap (own seat) prefix.makes ∙ same ∙ sym (append-nil (own seat f)))
 
 -- the last call of a legal history was accepted before it
 pub last_accepted : {State Call Reply : Type 0} (object : Sequential State Call Reply) (h : List (ℕ × Call)) (entry : ℕ × Call)

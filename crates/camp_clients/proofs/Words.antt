@@ -11,16 +11,16 @@ pub use Rattle.std.proofs.lemmas.Simd.{map-map}
 pub use Rattle.std.proofs.lemmas.Slice.Zip.{AllZip-long, all_zipped_more}
 pub use Rattle.std.specs.List.{All, AllByRecursion, AllZip, range_with_len, remove}
 pub use Rattle.std.specs.Prelude.{OnOk, Vec, is_err, vec_capacity, vec_items, vec_len}
-pub use Rattle.camp_clients.specs.Answers.{Asks, GoesOn, HasMemory, IsDone, IsOvertaken, SaysAlone, SaysAmongThreads, StepsAlone, told}
+pub use Rattle.camp_clients.specs.Answers.{SectionStep, SectionContinues, HasMemory, IsDone, IsOvertaken, SaysAlone, SaysAmongThreads, StepsAlone, reported_position}
 pub use Rattle.camp_clients.specs.Clients.{AllRan, IsReady, Ran}
-pub use Rattle.camp_clients.specs.Comparing.{Differs, IsFound, Matches, left_from}
-pub use Rattle.camp_clients.specs.Gathering.{ArePutApart, Gathers}
-pub use Rattle.camp_clients.specs.Meeting.{AreNew, HasMet, IsMet, WasMet}
+pub use Rattle.camp_clients.specs.Comparing.{Differs, AreFoundUpTo, Matches, left_from}
+pub use Rattle.camp_clients.specs.Gathering.{AreSeparated, Gathers}
+pub use Rattle.camp_clients.specs.Synchronising.{AreNew, IsSynchronised, HasAllOfSeat, WasSynchronised}
 pub use Rattle.camp_clients.specs.Positions.{done_at, own_at, where_done}
-pub use Rattle.camp_clients.specs.Runs.{HasBeginnings, HasOpening, InTurn, IsExactly, IsShared, OneByOne, OwnDone, SaysSomewhere, lists_of, section_of}
+pub use Rattle.camp_clients.specs.Runs.{HasPrefixes, HasOpening, InTurn, IsExactly, IsShared, OneByOne, OwnDone, SaysSomewhere, lists_of, section_of}
 pub use Rattle.camp_clients.specs.Sections.{Section}
 pub use Rattle.camp_history.proofs.Versioned.{all_unmap, left_first}
-pub use Rattle.camp_history.specs.Seats.{HeadId, IsSeatOf, Seated, calls_per_seat, history_of, number_of}
+pub use Rattle.camp_history.specs.Seats.{HeadId, IsSeatOf, SeatState, calls_per_seat, history_of, seat_number}
 pub use Rattle.camp_object.proofs.Beginnings.{begins_through, begins_longer, begins_self, begins_whole, length-beginning}
 pub use Rattle.camp_object.proofs.Replays.{legal_front, length-own-all, length-own-within, own-append, own_mine, run-append}
 pub use Rattle.camp_object.specs.Asking.{Accepts, AddsNothing, Ask, Caller, IsBusy, Loses, alone_at}

@@ -7,9 +7,9 @@ use Rattle.camp_object.specs.declared.faults.Fault.{Fault}
 use Rattle.camp_object.specs.declared.faults.Fault.TheVariants.{Memory, Busy, Full}
 
 -- the position in an answer, if its call was accepted
-abbrev pub told : {State Call Reply : Type 0} → Sequential State Call Reply → Result Reply Fault → Option ℕ
-told object (Ok reply) = object.done_at reply
-told object (Err fault) = None
+abbrev pub reported_position : {State Call Reply : Type 0} → Sequential State Call Reply → Result Reply Fault → Option ℕ
+reported_position object (Ok reply) = object.done_at reply
+reported_position object (Err fault) = None
 
 -- an answer other than out of memory
 abbrev pub HasMemory : {Reply : Type 0} → Result Reply Fault → Type 0
@@ -19,31 +19,31 @@ HasMemory (Err (Busy lost)) = Unit {0}
 HasMemory (Err Full) = Unit {0}
 
 -- an answer after which a section continues: neither out of memory nor a full seat
-abbrev pub GoesOn : {Reply : Type 0} → Result Reply Fault → Type 0
-GoesOn (Ok reply) = Unit {0}
-GoesOn (Err Memory) = ⊥
-GoesOn (Err (Busy lost)) = Unit {0}
-GoesOn (Err Full) = ⊥
+abbrev pub SectionContinues : {Reply : Type 0} → Result Reply Fault → Type 0
+SectionContinues (Ok reply) = Unit {0}
+SectionContinues (Err Memory) = ⊥
+SectionContinues (Err (Busy lost)) = Unit {0}
+SectionContinues (Err Full) = ⊥
 
 -- an answer of a desk after which a section continues
-pub record Asks {State Call Reply : Type 0} (object : Sequential State Call Reply) (caller : Caller)
+pub record SectionStep {State Call Reply : Type 0} (object : Sequential State Call Reply) (caller : Caller)
     (seen : List (ℕ × Call)) (call : Call) (answer : Result Reply Fault) (now : List (ℕ × Call)) : Type 0 where
   pub asks : Ask object caller seen call answer now
-  pub goes_on : GoesOn answer
+  pub continues : SectionContinues answer
 
 -- done: the prefix ends with the call, which was accepted after the calls before it; the answer gives its length
 pub record IsDone {Call : Type 0} (seat : ℕ) (before : List (ℕ × Call)) (call : Call) (at : ℕ)
-    (beginning : List (ℕ × Call)) : Type 0 where
-  pub stood : List (ℕ × Call)
-  pub since : IsBeginning before stood
-  pub ends : stood ++ (seat, call) ∷ [] ≡ beginning
-  pub position : at ≡ length beginning
+    (prefix : List (ℕ × Call)) : Type 0 where
+  pub at_acceptance : List (ℕ × Call)
+  pub since : IsBeginning before at_acceptance
+  pub ends : at_acceptance ++ (seat, call) ∷ [] ≡ prefix
+  pub position : at ≡ length prefix
 
 -- busy: after the prefix before, at least `tries` calls of other seats were accepted, and none of this seat
 pub record IsOvertaken {Call : Type 0} (seat tries : ℕ) (before : List (ℕ × Call)) (lost : ℕ)
-    (beginning : List (ℕ × Call)) : Type 0 where
+    (prefix : List (ℕ × Call)) : Type 0 where
   pub others : List (ℕ × Call)
-  pub makes : before ++ others ≡ beginning
+  pub makes : before ++ others ≡ prefix
   pub none_own : own seat others ≡ []
   pub enough : tries ≤ length others
   pub all_lost : lost ≡ tries
@@ -51,24 +51,24 @@ pub record IsOvertaken {Call : Type 0} (seat tries : ℕ) (before : List (ℕ ×
 -- what an answer says among threads; any reply but done is that of the object at that prefix
 abbrev pub SaysAmongThreads : {State Call Reply : Type 0} → Sequential State Call Reply → (seat tries : ℕ)
     → List (ℕ × Call) → Call → Result Reply Fault → List (ℕ × Call) → Type 0
-SaysAmongThreads object seat tries before call (Ok reply) beginning =
-    MatchOption (object.done_at reply) (IsBeginning before beginning × IsAnswered object beginning call reply)
-    (λ at. IsDone seat before call at beginning)
-SaysAmongThreads object seat tries before call (Err Memory) beginning = ⊥
-SaysAmongThreads object seat tries before call (Err (Busy lost)) beginning = IsOvertaken seat tries before lost beginning
-SaysAmongThreads object seat tries before call (Err Full) beginning = ⊥
+SaysAmongThreads object seat tries before call (Ok reply) prefix =
+    MatchOption (object.done_at reply) (IsBeginning before prefix × IsAnswered object prefix call reply)
+    (λ at. IsDone seat before call at prefix)
+SaysAmongThreads object seat tries before call (Err Memory) prefix = ⊥
+SaysAmongThreads object seat tries before call (Err (Busy lost)) prefix = IsOvertaken seat tries before lost prefix
+SaysAmongThreads object seat tries before call (Err Full) prefix = ⊥
 
 -- what an answer says if nobody else asks: it is that of the object at the history as it was, and only a call that is
 -- done adds to the history, and only itself
 abbrev pub SaysAlone : {State Call Reply : Type 0} → Sequential State Call Reply → (seat : ℕ)
     → List (ℕ × Call) → Call → Result Reply Fault → List (ℕ × Call) → Type 0
-SaysAlone object seat before call (Ok reply) beginning =
-    MatchOption (object.done_at reply) ((beginning ≡ before) × IsAnswered object before call reply)
-    (λ at. (beginning ≡ before ++ (seat, call) ∷ []) × (at ≡ length beginning))
-SaysAlone object seat before call (Err fault) beginning = ⊥
+SaysAlone object seat before call (Ok reply) prefix =
+    MatchOption (object.done_at reply) ((prefix ≡ before) × IsAnswered object before call reply)
+    (λ at. (prefix ≡ before ++ (seat, call) ∷ []) × (at ≡ length prefix))
+SaysAlone object seat before call (Err fault) prefix = ⊥
 
 -- a call that is done was accepted at the replay of the history as it was
 pub record StepsAlone {State Call Reply : Type 0} (object : Sequential State Call Reply) (seat : ℕ)
-    (before : List (ℕ × Call)) (call : Call) (answer : Result Reply Fault) (beginning : List (ℕ × Call)) : Type 0 where
-  pub says : SaysAlone object seat before call answer beginning
-  pub accepted : (at : ℕ) → told object answer ≡ Some at → IsAccepted object before call
+    (before : List (ℕ × Call)) (call : Call) (answer : Result Reply Fault) (prefix : List (ℕ × Call)) : Type 0 where
+  pub says : SaysAlone object seat before call answer prefix
+  pub accepted : (at : ℕ) → reported_position object answer ≡ Some at → IsAccepted object before call

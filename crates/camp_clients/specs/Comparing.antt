@@ -6,27 +6,27 @@ use Rattle.camp_clients.specs.Runs.{section_of}
 -- the calls of a seat that are done, from an index of its section on
 abbrev pub left_from : {Call Answer : Type 0} → (Answer → Option ℕ) → List (List Call) → List (List Answer)
     → (seat from : ℕ) → List (ℕ × Call)
-left_from told sections answers seat from =
-    done_at told (drop from (section_of sections seat)) (drop from (section_of answers seat))
+left_from reported_position sections answers seat from =
+    done_at reported_position (drop from (section_of sections seat)) (drop from (section_of answers seat))
 
 -- the done calls of each section are those found in a prefix of the history, followed by those not found yet
-abbrev pub IsFound : {Call Answer : Type 0} → (Answer → Option ℕ) → List (List Call) → List (List Answer)
+abbrev pub AreFoundUpTo : {Call Answer : Type 0} → (Answer → Option ℕ) → List (List Call) → List (List Answer)
     → List (ℕ × Call) → List ℕ → Type 0
-IsFound told sections answers beginning places = (seat : ℕ) → seat < length sections →
-    done_at told (section_of sections seat) (section_of answers seat)
-    ≡ own_at seat 0 beginning ++ left_from told sections answers seat (slice_index_or places seat 0)
+AreFoundUpTo reported_position sections answers prefix indexes = (seat : ℕ) → seat < length sections →
+    done_at reported_position (section_of sections seat) (section_of answers seat)
+    ≡ own_at seat 0 prefix ++ left_from reported_position sections answers seat (slice_index_or indexes seat 0)
 
 -- the entry at a position is the first done call of its section that is not found yet; `after` has the index after it
-pub record Matches {Call Answer : Type 0} (told : Answer → Option ℕ) (sections : List (List Call))
-    (answers : List (List Answer)) (at : ℕ) (entry : ℕ × Call) (places after : List ℕ) : Type 0 where
+pub record Matches {Call Answer : Type 0} (reported_position : Answer → Option ℕ) (sections : List (List Call))
+    (answers : List (List Answer)) (at : ℕ) (entry : ℕ × Call) (indexes after : List ℕ) : Type 0 where
   pub is_section : entry.0 < length sections
-  pub place : ℕ
-  pub next : left_from told sections answers entry.0 (slice_index_or places entry.0 0)
-      ≡ (at, entry.1) ∷ left_from told sections answers entry.0 place
-  pub goes_on : after ≡ slice_set places entry.0 place
+  pub index : ℕ
+  pub next : left_from reported_position sections answers entry.0 (slice_index_or indexes entry.0 0)
+      ≡ (at, entry.1) ∷ left_from reported_position sections answers entry.0 index
+  pub moves : after ≡ slice_set indexes entry.0 index
 
 -- the entry at a position is not the first done call of its section that is not found yet
 abbrev pub Differs : {Call Answer : Type 0} → (Answer → Option ℕ) → List (List Call) → List (List Answer)
     → (at : ℕ) → ℕ × Call → List ℕ → Type 0
-Differs {Call} told sections answers at entry places = entry.0 < length sections → (rest : List (ℕ × Call)) →
-    ¬ (left_from told sections answers entry.0 (slice_index_or places entry.0 0) ≡ (at, entry.1) ∷ rest)
+Differs {Call} reported_position sections answers at entry indexes = entry.0 < length sections → (rest : List (ℕ × Call)) →
+    ¬ (left_from reported_position sections answers entry.0 (slice_index_or indexes entry.0 0) ≡ (at, entry.1) ∷ rest)

@@ -10,7 +10,7 @@ pub record Gathers {Own Fault : Type 0}
   pub brought : AllZip (λ one own. one ≡ Ok own) made others
 
 -- the seats that threads return, and the answers: the opening's, followed by theirs
-pub record ArePutApart {Seat Own Fault : Type 0}
+pub record AreSeparated {Seat Own Fault : Type 0}
     (opening : Own) (made : List (Result (Seat × Own) Fault)) (seats : List Seat) (all : List Own) : Type 0 where
   pub pairs : List (Seat × Own)
   pub brought : AllZip (λ one pair. one ≡ Ok pair) made pairs

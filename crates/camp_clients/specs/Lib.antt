@@ -3,7 +3,7 @@ pub mod Clients
 pub mod Comparing
 pub mod Gathering
 pub mod Laws
-pub mod Meeting
+pub mod Synchronising
 pub mod Positions
 pub mod Runs
 pub mod Sections

@@ -15,6 +15,6 @@ where_done (Some at) call rest = (at, call) ∷ rest
 
 -- the calls that the answers report as done, each with its position
 abbrev pub done_at : {Call Answer : Type 0} → (Answer → Option ℕ) → List Call → List Answer → List (ℕ × Call)
-done_at told [] answers = []
-done_at told (call ∷ calls) [] = []
-done_at told (call ∷ calls) (answer ∷ answers) = where_done (told answer) call (done_at told calls answers)
+done_at reported_position [] answers = []
+done_at reported_position (call ∷ calls) [] = []
+done_at reported_position (call ∷ calls) (answer ∷ answers) = where_done (reported_position answer) call (done_at reported_position calls answers)

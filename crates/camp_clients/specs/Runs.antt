@@ -5,7 +5,7 @@ use Rattle.std.specs.List.{All, AllZip}
 use Rattle.camp_object.specs.Histories.{IsBeginning, IsAnswered, IsLegal}
 use Rattle.camp_object.specs.Objects.{Sequential}
 use Rattle.camp_object.specs.declared.faults.Fault.{Fault}
-use Rattle.camp_clients.specs.Answers.{SaysAmongThreads, SaysAlone, told}
+use Rattle.camp_clients.specs.Answers.{SaysAmongThreads, SaysAlone, reported_position}
 use Rattle.camp_clients.specs.Positions.{own_at, done_at}
 use Rattle.camp_clients.specs.Sections.{Section}
 
@@ -20,24 +20,24 @@ section_of sections seat = slice_index_or sections seat []
 -- the calls of each seat in the history are those of its section that are done, in order, each at its position
 abbrev pub OwnDone : {Call Answer : Type 0} → (Answer → Option ℕ) → List (List Call) → List (List Answer)
     → List (ℕ × Call) → Type 0
-OwnDone told sections answers history = (seat : ℕ) → seat < length sections →
-    own_at seat 0 history ≡ done_at told (section_of sections seat) (section_of answers seat)
+OwnDone reported_position sections answers history = (seat : ℕ) → seat < length sections →
+    own_at seat 0 history ≡ done_at reported_position (section_of sections seat) (section_of answers seat)
 
 -- the same, and the history has no other calls
-pub record IsExactly {Call Answer : Type 0} (told : Answer → Option ℕ) (sections : List (List Call))
+pub record IsExactly {Call Answer : Type 0} (reported_position : Answer → Option ℕ) (sections : List (List Call))
     (answers : List (List Answer)) (history : List (ℕ × Call)) : Type 0 where
-  pub own_done : OwnDone told sections answers history
+  pub own_done : OwnDone reported_position sections answers history
   pub no_other : All (λ entry. entry.0 < length sections) history
 
 -- sections run one after the other, the first of them at seat `seat`, the next at `seat + 1`, and so on: each answer is
 -- as the relation says of an answer at that seat
-abbrev pub InTurn : {Beginning Call Answer : Type 0} → (ℕ → Beginning → Call → Answer → Beginning → Type 0) → (seat : ℕ) → Beginning
-    → List (List Call) → List (List Answer) → Beginning → Type 0
-InTurn SaysAmongThreads seat first [] [] last = first ≡ last
-InTurn SaysAmongThreads seat first [] (answers ∷ others) last = ⊥
-InTurn SaysAmongThreads seat first (calls ∷ sections) [] last = ⊥
-InTurn {Beginning} SaysAmongThreads seat first (calls ∷ sections) (answers ∷ others) last =
-    (next : Beginning) × Section (SaysAmongThreads seat) first calls answers next × InTurn SaysAmongThreads (seat + 1) next sections others last
+abbrev pub InTurn : {Prefix Call Answer : Type 0} → (ℕ → Prefix → Call → Answer → Prefix → Type 0) → (seat : ℕ) → Prefix
+    → List (List Call) → List (List Answer) → Prefix → Type 0
+InTurn Says seat first [] [] last = first ≡ last
+InTurn Says seat first [] (answers ∷ others) last = ⊥
+InTurn Says seat first (calls ∷ sections) [] last = ⊥
+InTurn {Prefix} Says seat first (calls ∷ sections) (answers ∷ others) last =
+    (next : Prefix) × Section (Says seat) first calls answers next × InTurn Says (seat + 1) next sections others last
 
 -- serial sections, if nobody else asks
 abbrev pub OneByOne : {State Call Reply : Type 0} → Sequential State Call Reply → (seat : ℕ) → List (ℕ × Call)
@@ -48,7 +48,7 @@ OneByOne object = InTurn (SaysAlone object)
 abbrev pub SaysSomewhere : {State Call Reply : Type 0} → Sequential State Call Reply → Call → Result Reply Fault
     → Type 0
 SaysSomewhere {State} {Call} object call (Ok reply) =
-    MatchOption (object.done_at reply) ((beginning : List (ℕ × Call)) × IsAnswered object beginning call reply) (λ at. Unit {0})
+    MatchOption (object.done_at reply) ((prefix : List (ℕ × Call)) × IsAnswered object prefix call reply) (λ at. Unit {0})
 SaysSomewhere object call (Err fault) = ⊥
 
 -- the answers of the opening, asked at seat 0 while nobody else asks; the history begins with its calls
@@ -64,18 +64,18 @@ pub record IsLocked {State Call Reply : Type 0} (object : Sequential State Call 
     (answers : List (List (Result Reply Fault))) (history : List (ℕ × Call)) : Type 0 where
   pub legal : IsLegal object history
   pub as_many : length answers ≡ length sections
-  pub exactly : IsExactly (told object) sections answers history
+  pub exactly : IsExactly (reported_position object) sections answers history
   pub opening : HasOpening object (section_of sections 0) (section_of answers 0) history
   pub clients : (seat : ℕ) → 0 < seat → seat < length sections →
       AllZip (SaysSomewhere object) (section_of sections seat) (section_of answers seat)
 
 -- the answers of a section were given at prefixes of the history, each of which begins with the one before; the first
 -- begins with `first`
-pub record HasBeginnings {State Call Reply : Type 0} (object : Sequential State Call Reply) (seat tries : ℕ)
+pub record HasPrefixes {State Call Reply : Type 0} (object : Sequential State Call Reply) (seat tries : ℕ)
     (first : List (ℕ × Call)) (calls : List Call) (answers : List (Result Reply Fault)) (history : List (ℕ × Call))
     : Type 0 where
   pub last : List (ℕ × Call)
-  pub beginnings : Section (SaysAmongThreads object seat tries) first calls answers last
+  pub prefixes : Section (SaysAmongThreads object seat tries) first calls answers last
   pub within : IsBeginning last history
 
 -- a run over a head: one legal history of exactly the calls that are done; the answers were given at prefixes of it.
@@ -85,7 +85,7 @@ pub record IsShared {State Call Reply : Type 0} (object : Sequential State Call 
     : Type 0 where
   pub legal : IsLegal object history
   pub as_many : length answers ≡ length sections
-  pub exactly : IsExactly (told object) sections answers history
-  pub opening : HasBeginnings object 0 tries [] (section_of sections 0) (section_of answers 0) history
+  pub exactly : IsExactly (reported_position object) sections answers history
+  pub opening : HasPrefixes object 0 tries [] (section_of sections 0) (section_of answers 0) history
   pub clients : (seat : ℕ) → 0 < seat → seat < length sections →
-      HasBeginnings object seat tries opening.last (section_of sections seat) (section_of answers seat) history
+      HasPrefixes object seat tries opening.last (section_of sections seat) (section_of answers seat) history

@@ -12,10 +12,10 @@ most_tries = opening.most_tries
 
 -- a section: each answer was given at a prefix of the history, and `Says` relates it to that prefix and to the prefix of
 -- the answer before it; `first` is the prefix at the start, `last` the one at the end
-abbrev pub Section : {Beginning Call Answer : Type 0} → (Beginning → Call → Answer → Beginning → Type 0)
-    → Beginning → List Call → List Answer → Beginning → Type 0
+abbrev pub Section : {Prefix Call Answer : Type 0} → (Prefix → Call → Answer → Prefix → Type 0)
+    → Prefix → List Call → List Answer → Prefix → Type 0
 Section Says first [] [] last = first ≡ last
 Section Says first [] (answer ∷ answers) last = ⊥
 Section Says first (call ∷ calls) [] last = ⊥
-Section {Beginning} Says first (call ∷ calls) (answer ∷ answers) last =
-    (next : Beginning) × Says first call answer next × Section Says next calls answers last
+Section {Prefix} Says first (call ∷ calls) (answer ∷ answers) last =
+    (next : Prefix) × Says first call answer next × Section Says next calls answers last

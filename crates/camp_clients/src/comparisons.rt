@@ -1,7 +1,7 @@
 //! Comparing a history with the replies of its sections.
 ghost use Rattle.std.specs.Prelude.{◌≡◌, ◌↔◌, ◌+◌, ◌<◌, ◌≤◌, [], ◌∷◌, length, drop, IsTrue, MatchOption};
 ghost use Rattle.std.specs.Bool.{MatchBool};
-ghost use Rattle.camp_clients.specs.Answers.{told};
+ghost use Rattle.camp_clients.specs.Answers.{reported_position};
 ghost use Rattle.camp_clients.specs.Comparing.{Differs, Matches, left_from};
 ghost use Rattle.camp_clients.specs.Positions.{done_at};
 ghost use Rattle.camp_clients.specs.Runs.{IsExactly, lists_of};
@@ -22,16 +22,16 @@ pub fn has_exactly<State: Object>(
     requires few { length sections.now ≤ most_sections }
     requires as_many { length answers.now ≡ length sections.now }
     ensures exact { IsTrue result ↔
-        IsExactly (told State.object) (lists_of sections.now) (lists_of answers.now) history.now }
+        IsExactly (reported_position State.object) (lists_of sections.now) (lists_of answers.now) history.now }
 {
-    let mut places = [0; MAX_SECTIONS];
+    let mut indexes = [0; MAX_SECTIONS];
     for (before, entry) in history.iter().enumerate() {
-        if !goes_on::<State>(before as u64 + 1, entry, sections, answers, &mut places) {
+        if !matches_next::<State>(before as u64 + 1, entry, sections, answers, &mut indexes) {
             return false;
         }
     }
     for seat in 0..sections.len() {
-        if !is_used_up::<State>(sections, answers, seat, places[seat]) {
+        if !is_used_up::<State>(sections, answers, seat, indexes[seat]) {
             return false;
         }
     }
@@ -40,33 +40,33 @@ pub fn has_exactly<State: Object>(
 
 /// True if an entry of the history is the next done call of its section, at its position; then advances the
 /// section's index past it.
-fn goes_on<State: Object>(
+fn matches_next<State: Object>(
     at: u64,
     entry: &(u32, State::Call),
     sections: &[Vec<State::Call>],
     answers: &[Vec<Result<State::Reply, Fault>>],
-    places: &mut [usize],
+    indexes: &mut [usize],
 ) -> bool
-    requires few { length sections.now ≤ length places.old }
+    requires few { length sections.now ≤ length indexes.old }
     requires as_many { length answers.now ≡ length sections.now }
     ensures { MatchBool result
-        (Matches (told State.object) (lists_of sections.now) (lists_of answers.now) at entry.now places.old places.new)
-        (Differs (told State.object) (lists_of sections.now) (lists_of answers.now) at entry.now places.old) }
+        (Matches (reported_position State.object) (lists_of sections.now) (lists_of answers.now) at entry.now indexes.old indexes.new)
+        (Differs (reported_position State.object) (lists_of sections.now) (lists_of answers.now) at entry.now indexes.old) }
 {
     let seat = entry.0 as usize;
     if seat >= sections.len() {
         return false;
     }
-    match next_done::<State>(&sections[seat], &answers[seat], places[seat]) {
+    match next_done::<State>(&sections[seat], &answers[seat], indexes[seat]) {
         None => false,
-        Some((place, told, call)) => {
-            if told != at {
+        Some((index, reported, call)) => {
+            if reported != at {
                 return false;
             }
             if !State::is_same(call, &entry.1) {
                 return false;
             }
-            places[seat] = place;
+            indexes[seat] = index;
             true
         }
     }
@@ -82,7 +82,7 @@ fn is_used_up<State: Object>(
     requires is_section { seat < length sections.now }
     requires as_many { length answers.now ≡ length sections.now }
     ensures { IsTrue result ↔
-        (left_from (told State.object) (lists_of sections.now) (lists_of answers.now) seat from ≡ []) }
+        (left_from (reported_position State.object) (lists_of sections.now) (lists_of answers.now) seat from ≡ []) }
 {
     next_done::<State>(&sections[seat], &answers[seat], from).is_none()
 }
@@ -94,22 +94,22 @@ fn next_done<'a, State: Object>(
     from: usize,
 ) -> Option<(usize, u64, &'a State::Call)>
     ensures { MatchOption result
-        (done_at (told State.object) (drop from calls.now) (drop from answers.now) ≡ [])
-        (λ found. done_at (told State.object) (drop from calls.now) (drop from answers.now)
-        ≡ (found.1, found.2.now) ∷ done_at (told State.object) (drop found.0 calls.now) (drop found.0 answers.now)) }
+        (done_at (reported_position State.object) (drop from calls.now) (drop from answers.now) ≡ [])
+        (λ found. done_at (reported_position State.object) (drop from calls.now) (drop from answers.now)
+        ≡ (found.1, found.2.now) ∷ done_at (reported_position State.object) (drop found.0 calls.now) (drop found.0 answers.now)) }
 {
-    for place in from..calls.len().min(answers.len()) {
-        let call = &calls[place];
-        if let Some(at) = position_told::<State>(&answers[place]) {
-            return Some((place + 1, at, call));
+    for index in from..calls.len().min(answers.len()) {
+        let call = &calls[index];
+        if let Some(at) = reported_position::<State>(&answers[index]) {
+            return Some((index + 1, at, call));
         }
     }
     None
 }
 
 /// Returns the position that a reply reports, if its call was accepted.
-fn position_told<State: Object>(answer: &Result<State::Reply, Fault>) -> Option<u64>
-    ensures { result ≡ told State.object answer.now }
+fn reported_position<State: Object>(answer: &Result<State::Reply, Fault>) -> Option<u64>
+    ensures { result ≡ reported_position State.object answer.now }
 {
     match answer {
         Ok(reply) => State::done_at(reply),

@@ -2,20 +2,20 @@
 ghost use Rattle.std.specs.Prelude.{◌≡◌, [], ◌+◌, ◌<◌, ◌≤◌, length, count_by, IfOk, IsOk};
 ghost use Rattle.std.specs.List.{All};
 ghost use Rattle.std.specs.Thread.{IsSync};
-ghost use Rattle.camp_history.specs.Opening.{farthest_version, most_calls, IsInRange, IsOpened};
-ghost use Rattle.camp_history.specs.Seats.{IsSeatOf, calls_per_seat, history_of, caller_at, number_of, seats_of};
-ghost use Rattle.camp_clients.specs.Answers.{Asks};
+ghost use Rattle.camp_history.specs.Opening.{most_between_snapshots, most_calls, AreHeadSizes, IsOpened};
+ghost use Rattle.camp_history.specs.Seats.{IsSeatOf, calls_per_seat, history_of, caller_at, seat_number, seats_of};
+ghost use Rattle.camp_clients.specs.Answers.{SectionStep};
 ghost use Rattle.camp_clients.specs.Clients.{AllRan, IsReady, Ran};
-ghost use Rattle.camp_clients.specs.Meeting.{AreNew};
+ghost use Rattle.camp_clients.specs.Synchronising.{AreNew};
 ghost use Rattle.camp_clients.specs.Runs.{IsShared, lists_of, section_of};
 ghost use Rattle.camp_clients.specs.Sections.{most_sections, most_tries, Section};
 ghost use Rattle.camp_object.specs.Histories.{own};
 ghost use Rattle.camp_object.specs.Objects.{IsFirst, begun};
 
-use crate::firsts::initial;
+use crate::first_states::initial;
 use crate::gates::SectionGate;
-use crate::meetings::{each_meets, meet_all};
-use crate::sections::{Answers, ask_all, put_apart};
+use crate::sections::{Answers, ask_all, separate_seats};
+use crate::synchronising::{synchronise_each_with, synchronise_with_all};
 use camp_history::{Gate, Head, HeadDesk, HeadFault, Seat};
 use camp_object::Object;
 use std::alloc::{AllocError, Global};
@@ -36,8 +36,8 @@ pub struct HeadPlan<'a, R, State: Object, G, S> {
     pub section_gate: &'a S,
     ghost in_range: { (0 < length sections.now) × (length sections.now ≤ most_sections) },
     ghost writing: { All (λ calls. count_by State.object.is_writing calls.items ≤ most_calls) sections.now },
-    ghost tries_some: { (0 < tries) × (tries ≤ most_tries) },
-    ghost every_near: { every ≤ farthest_version },
+    ghost tries_in_range: { (0 < tries) × (tries ≤ most_tries) },
+    ghost every_in_range: { every ≤ most_between_snapshots },
 }
 
 /// The results of sections over one head: the replies to each, and seat 0, that of the first section, which
@@ -48,7 +48,7 @@ pub struct HeadRun<State: Object> {
     pub head: Head<State>,
     pub opener: Seat<State>,
     ghost is_seat: { IsSeatOf head opener },
-    ghost is_first: { number_of opener ≡ 0 },
+    ghost is_first: { seat_number opener ≡ 0 },
 }
 
 impl<State: Object> HeadRun<State> {
@@ -145,9 +145,9 @@ impl<'a, R: Wait, State: Object, G: Gate, S: SectionGate> Run<'a, R, State, G, S
     fn at_seat(&self, seat: &mut Seat<State>) -> Result<Answers<State>, AllocError>
         requires ready { IsReady self.now.head.now (length self.now.sections.now) seat.old }
         ensures seat { IsSeatOf self.now.head.now seat.new }
-        ensures number { number_of seat.new ≡ number_of seat.old }
-        ensures section { IfOk result (λ answers. Section (Asks (begun State.object self.now.head.now.first) (caller_at self.now.head.now seat.old))
-            (history_of seat.old) (section_of (lists_of self.now.sections.now) (number_of seat.old)) answers.items (history_of seat.new)) }
+        ensures number { seat_number seat.new ≡ seat_number seat.old }
+        ensures section { IfOk result (λ answers. Section (SectionStep (begun State.object self.now.head.now.first) (caller_at self.now.head.now seat.old))
+            (history_of seat.old) (section_of (lists_of self.now.sections.now) (seat_number seat.old)) answers.items (history_of seat.new)) }
     {
         let calls = &self.sections[seat.number() as usize];
         let writes = begins_with_writing::<State>(calls);
@@ -165,7 +165,7 @@ impl<'a, R: Wait, State: Object, G: Gate, S: SectionGate> Run<'a, R, State, G, S
         let mut seat = seat;
         let _shift = shift(self.alloc, seat.number());
         let answers = self.at_seat(&mut seat)?;
-        let _handed = self.head.hand_on(&seat);
+        let _published = self.head.publish_snapshot(&seat);
         self.section_gate.end(seat.number());
         Ok((seat, answers))
     }
@@ -201,7 +201,7 @@ where
                 ensures { IfOk result (λ ran. Ran (begun State.object self.entry.now.head.now.first) self.entry.now.head.now (lists_of self.entry.now.sections.now) seat ran.0 ran.1.items) }
             { self.client(seat) },
         )?;
-        put_apart(self.alloc, opening, made)
+        separate_seats(self.alloc, opening, made)
     }
 
     /// Runs the first section alone, and then each further one in a thread of its own. Afterwards the seat of
@@ -211,20 +211,20 @@ where
         opener: Seat<State>,
         seats: Vec<Seat<State>>,
     ) -> Result<(Seat<State>, Vec<Answers<State>>), AllocError>
-        requires opener { (IsSeatOf self.now.head.now opener) × (number_of opener ≡ 0) × (history_of opener ≡ []) }
+        requires opener { (IsSeatOf self.now.head.now opener) × (seat_number opener ≡ 0) × (history_of opener ≡ []) }
         requires seats { AreNew self.now.head.now seats.items }
         requires as_many { length seats.items + 1 ≡ length self.now.sections.now }
         ensures seat { IfOk result (λ ran. IsSeatOf self.now.head.now ran.0) }
-        ensures number { IfOk result (λ ran. number_of ran.0 ≡ 0) }
+        ensures number { IfOk result (λ ran. seat_number ran.0 ≡ 0) }
         ensures shared { IfOk result (λ ran. IsShared (begun State.object self.now.head.now.first) (self.now.head.now.tries) (lists_of self.now.sections.now)
             (lists_of ran.1.items) (history_of ran.0)) }
     {
         let mut opener = opener;
         let opening = self.at_seat(&mut opener)?;
         self.section_gate.end(opener.number());
-        let (seats, opener) = each_meets::<State>(self.alloc, self.head, seats, opener)?;
+        let (seats, opener) = synchronise_each_with::<State>(self.alloc, self.head, seats, opener)?;
         let (seats, answers) = self.clients(opening, seats)?;
-        let opener = meet_all::<State>(self.alloc, self.head, opener, seats)?;
+        let opener = synchronise_with_all::<State>(self.alloc, self.head, opener, seats)?;
         // Its clauses show the prover that what the seat has seen is legal.
         let _number = opener.number();
         Ok((opener, answers))
@@ -245,13 +245,13 @@ fn at_desk<'r, 'h, 's, 'g, R: Wait, State: Object, G: Gate>(
     desk: &mut HeadDesk<'r, 'h, 's, 'g, R, State, G>,
     calls: &[State::Call],
 ) -> Result<Answers<State>, AllocError>
-    requires room { length (own (number_of desk.old.seat.now) (history_of desk.old.seat.now)) + count_by State.object.is_writing calls.now
+    requires room { length (own (seat_number desk.old.seat.now) (history_of desk.old.seat.now)) + count_by State.object.is_writing calls.now
         ≤ calls_per_seat desk.old.head.now }
     ensures head { desk.new.head.now ≡ desk.old.head.now }
     ensures lends { desk.new.seat.ghost_name ≡ desk.old.seat.ghost_name }
     ensures seat { IsSeatOf desk.new.head.now desk.new.seat.now }
-    ensures number { number_of desk.new.seat.now ≡ number_of desk.old.seat.now }
-    ensures section { IfOk result (λ answers. Section (Asks (begun State.object desk.old.head.now.first) (caller_at desk.old.head.now desk.old.seat.now))
+    ensures number { seat_number desk.new.seat.now ≡ seat_number desk.old.seat.now }
+    ensures section { IfOk result (λ answers. Section (SectionStep (begun State.object desk.old.head.now.first) (caller_at desk.old.head.now desk.old.seat.now))
         (history_of desk.old.seat.now) calls.now answers.items (history_of desk.new.seat.now)) }
 {
     ask_all(alloc, desk, calls)
@@ -302,7 +302,7 @@ fn open<State: Object>(
     every: u32,
 ) -> Result<(Head<State>, Vec<Seat<State>>), AllocError>
     requires first { IsFirst State.object first }
-    requires range { IsInRange seats per_seat tries every }
+    requires range { AreHeadSizes seats per_seat tries every }
     ensures { IfOk result (λ made. IsOpened first seats per_seat tries made.0 made.1.items) }
 {
     match Head::begun(alloc, first, seats, per_seat, tries, every) {

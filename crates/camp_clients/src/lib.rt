@@ -3,14 +3,14 @@
 
 mod comparisons;
 mod faults;
-mod firsts;
+mod first_states;
 mod gates;
 mod heads;
 mod laws;
 mod locks;
-mod meetings;
 mod one_by_one;
 mod sections;
+mod synchronising;
 
 pub use comparisons::{MAX_SECTIONS, has_exactly};
 pub use faults::LockFault;

@@ -9,7 +9,7 @@ ghost use Rattle.camp_object.specs.Objects.{IsFirst, begun};
 
 use crate::comparisons::has_exactly;
 use crate::faults::LockFault;
-use crate::firsts::{begins_with, initial};
+use crate::first_states::{has_first, initial};
 use crate::one_by_one::{BookRun, at_seat};
 use crate::sections::{Answers, gather, unless_memory};
 use camp_object::{Book, Fault, Object};
@@ -63,7 +63,7 @@ where
     let clients = in_threads::<R, State>(rt, alloc, &lock, same, sections)?;
     let answers = gather(opened, clients)?;
     let book = lock.into_inner();
-    if !begins_with(&book, same) {
+    if !has_first(&book, same) {
         return Err(LockFault::Foreign);
     }
     if !has_exactly::<State>(book.history(), sections, &answers) {
@@ -134,7 +134,7 @@ fn ask_once<R: Wait, State: Object>(
     ensures { IfOk result (λ answer. HasMemory answer → SaysSomewhere (begun State.object first.now) call.now answer) }
 {
     let mut book = lock.lock(rt);
-    if !begins_with(&book, first) {
+    if !has_first(&book, first) {
         return Err(LockFault::Foreign);
     }
     Ok(book.ask(seat, call))

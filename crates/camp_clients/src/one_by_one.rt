@@ -5,7 +5,7 @@ ghost use Rattle.camp_clients.specs.Runs.{OneByOne, lists_of};
 ghost use Rattle.camp_clients.specs.Sections.{most_sections, Section};
 ghost use Rattle.camp_object.specs.Objects.{IsFirst, begun};
 
-use crate::firsts::initial;
+use crate::first_states::initial;
 use crate::sections::{Answers, ask_all};
 use camp_object::{Book, BookDesk, Desk, Object};
 use std::alloc::{AllocError, Global};

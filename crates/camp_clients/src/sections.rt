@@ -3,8 +3,8 @@ ghost use Rattle.std.specs.Prelude.{◌≡◌, ◌+◌, ◌≤◌, false, length
 ghost use Rattle.camp_object.specs.declared.faults.Fault.TheVariants as fault;
 ghost use Rattle.camp_object.specs.Histories.{IsBeginning, own};
 ghost use Rattle.camp_object.specs.Objects.{begun};
-ghost use Rattle.camp_clients.specs.Answers.{Asks, HasMemory};
-ghost use Rattle.camp_clients.specs.Gathering.{ArePutApart, Gathers};
+ghost use Rattle.camp_clients.specs.Answers.{SectionStep, HasMemory};
+ghost use Rattle.camp_clients.specs.Gathering.{AreSeparated, Gathers};
 ghost use Rattle.camp_clients.specs.Sections.{Section};
 
 use crate::faults::LockFault;
@@ -28,7 +28,7 @@ pub fn ask_all<State: Object, D: Desk<State>>(
     ensures first { D.first desk.new ≡ D.first desk.old }
     ensures grows { IsBeginning (D.seen desk.old) (D.seen desk.new) }
     ensures section { IfOk result (λ answers.
-        Section (Asks (begun State.object (D.first desk.old)) (D.caller desk.old)) (D.seen desk.old) calls.now answers.items (D.seen desk.new)) }
+        Section (SectionStep (begun State.object (D.first desk.old)) (D.caller desk.old)) (D.seen desk.old) calls.now answers.items (D.seen desk.new)) }
 {
     let mut answers = Vec::with_capacity(alloc, calls.len())?;
     for call in calls {
@@ -66,12 +66,12 @@ pub(crate) fn gather<X: Drop>(
 
 /// Separates the seats that threads return from the replies: those of the first section, followed by those of
 /// each thread; or returns out of memory if a thread did.
-pub(crate) fn put_apart<Seat: Drop, X: Drop>(
+pub(crate) fn separate_seats<Seat: Drop, X: Drop>(
     alloc: Global,
     opening: X,
     made: Vec<Result<(Seat, X), AllocError>>,
 ) -> Result<(Vec<Seat>, Vec<X>), AllocError>
-    ensures { IfOk result (λ all. ArePutApart opening made.items all.0.items all.1.items) }
+    ensures { IfOk result (λ all. AreSeparated opening made.items all.0.items all.1.items) }
 {
     let mut seats = Vec::with_capacity(alloc, made.len())?;
     let mut all = Vec::with_capacity(alloc, made.len() + 1)?;

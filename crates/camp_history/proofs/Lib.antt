@@ -1,5 +1,5 @@
 mod Words
 pub mod Seeing
-pub mod Asked
-pub mod Together
-pub mod Versioned
+pub mod AskLemmas
+pub mod SynchronisedSeats
+pub mod SnapshotLemmas

@@ -9,10 +9,10 @@ pub use Rattle.std.proofs.lemmas.Result.{IfOk-weaker}
 pub use Rattle.std.proofs.lemmas.Option.{IfSome_then, get_or_from_slice_get, same_Some, slice_get-map, slice_get_within}
 pub use Rattle.std.specs.List.{range_with_len, splice}
 pub use Rattle.boxcar.specs.Table.{Shelves, Shows, Where}
-pub use Rattle.camp_history.specs.Inside.SeatFields.{marks_in, seated}
-pub use Rattle.camp_history.specs.Inside.Steps.{Attempts, DecidesAt, Decision, FindsMore, GetsOn, LosesOne, Publishes, SeesMore, entries_of, with_mark}
-pub use Rattle.camp_history.specs.Seats.{Based, HeadId, IsBaseAt, IsSeatOf, Seated, asked, caller_at, entry_of, history_of, most_listed, told, unseen}
-pub use Rattle.camp_history.specs.Versions.{Adopts, Begins, GoesOn, IsFound, IsIn, IsMadeFrom, Share, based, bases_in, ids, ids_of, made_of, news}
+pub use Rattle.camp_history.specs.Inside.SeatFields.{marks_in, seat_state}
+pub use Rattle.camp_history.specs.Inside.Steps.{Attempts, DecidesAt, HeadDecision, FindsMore, SeesFurther, LosesOne, Publishes, SeesMore, seen_entries, with_mark}
+pub use Rattle.camp_history.specs.Seats.{Based, HeadId, IsBaseAt, IsSeatOf, SeatState, seat_and_call, caller_at, entry_of, history_of, most_listed, entry_and_call, unseen}
+pub use Rattle.camp_history.specs.Snapshots.{Installs, IsMarkPrefix, ContinuesSeat, IsWithinReach, IsIn, IsMadeFrom, HaveCommon, based, bases_in, ids, ids_of, made_of, news}
 pub use Rattle.camp_history.specs.declared.marks.Mark.{Mark}
 pub use Rattle.camp_object.proofs.Beginnings.{begins_append, begins_through, begins_self, begins_shorter, length-beginning}
 pub use Rattle.camp_object.specs.Asking.{AddsNothing, Ask, Caller, IsNotBusy, Loses}
@@ -22,8 +22,8 @@ pub use Rattle.camp_object.specs.Objects.{IsFirst, IsLawfulObject, Sequential, b
 pub use Rattle.camp_object.specs.declared.faults.Fault.{Fault}
 pub use Rattle.camp_object.specs.declared.faults.Fault.TheVariants.{Memory}
 pub use Rattle.camp_object.specs.declared.objects.Decided.TheVariants.{Answer, Next}
-pub use Rattle.camp_row.specs.Chains.{turns}
-pub use Rattle.camp_row.specs.Known.{ComesNext, FindsChain, IsSound, Known, Leads, Won, drafted, newcomer, with_draft}
+pub use Rattle.camp_row.specs.Chains.{entry_count}
+pub use Rattle.camp_row.specs.PassState.{IsNextEntry, FindsChain, IsSound, PassState, IsTrail, Won, drafted, new_pass, with_draft}
 pub use Rattle.camp_row.specs.declared.entries.Entry.{Entry}
 pub use Rattle.camp_object.proofs.Asks.{ask_done, ask_memory, ask_since, loses_more, never_busy_among_own}
 pub use Rattle.camp_object.proofs.Replays.{accepted_at, begun_lawful, count-replay, initial_first, own-append, own_other, replay_accepted, replay_began, some_is_some}

@@ -1,4 +1,4 @@
 pub mod HeadFields
-pub mod KeptFields
+pub mod StoredCallFields
 pub mod SeatFields
 pub mod Steps

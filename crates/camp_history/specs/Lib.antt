@@ -1,6 +1,6 @@
 pub mod Inside
-pub mod Kept
-pub mod Meeting
+pub mod StoredCalls
+pub mod Synchronising
 pub mod Opening
 pub mod Seats
-pub mod Versions
+pub mod Snapshots

@@ -1,8 +1,8 @@
 -- A new head and its seats.
 use Rattle.std.specs.Prelude.{◌≡◌, ℕ, ◌≤◌, List, map, All, Result, Ok, Err}
 use Rattle.std.specs.List.{range_with_len}
-use Rattle.camp_row.specs.Known.{most_cells, most_seats, newcomer}
-use Rattle.camp_history.specs.Seats.{HeadId, Seated, calls_per_seat, unseen, IsSeatOf}
+use Rattle.camp_row.specs.PassState.{most_cells, most_seats, new_pass}
+use Rattle.camp_history.specs.Seats.{HeadId, SeatState, calls_per_seat, unseen, IsSeatOf}
 use Rattle.camp_history.specs.declared.faults.HeadFault.{HeadFault}
 use Rattle.camp_history.specs.declared.faults.HeadFault.TheVariants.{BadSize, Memory}
 
@@ -15,23 +15,23 @@ abbrev pub most_tries : ℕ
 most_tries = 1_000
 
 -- the most positions from one snapshot to the next
-abbrev pub farthest_version : ℕ
-farthest_version = 4_096
+abbrev pub most_between_snapshots : ℕ
+most_between_snapshots = 4_096
 
 -- the parameters of a head are in range
-pub record IsInRange (seats per_seat tries every : ℕ) : Type 0 where
+pub record AreHeadSizes (seats per_seat tries every : ℕ) : Type 0 where
   pub some_seats : (1 ≤ seats) × (seats ≤ most_seats)
   pub some_calls : (1 ≤ per_seat) × (per_seat ≤ most_calls)
   pub some_tries : (1 ≤ tries) × (tries ≤ most_tries)
-  pub versions : every ≤ farthest_version
+  pub snapshots : every ≤ most_between_snapshots
 
 -- the seat with this number before it has seen anything
-abbrev pub seat_at : {State Call : Type 0} → HeadId State → ℕ → Seated State Call
-seat_at head number = unseen head.first (newcomer head.row number)
+abbrev pub seat_at : {State Call : Type 0} → HeadId State → ℕ → SeatState State Call
+seat_at head number = unseen head.first (new_pass head.row number)
 
 -- a head of these numbers whose history begins with this state, with its seats, numbered from 0, none of which has seen
 -- anything
-pub record IsOpened {State Call : Type 0} (first : State) (seats per_seat tries : ℕ) (head : HeadId State) (made : List (Seated State Call))
+pub record IsOpened {State Call : Type 0} (first : State) (seats per_seat tries : ℕ) (head : HeadId State) (made : List (SeatState State Call))
     : Type 0 where
   pub begins_with : head.first ≡ first
   pub has_seats : head.row.seats ≡ seats
@@ -42,10 +42,10 @@ pub record IsOpened {State Call : Type 0} (first : State) (seats per_seat tries 
 
 -- making a head fails with `BadSize` exactly if one of the numbers is out of its range; else it succeeds, or memory
 -- runs out
-abbrev pub Opens : {Made State Call : Type 0} → State → (Made → HeadId State) → (Made → List (Seated State Call)) →
+abbrev pub Opens : {Made State Call : Type 0} → State → (Made → HeadId State) → (Made → List (SeatState State Call)) →
     (seats per_seat tries every : ℕ)
     → Result Made HeadFault → Type 0
 Opens first head all seats per_seat tries every (Ok made) =
-    IsInRange seats per_seat tries every × IsOpened first seats per_seat tries (head made) (all made)
-Opens first head all seats per_seat tries every (Err BadSize) = ¬ (IsInRange seats per_seat tries every)
-Opens first head all seats per_seat tries every (Err Memory) = IsInRange seats per_seat tries every
+    AreHeadSizes seats per_seat tries every × IsOpened first seats per_seat tries (head made) (all made)
+Opens first head all seats per_seat tries every (Err BadSize) = ¬ (AreHeadSizes seats per_seat tries every)
+Opens first head all seats per_seat tries every (Err Memory) = AreHeadSizes seats per_seat tries every

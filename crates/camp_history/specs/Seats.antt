@@ -2,7 +2,7 @@
 use Rattle.std.specs.Prelude.{◌≡◌, ℕ, false, List, [], map, slice_index_or, All}
 use Rattle.boxcar.specs.Table.{Shelves, Shows}
 use Rattle.camp_object.specs.Asking.{Caller}
-use Rattle.camp_row.specs.Known.{RowId, Known}
+use Rattle.camp_row.specs.PassState.{RowId, PassState}
 use Rattle.camp_row.specs.declared.entries.Entry.{Entry}
 use Rattle.camp_history.specs.declared.marks.Mark.{Mark}
 
@@ -27,39 +27,39 @@ IsBaseAt ids base = base.id ≡ slice_index_or ids base.slot 0
 
 -- a seat: the state that its history begins with, what its pass knows of the row, a mark for each call that it has
 -- seen, in order, and the snapshots that it noted, with whose calls these begin
-pub record Seated (State Call : Type 0) : Type 0 where
+pub record SeatState (State Call : Type 0) : Type 0 where
   pub first : State
-  pub known : Known
+  pub known : PassState
   pub marks : List (Mark Call)
   pub bases : List (Based Call)
 
 -- a seat that has seen nothing, by the state that its history begins with and what its pass knows
-abbrev pub unseen : {State Call : Type 0} → State → Known → Seated State Call
+abbrev pub unseen : {State Call : Type 0} → State → PassState → SeatState State Call
 unseen first known = record { first = first; known = known; marks = []; bases = [] }
 
 -- the entry of the row that a mark is of
 abbrev pub entry_of : {Call : Type 0} → Mark Call → Entry
-entry_of mark = record { seat = mark.seat; place = mark.call.index }
+entry_of mark = record { seat = mark.seat; index = mark.call.index }
 
 -- the entry and the call of a mark
-abbrev pub told : {Call : Type 0} → Mark Call → Entry × Call
-told mark = (entry_of mark, mark.call.value)
+abbrev pub entry_and_call : {Call : Type 0} → Mark Call → Entry × Call
+entry_and_call mark = (entry_of mark, mark.call.value)
 
 -- the most calls of a reference counted list; no history of a head has more
 abbrev pub most_listed : ℕ
 most_listed = 4_194_304
 
 -- a call of the history, and the seat that asked it
-abbrev pub asked : {Call : Type 0} → Mark Call → ℕ × Call
-asked mark = (mark.seat, mark.call.value)
+abbrev pub seat_and_call : {Call : Type 0} → Mark Call → ℕ × Call
+seat_and_call mark = (mark.seat, mark.call.value)
 
 -- the history that a seat has seen
-abbrev pub history_of : {State Call : Type 0} → Seated State Call → List (ℕ × Call)
-history_of seat = map asked seat.marks
+abbrev pub history_of : {State Call : Type 0} → SeatState State Call → List (ℕ × Call)
+history_of seat = map seat_and_call seat.marks
 
 -- the seat is one of this head: its history begins with the head's state, its pass is to the head's row, its calls
 -- are in the head's store, and its snapshots in the head's slots
-pub record IsSeatOf {State Call : Type 0} (head : HeadId State) (seat : Seated State Call) : Type 0 where
+pub record IsSeatOf {State Call : Type 0} (head : HeadId State) (seat : SeatState State Call) : Type 0 where
   pub first : seat.first ≡ head.first
   pub row : seat.known.row ≡ head.row
   pub stored : All (λ mark. Shows head.store mark.call) seat.marks
@@ -74,18 +74,18 @@ abbrev pub calls_per_seat : {State : Type 0} → HeadId State → ℕ
 calls_per_seat head = head.row.per_seat
 
 -- the number of a seat, from 0
-abbrev pub number_of : {State Call : Type 0} → Seated State Call → ℕ
-number_of seat = seat.known.number
+abbrev pub seat_number : {State Call : Type 0} → SeatState State Call → ℕ
+seat_number seat = seat.known.number
 
 -- how many seats its head has
-abbrev pub seats_beside : {State Call : Type 0} → Seated State Call → ℕ
-seats_beside seat = seat.known.row.seats
+abbrev pub seat_count : {State Call : Type 0} → SeatState State Call → ℕ
+seat_count seat = seat.known.row.seats
 
 -- how many calls of this seat can be accepted
-abbrev pub most_calls_of : {State Call : Type 0} → Seated State Call → ℕ
+abbrev pub most_calls_of : {State Call : Type 0} → SeatState State Call → ℕ
 most_calls_of seat = seat.known.row.per_seat
 
 -- the caller at a seat of a head: its number, and how many calls and tries it has; others may add to the history
-abbrev pub caller_at : {State Call : Type 0} → HeadId State → Seated State Call → Caller
+abbrev pub caller_at : {State Call : Type 0} → HeadId State → SeatState State Call → Caller
 caller_at head seat =
-    record { seat = number_of seat; tries = head.tries; per_seat = calls_per_seat head; alone = false }
+    record { seat = seat_number seat; tries = head.tries; per_seat = calls_per_seat head; alone = false }

@@ -6,21 +6,21 @@ ghost use Rattle.camp_object.specs.Objects.{begun};
 
 use crate::gates::{Gate, NoGate};
 use crate::heads::Head;
-use crate::kept::{Kept, Place};
+use crate::kept::{Kept, Storage};
 use crate::seats::Seat;
 use boxcar::Pushed;
 use camp_object::{Decided, Fault, Object};
 use camp_share::Shared;
 
 impl<State: Object> Head<State> {
-    ghost use Rattle.camp_history.specs.Kept.{IsKeptBy};
+    ghost use Rattle.camp_history.specs.StoredCalls.{IsStoredIn};
     ghost use Rattle.camp_history.specs.Seats.{IsSeatOf, history_of, caller_at, seats_of};
-    ghost use Rattle.camp_history.specs.Inside.Steps.{Attempts, Decision};
+    ghost use Rattle.camp_history.specs.Inside.Steps.{Attempts, HeadDecision};
 
     /// Executes a stored call at a seat. It becomes part of the history if it is accepted.
     pub fn ask(&self, seat: &mut Seat<State>, kept: Kept<State>) -> Result<State::Reply, Fault>
         requires seat { IsSeatOf self.now seat.old }
-        requires kept { IsKeptBy self.now kept }
+        requires kept { IsStoredIn self.now kept }
         ensures seat { IsSeatOf self.now seat.new }
         ensures caller { caller_at self.now seat.new ≡ caller_at self.now seat.old }
         ensures asks { Ask (begun State.object self.now.first) (caller_at self.now seat.old) (history_of seat.old) kept.call result (history_of seat.new) }
@@ -37,7 +37,7 @@ impl<State: Object> Head<State> {
         gate: &G,
     ) -> Result<State::Reply, Fault>
         requires seat { IsSeatOf self.now seat.old }
-        requires kept { IsKeptBy self.now kept }
+        requires kept { IsStoredIn self.now kept }
         ensures seat { IsSeatOf self.now seat.new }
         ensures caller { caller_at self.now seat.new ≡ caller_at self.now seat.old }
         ensures asks { Ask (begun State.object self.now.first) (caller_at self.now seat.old) (history_of seat.old) kept.call result (history_of seat.new) }
@@ -45,11 +45,11 @@ impl<State: Object> Head<State> {
     {
         // Reading a field shows the prover the invariant of the head.
         let _tries = self.tries;
-        let answer = match kept.place {
-            Place::Here(call) => self.ask_question(seat, &call),
-            Place::Stored(call) => self.ask_writing(seat, &call, gate),
+        let answer = match kept.storage {
+            Storage::Here(call) => self.ask_question(seat, &call),
+            Storage::Stored(call) => self.ask_writing(seat, &call, gate),
         };
-        seat.is_whole();
+        seat.show_invariant();
         answer
     }
 
@@ -88,7 +88,7 @@ impl<State: Object> Head<State> {
         for lost in 0..self.tries {
             match self.attempt(seat, call, gate, lost) {
                 Ok(Some(reply)) => return Ok(reply),
-                Ok(None) => self.follow(seat)?,
+                Ok(None) => self.see_chain(seat)?,
                 Err(fault) => return Err(fault),
             }
         }
@@ -109,16 +109,16 @@ impl<State: Object> Head<State> {
         ensures caller { caller_at self.now seat.new ≡ caller_at self.now seat.old }
         ensures attempts { Attempts (begun State.object seat.old.first) self.now seat.old call.now.value result seat.new }
     {
-        seat.is_whole();
+        seat.show_invariant();
         let state = match self.decision(seat, self.calls.value(call))? {
             Decided::Answer(reply) => return Ok(Some(reply)),
             Decided::Next(state) => state,
         };
-        let made = self.version_for(seat, call, &state)?;
+        let made = self.snapshot_for(seat, call, &state)?;
         if !seat.publish(&self.row, call, state, gate, lost)? {
             return Ok(None);
         }
-        self.put(seat, made);
+        self.store_made(seat, made);
         Ok(Some(State::done(seat.position())))
     }
 
@@ -129,9 +129,9 @@ impl<State: Object> Head<State> {
         call: &State::Call,
     ) -> Result<Decided<Shared<State>, State::Reply>, Fault>
         requires { IsSeatOf self.now seat.now }
-        ensures { Decision (begun State.object seat.now.first) self.now seat.now call.now result }
+        ensures { HeadDecision (begun State.object seat.now.first) self.now seat.now call.now result }
     {
-        seat.is_whole();
+        seat.show_invariant();
         let next = match seat.decide(call)? {
             Decided::Answer(reply) => return Ok(Decided::Answer(reply)),
             Decided::Next(next) => next,

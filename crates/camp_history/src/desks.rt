@@ -18,7 +18,7 @@ pub struct HeadDesk<'r, 'h, 's, 'g, R: Wait, State: Object, G: Gate> {
     head: &'h Head<State>,
     seat: &'s mut Seat<State>,
     gate: &'g G,
-    asked: u32,
+    calls_asked: u32,
     ghost is_seat: { IsSeatOf head.now seat.now },
 }
 
@@ -39,7 +39,7 @@ impl<'r, 'h, 's, 'g, R: Wait, State: Object, G: Gate> HeadDesk<'r, 'h, 's, 'g, R
             head,
             seat,
             gate,
-            asked: 0,
+            calls_asked: 0,
         }
     }
 
@@ -50,7 +50,7 @@ impl<'r, 'h, 's, 'g, R: Wait, State: Object, G: Gate> HeadDesk<'r, 'h, 's, 'g, R
         ensures asks { Ask (begun State.object self.old.head.now.first) (caller_at self.old.head.now self.old.seat.now) (history_of self.old.seat.now) call.now result (history_of self.new.seat.now) }
         ensures one_seat { seats_of self.old.head.now ≡ 1 → IsNotBusy result }
     {
-        self.seat.is_whole();
+        self.seat.show_invariant();
         let kept = self.head.keep(self.rt, call)?;
         self.head.ask_at(self.seat, kept, self.gate)
     }
@@ -69,8 +69,8 @@ impl<'r, 'h, 's, 'g, R: Wait, State: Object, G: Gate> Desk<State>
     ghost keeps = { λ desk later. (later.head.now ≡ desk.head.now) × (later.seat.ghost_name ≡ desk.seat.ghost_name) };
 
     fn ask(&mut self, call: &State::Call) -> Result<State::Reply, Fault> {
-        let number = self.asked;
-        self.asked = number.saturating_add(1);
+        let number = self.calls_asked;
+        self.calls_asked = number.saturating_add(1);
         let seat = self.seat.number();
         self.gate.before(seat, number);
         let answer = self.ask_kept(call);

@@ -1,17 +1,17 @@
 //! The head: one growing history that seats share.
 ghost use Rattle.std.specs.Prelude.{◌≡◌, ◌<◌, ◌≤◌, ◌↔◌, [], map, All, IfOk, IfErr, IsOk, IsTrue};
-ghost use Rattle.camp_history.specs.Inside.HeadFields.{slots_handed_on, slots_kept};
-ghost use Rattle.camp_history.specs.Opening.{IsInRange};
+ghost use Rattle.camp_history.specs.Inside.HeadFields.{seat_slots, position_slots};
+ghost use Rattle.camp_history.specs.Opening.{AreHeadSizes};
 ghost use Rattle.camp_history.specs.Seats.{unseen};
 ghost use Rattle.camp_object.specs.Objects.{IsFirst};
 ghost use Rattle.camp_object.specs.declared.faults.Fault.TheVariants.{Memory};
-ghost use Rattle.camp_row.specs.Known.{most_cells, most_seats};
+ghost use Rattle.camp_row.specs.PassState.{most_cells, most_seats};
 
 use crate::faults::HeadFault;
-use crate::kept::{Kept, Place};
-use crate::origins::{OriginSlot, SlotIds};
+use crate::kept::{Kept, Storage};
+use crate::parents::{ParentSlot, SlotIds};
 use crate::seats::Seat;
-use crate::versions::{Slot, StoreIds, slots_under};
+use crate::snapshots::{Slot, StoreIds, slots_under};
 use boxcar::tag::Tag;
 use camp_object::{Fault, Object};
 use camp_row::{Pass, Row};
@@ -31,9 +31,9 @@ pub struct Head<State: Object> {
     pub(crate) every: u32,
     /// The slots for snapshots: one for each position at which a snapshot is kept, and then one for each
     /// seat, by its number, for the snapshot that it publishes.
-    pub(crate) versions: Vec<Slot<State>>,
+    pub(crate) snapshots: Vec<Slot<State>>,
     /// The parents of these snapshots.
-    pub(crate) origins: Vec<OriginSlot<State>>,
+    pub(crate) parents: Vec<ParentSlot<State>>,
 }
 
 impl<State: Object> Model for Head<State> {
@@ -48,8 +48,8 @@ impl<State: Object> Model for Head<State> {
     ghost invariant = { IsHead };
 }
 
-fn is_in_range(seats: u32, per_seat: u32, tries: u32, every: u32) -> bool
-    ensures { IsTrue result ↔ IsInRange seats per_seat tries every }
+fn are_head_sizes(seats: u32, per_seat: u32, tries: u32, every: u32) -> bool
+    ensures { IsTrue result ↔ AreHeadSizes seats per_seat tries every }
 {
     (1..=64).contains(&seats)
         && (1..=65_536).contains(&per_seat)
@@ -60,7 +60,7 @@ fn is_in_range(seats: u32, per_seat: u32, tries: u32, every: u32) -> bool
 /// Returns the number of positions up to `seats * per_seat` that are multiples of `every`; 0 if `every` is 0.
 pub(crate) fn slot_count(seats: u32, per_seat: u32, every: u32) -> usize
     requires { (seats ≤ most_seats) × (per_seat ≤ most_cells) }
-    ensures exact { result ≡ slots_kept seats per_seat every }
+    ensures exact { result ≡ position_slots seats per_seat every }
     ensures few { result ≤ 4194304 }
 {
     let most = seats as usize * per_seat as usize;
@@ -68,8 +68,8 @@ pub(crate) fn slot_count(seats: u32, per_seat: u32, every: u32) -> usize
 }
 
 /// Returns the number of slots for published snapshots: one for each seat, or 0 if no snapshots are kept.
-fn handing_count(seats: u32, every: u32) -> usize
-    ensures { result ≡ slots_handed_on seats every }
+fn seat_slot_count(seats: u32, every: u32) -> usize
+    ensures { result ≡ seat_slots seats every }
 {
     if every == 0 { 0 } else { seats as usize }
 }
@@ -112,7 +112,7 @@ fn seat_of<State: Object>(
 }
 
 impl<State: Object> Head<State> {
-    ghost use Rattle.camp_history.specs.Kept.{IsKeptBy};
+    ghost use Rattle.camp_history.specs.StoredCalls.{IsStoredIn};
     ghost use Rattle.camp_history.specs.Opening.{Opens};
     ghost use Rattle.camp_history.specs.Seats.{IsSeatOf, history_of};
 
@@ -126,7 +126,7 @@ impl<State: Object> Head<State> {
     ) -> Result<(Head<State>, Vec<Seat<State>>), HeadFault>
         ensures opens { Opens State.object.initial (λ made. made.0) (λ made. made.1.items) seats per_seat tries every result }
     {
-        if !is_in_range(seats, per_seat, tries, every) {
+        if !are_head_sizes(seats, per_seat, tries, every) {
             return Err(HeadFault::BadSize);
         }
         Head::begun(alloc, State::initial(alloc)?, seats, per_seat, tries, every)
@@ -147,7 +147,7 @@ impl<State: Object> Head<State> {
         requires { IsFirst State.object first }
         ensures opens { Opens first (λ made. made.0) (λ made. made.1.items) seats per_seat tries every result }
     {
-        if !is_in_range(seats, per_seat, tries, every) {
+        if !are_head_sizes(seats, per_seat, tries, every) {
             return Err(HeadFault::BadSize);
         }
         let (row, passes) = Row::new(alloc, seats, per_seat)?;
@@ -170,37 +170,37 @@ impl<State: Object> Head<State> {
     {
         let calls = boxcar::Vec::new(alloc)?;
         let count = slot_count(row.seats(), row.per_seat(), every)
-            + handing_count(row.seats(), every);
+            + seat_slot_count(row.seats(), every);
         let store = Tag::of::<boxcar::Vec<State::Call>, StoreIds>(&calls);
-        let versions = slots_under(alloc, &store, count)?;
-        let slots = Tag::of::<Vec<Slot<State>>, SlotIds>(&versions);
-        let origins = slots_under(alloc, &slots, count)?;
+        let snapshots = slots_under(alloc, &store, count)?;
+        let slots = Tag::of::<Vec<Slot<State>>, SlotIds>(&snapshots);
+        let parents = slots_under(alloc, &slots, count)?;
         Ok(Head {
             row,
             calls,
             first,
             tries,
             every,
-            versions,
-            origins,
+            snapshots,
+            parents,
         })
     }
 
     /// Stores a copy of a call, which can then be asked at any seat. The only fault is out of memory.
     pub fn keep(&self, rt: &impl Wait, call: &State::Call) -> Result<Kept<State>, Fault>
-        ensures kept { IfOk result (λ kept. IsKeptBy self.now kept) }
+        ensures kept { IfOk result (λ kept. IsStoredIn self.now kept) }
         ensures call { IfOk result (λ kept. kept.call ≡ call.now) }
         ensures only_memory { IfErr result (λ fault. fault ≡ Memory) }
     {
         let copy = State::copy(call)?;
         if !State::is_writing(&copy) {
             return Ok(Kept {
-                place: Place::Here(copy),
+                storage: Storage::Here(copy),
             });
         }
         match self.calls.push_shown(rt, copy) {
             Ok(token) => Ok(Kept {
-                place: Place::Stored(token),
+                storage: Storage::Stored(token),
             }),
             Err(_) => Err(Fault::Memory),
         }

@@ -5,7 +5,7 @@ use std::marker::Model;
 
 /// Where a stored call is.
 #[derive(Drop)]
-pub enum Place<Call> {
+pub enum Storage<Call> {
     Here(Call),
     Stored(Pushed<Call>),
 }
@@ -13,17 +13,17 @@ pub enum Place<Call> {
 /// A copy of a call that will be executed; in the head's store if the call writes.
 #[derive(Drop)]
 pub struct Kept<State: Object> {
-    pub(crate) place: Place<State::Call>,
+    pub(crate) storage: Storage<State::Call>,
 }
 
 impl<State: Object> Model for Kept<State> {
-    ghost use Rattle.camp_history.specs.Kept.{Keeping};
+    ghost use Rattle.camp_history.specs.StoredCalls.{StoredCall};
 
-    ghost Value = { Keeping State.Call };
+    ghost Value = { StoredCall State.Call };
 
-    ghost use Rattle.camp_history.specs.Inside.KeptFields.{keeping, IsKept};
+    ghost use Rattle.camp_history.specs.Inside.StoredCallFields.{stored_call, IsStoredCall};
 
-    ghost view = { λ kept. keeping kept.place };
+    ghost view = { λ kept. stored_call kept.storage };
 
-    ghost invariant = { λ kept. IsKept State.object kept.place };
+    ghost invariant = { λ kept. IsStoredCall State.object kept.storage };
 }

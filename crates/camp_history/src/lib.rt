@@ -1,20 +1,20 @@
 //! One growing history for many threads: a head, and the seats at which they call it.
 #![tactic(auto)]
 
-mod adoptions;
 mod asks;
 mod desks;
 mod faults;
 mod gates;
 mod heads;
+mod installing;
 mod kept;
 mod lists;
-mod makings;
 mod marks;
-mod meets;
-mod origins;
+mod parents;
+mod publishing;
 mod seats;
-mod versions;
+mod snapshots;
+mod synchronising;
 mod walks;
 
 pub use desks::HeadDesk;

@@ -2,13 +2,13 @@
 ghost use Rattle.std.specs.Prelude.{◌≡◌, ◌<◌, ◌≤◌, length, All};
 
 use crate::marks::Mark;
-use crate::versions::Base;
+use crate::snapshots::Base;
 use camp_object::Object;
 use camp_row::Pass;
 use camp_share::{Shared, SharedList};
 use std::marker::Model;
 
-/// Where one caller asks a head. It can be sent to another thread. Contracts see it as `Seated`.
+/// Where one caller asks a head. It can be sent to another thread. Contracts see it as `SeatState`.
 #[derive(Drop)]
 pub struct Seat<State: Object> {
     pub(crate) pass: Pass,
@@ -22,13 +22,13 @@ pub struct Seat<State: Object> {
 }
 
 impl<State: Object> Model for Seat<State> {
-    ghost use Rattle.camp_history.specs.Seats.{Seated};
+    ghost use Rattle.camp_history.specs.Seats.{SeatState};
 
-    ghost Value = { Seated State State.Call };
+    ghost Value = { SeatState State State.Call };
 
-    ghost use Rattle.camp_history.specs.Inside.SeatFields.{seated, IsSeat};
+    ghost use Rattle.camp_history.specs.Inside.SeatFields.{seat_state, IsSeat};
 
-    ghost view = { seated State.object };
+    ghost view = { seat_state State.object };
 
     ghost invariant = { IsSeat State.object };
 }
@@ -36,15 +36,15 @@ impl<State: Object> Model for Seat<State> {
 impl<State: Object> Seat<State> {
     ghost use Rattle.camp_object.specs.Histories.{IsLegal, own};
     ghost use Rattle.camp_object.specs.Objects.{IsFirst, begun};
-    ghost use Rattle.camp_history.specs.Seats.{history_of, most_calls_of, number_of, seats_beside};
+    ghost use Rattle.camp_history.specs.Seats.{history_of, most_calls_of, seat_number, seat_count};
 
     /// Returns its number.
     pub fn number(&self) -> u32
-        ensures number { result ≡ number_of self.now }
-        ensures below { result < seats_beside self.now }
+        ensures number { result ≡ seat_number self.now }
+        ensures below { result < seat_count self.now }
         ensures first { IsFirst State.object self.now.first }
         ensures legal { IsLegal (begun State.object self.now.first) (history_of self.now) }
-        ensures seats_below { All (λ entry. entry.0 < seats_beside self.now) (history_of self.now) }
+        ensures seats_below { All (λ entry. entry.0 < seat_count self.now) (history_of self.now) }
     {
         self.pass.number()
     }
@@ -58,10 +58,10 @@ impl<State: Object> Seat<State> {
 
     /// Returns the number of its own calls that were accepted.
     pub fn accepted(&self) -> u32
-        ensures accepted { result ≡ length (own (number_of self.now) (history_of self.now)) }
+        ensures accepted { result ≡ length (own (seat_number self.now) (history_of self.now)) }
         ensures within { result ≤ most_calls_of self.now }
     {
-        self.pass.turns()
+        self.pass.entry_count()
     }
 
     /// Counts the snapshots that it installed from slots, not from seats that it was synchronised with;

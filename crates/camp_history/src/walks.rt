@@ -1,8 +1,8 @@
 //! Moving a seat along the row.
 ghost use Rattle.std.specs.Prelude.{◌≡◌, ℕ, ◌<◌, ◌+◌, ◌++◌, [], ◌∷◌, length, All, Some, IfOk, OnOk, OnErr, MatchOption, MatchResult, MatchBool};
 ghost use Rattle.camp_object.specs.declared.faults.Fault.TheVariants.{Memory};
-ghost use Rattle.camp_row.specs.Chains.{turns};
-ghost use Rattle.camp_row.specs.Known.{Won, Lost, with_draft};
+ghost use Rattle.camp_row.specs.Chains.{entry_count};
+ghost use Rattle.camp_row.specs.PassState.{Won, Lost, with_draft};
 
 use crate::gates::Gate;
 use crate::heads::Head;
@@ -18,12 +18,12 @@ use std::alloc::AllocError;
 const MOST_LISTED: usize = 4_194_304;
 
 /// Drafts the next cell with the index of a call in the store, and publishes it by a compare-exchange.
-fn exchange_cell<G: Gate>(row: &Row, pass: &mut Pass, place: usize, gate: &G, lost: u32) -> bool
+fn exchange_cell<G: Gate>(row: &Row, pass: &mut Pass, index: usize, gate: &G, lost: u32) -> bool
     requires row { pass.old.row ≡ row.now }
-    requires room { turns pass.old.number pass.old.seen < row.now.per_seat }
-    ensures { MatchBool result (Won (with_draft pass.old place) pass.new) (Lost (with_draft pass.old place) pass.new) }
+    requires room { entry_count pass.old.number pass.old.seen < row.now.per_seat }
+    ensures { MatchBool result (Won (with_draft pass.old index) pass.new) (Lost (with_draft pass.old index) pass.new) }
 {
-    row.draft(pass, place);
+    row.draft(pass, index);
     gate.exchange(pass.number(), lost);
     row.publish(pass)
 }
@@ -31,13 +31,13 @@ fn exchange_cell<G: Gate>(row: &Row, pass: &mut Pass, place: usize, gate: &G, lo
 impl<State: Object> Seat<State> {
     ghost use Rattle.camp_object.specs.Histories.{replay, IsLegal, own};
     ghost use Rattle.camp_object.specs.Objects.{IsFirst, begun};
-    ghost use Rattle.camp_row.specs.Known.{FindsChain, Leads, ComesNext, IsSound};
+    ghost use Rattle.camp_row.specs.PassState.{FindsChain, IsTrail, IsNextEntry, IsSound};
     ghost use Rattle.camp_history.specs.Seats.{history_of};
-    ghost use Rattle.camp_history.specs.Inside.Steps.{entries_of, with_mark, DecidesAt, Publishes, FindsMore};
+    ghost use Rattle.camp_history.specs.Inside.Steps.{seen_entries, with_mark, DecidesAt, Publishes, FindsMore};
 
     /// States the invariant of every seat. Does nothing at run time: callers' proofs use its clauses.
-    pub(crate) fn is_whole(&self)
-        ensures places { entries_of self.now ≡ self.now.known.seen }
+    pub(crate) fn show_invariant(&self)
+        ensures entries_are { seen_entries self.now ≡ self.now.known.seen }
         ensures first { IsFirst State.object self.now.first }
         ensures legal { IsLegal (begun State.object self.now.first) (history_of self.now) }
         ensures sound { IsSound self.now.known }
@@ -49,15 +49,15 @@ impl<State: Object> Seat<State> {
     }
 
     /// Finds the chain as it is now.
-    pub(crate) fn look(&mut self, row: &Row)
+    pub(crate) fn find_chain(&mut self, row: &Row)
         requires { self.old.known.row ≡ row.now }
         ensures { self.new ≡ record self.old { known = record self.old.known { ahead = self.new.known.ahead } } }
     {
-        row.look(&mut self.pass);
+        row.find_chain(&mut self.pass);
     }
 
     /// Synchronises two seats: both have found the same chain, which begins with what either has seen.
-    pub(crate) fn meet(&mut self, row: &Row, other: Seat<State>) -> Seat<State>
+    pub(crate) fn synchronise(&mut self, row: &Row, other: Seat<State>) -> Seat<State>
         requires { (self.old.known.row ≡ row.now) × (other.known.row ≡ row.now) }
         ensures self_first { self.new.first ≡ self.old.first }
         ensures self_finds { FindsChain self.old.known self.new.known }
@@ -77,7 +77,7 @@ impl<State: Object> Seat<State> {
             bases,
             adopted,
         } = other;
-        let pass = row.meet(&mut self.pass, pass);
+        let pass = row.synchronise(&mut self.pass, pass);
         Seat {
             pass,
             earlier,
@@ -89,7 +89,7 @@ impl<State: Object> Seat<State> {
     }
 
     /// Returns all marks of the seat as a reference counted list.
-    fn listed(&self) -> Result<Shared<SharedList<Mark<State::Call>>>, AllocError>
+    fn shared_list(&self) -> Result<Shared<SharedList<Mark<State::Call>>>, AllocError>
         ensures { IfOk result (λ list. list ≡ self.now.marks) }
     {
         let len = self.earlier.len();
@@ -99,13 +99,13 @@ impl<State: Object> Seat<State> {
 
     /// Compacts the seat: if `most` marks or more are outside its reference counted list, moves them there,
     /// as far as the list may grow.
-    fn settle(&mut self, most: usize) -> Result<(), AllocError>
+    fn compact(&mut self, most: usize) -> Result<(), AllocError>
         ensures { self.new ≡ self.old }
     {
         if self.tail.len() < most || self.tail.len() + self.earlier.len() > MOST_LISTED {
             return Ok(());
         }
-        self.earlier = self.listed()?;
+        self.earlier = self.shared_list()?;
         self.tail.clear();
         Ok(())
     }
@@ -113,17 +113,17 @@ impl<State: Object> Seat<State> {
     pub(crate) fn walk(&mut self, row: &Row) -> Result<Trail, AllocError>
         requires { self.old.known.row ≡ row.now }
         ensures same { self.new ≡ self.old }
-        ensures leads { IfOk result (λ trail. Leads self.old.known self.old.known.seen trail) }
+        ensures leads { IfOk result (λ trail. IsTrail self.old.known self.old.known.seen trail) }
     {
         row.walk(*self.tail.allocator(), &mut self.pass)
     }
 
     pub(crate) fn next(&mut self, row: &Row, trail: &mut Trail) -> Option<Next>
         requires row { self.old.known.row ≡ row.now }
-        requires leads { Leads self.old.known self.old.known.seen trail.old }
+        requires leads { IsTrail self.old.known self.old.known.seen trail.old }
         ensures same { self.new ≡ self.old }
-        ensures next { MatchOption result (self.old.known.seen ≡ self.old.known.ahead) (λ next. ComesNext self.old.known next) }
-        ensures leads { MatchOption result (trail.new ≡ trail.old) (λ next. Leads self.old.known (self.old.known.seen ++ next.entry ∷ []) trail.new) }
+        ensures next { MatchOption result (self.old.known.seen ≡ self.old.known.ahead) (λ next. IsNextEntry self.old.known next) }
+        ensures leads { MatchOption result (trail.new ≡ trail.old) (λ next. IsTrail self.old.known (self.old.known.seen ++ next.entry ∷ []) trail.new) }
         ensures shorter { MatchOption result (trail.new ≡ trail.old) (λ next. length trail.old ≡ length trail.new + 1) }
     {
         row.next(&mut self.pass, trail)
@@ -142,7 +142,7 @@ impl<State: Object> Seat<State> {
     }
 
     /// Computes the state after a next call, whichever seat asked it.
-    fn state_behind(&self, call: &State::Call) -> Result<Shared<State>, AllocError>
+    fn next_state(&self, call: &State::Call) -> Result<Shared<State>, AllocError>
         ensures { IfOk result (λ next. (seat : ℕ) → replay (begun State.object self.now.first) (history_of self.now ++ (seat, call.now) ∷ []) ≡ Some next) }
     {
         let Decided::Next(next) = self.decide(call)? else {
@@ -160,8 +160,8 @@ impl<State: Object> Seat<State> {
         state: Shared<State>,
     ) -> Result<(), AllocError>
         requires row { self.old.known.row ≡ row.now }
-        requires next { ComesNext self.old.known next }
-        requires place { call.index ≡ next.entry.place }
+        requires next { IsNextEntry self.old.known next }
+        requires index { call.index ≡ next.entry.index }
         requires state { replay (begun State.object self.old.first) (history_of self.old ++ (next.entry.seat, call.value) ∷ []) ≡ Some state }
         ensures ok { OnOk result (self.new ≡ with_mark self.old (record { seat = next.entry.seat; call = call })) }
         ensures err { OnErr result (self.new ≡ self.old) }
@@ -208,48 +208,48 @@ impl<State: Object> Seat<State> {
 impl<State: Object> Head<State> {
     ghost use Rattle.camp_object.specs.Histories.{IsLegal};
     ghost use Rattle.camp_object.specs.Objects.{begun};
-    ghost use Rattle.camp_row.specs.Known.{ComesNext};
+    ghost use Rattle.camp_row.specs.PassState.{IsNextEntry};
     ghost use Rattle.camp_history.specs.Seats.{IsSeatOf, history_of};
-    ghost use Rattle.camp_history.specs.Inside.Steps.{entries_of, GetsOn, SeesMore};
+    ghost use Rattle.camp_history.specs.Inside.Steps.{seen_entries, SeesFurther, SeesMore};
 
     /// Sees the next entry: finds the published call and applies it.
     fn see(&self, seat: &mut Seat<State>, next: Next) -> Result<(), AllocError>
         requires of { IsSeatOf self.now seat.old }
-        requires next { ComesNext seat.old.known next }
-        ensures gets_on { GetsOn self.now seat.old seat.new }
+        requires next { IsNextEntry seat.old.known next }
+        ensures sees_further { SeesFurther self.now seat.old seat.new }
         ensures known { OnOk result (seat.new.known ≡ record seat.old.known { seen = seat.old.known.seen ++ next.entry ∷ [] }) }
     {
-        let Some(call) = self.calls.witness(next.entry.place) else {
+        let Some(call) = self.calls.witness(next.entry.index) else {
             return Err(AllocError);
         };
-        let state = seat.state_behind(self.calls.value(&call))?;
+        let state = seat.next_state(self.calls.value(&call))?;
         seat.step(&self.row, next, call, state)
     }
 
     /// Sees all of the chain that was found: installs a snapshot if it can, and sees the rest entry by entry.
     fn see_all(&self, seat: &mut Seat<State>) -> Result<(), AllocError>
         requires { IsSeatOf self.now seat.old }
-        ensures gets_on { GetsOn self.now seat.old seat.new }
+        ensures sees_further { SeesFurther self.now seat.old seat.new }
         ensures all { OnOk result (seat.new.known.seen ≡ seat.new.known.ahead) }
     {
         let mut trail = seat.walk(&self.row)?;
-        self.adopt_longest(seat, &mut trail)?;
+        self.install_longest(seat, &mut trail)?;
         while let Some(next) = seat.next(&self.row, &mut trail) {
             self.see(seat, next)?;
         }
-        let most = self.most_own(seat);
-        seat.settle(most)
+        let most = self.compact_limit(seat);
+        seat.compact(most)
     }
 
     /// Sees all of the chain that was found.
-    pub(crate) fn follow(&self, seat: &mut Seat<State>) -> Result<(), AllocError>
+    pub(crate) fn see_chain(&self, seat: &mut Seat<State>) -> Result<(), AllocError>
         requires { IsSeatOf self.now seat.old }
-        ensures gets_on { GetsOn self.now seat.old seat.new }
-        ensures whole { OnOk result (entries_of seat.new ≡ seat.new.known.ahead) }
+        ensures sees_further { SeesFurther self.now seat.old seat.new }
+        ensures whole { OnOk result (seen_entries seat.new ≡ seat.new.known.ahead) }
         ensures legal { IsLegal (begun State.object self.now.first) (history_of seat.new) }
     {
         let answer = self.see_all(seat);
-        seat.is_whole();
+        seat.show_invariant();
         answer
     }
 
@@ -260,7 +260,7 @@ impl<State: Object> Head<State> {
         ensures more { SeesMore seat.old seat.new }
         ensures legal { IsLegal (begun State.object self.now.first) (history_of seat.new) }
     {
-        seat.look(&self.row);
-        self.follow(seat)
+        seat.find_chain(&self.row);
+        self.see_chain(seat)
     }
 }

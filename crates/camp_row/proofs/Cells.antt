@@ -1,7 +1,7 @@
 -- The cells of a chain: no two entries have the same one, and the word of the last cell identifies the chain among
 -- its prefixes.
-use Rattle.camp_row.proofs.Words.{◌≡◌, ◌≢◌, ℕ, suc, ◌+◌, ◌<◌, ◌≤◌, ◌⊎◌, inl, inr, List, [], ◌∷◌, ◌++◌, length, ◌==◌, sym, refl, ap, ◌∙◌, subst, arith, length-append, append-nil, append_assoc, append_cancel_left, filter-append, eq-eqb, ne_eqb, cond-true, cond-false, same_from_place, Entry, IsBeginning, IsShorter, own, turns, cell_of, head_after, head_word, Fits}
-use Rattle.camp_row.proofs.Beginnings.{begins_cases, cut_longer, cut_push, beginnings_meet, next_is}
+use Rattle.camp_row.proofs.Words.{◌≡◌, ◌≢◌, ℕ, suc, ◌+◌, ◌<◌, ◌≤◌, ◌⊎◌, inl, inr, List, [], ◌∷◌, ◌++◌, length, ◌==◌, sym, refl, ap, ◌∙◌, subst, arith, length-append, append-nil, append_assoc, append_cancel_left, filter-append, eq-eqb, ne_eqb, cond-true, cond-false, same_from_place, Entry, IsPrefix, IsProperPrefix, own, entry_count, cell_of, head_after, head_word, FitsRow}
+use Rattle.camp_row.proofs.Prefixes.{prefix_cases, cut_longer, cut_push, prefixes_compare, next_is}
 
 pub own-append : (seat : ℕ) (xs ys : List Entry) → own seat (xs ++ ys) ≡ own seat xs ++ own seat ys
 own-append seat xs ys = filter-append (λ (e : Entry). e.seat == seat) xs ys
@@ -12,24 +12,24 @@ own-self e later = cond-true (e.seat == e.seat) (e ∷ own e.seat later) (own e.
 pub own-other : (seat : ℕ) (e : Entry) (later : List Entry) → e.seat ≢ seat → own seat (e ∷ later) ≡ own seat later
 own-other seat e later ne = cond-false (e.seat == seat) (e ∷ own seat later) (own seat later) (ne_eqb e.seat seat ne)
 
-pub turns-append : (seat : ℕ) (xs ys : List Entry) → turns seat (xs ++ ys) ≡ turns seat xs + turns seat ys
-turns-append seat xs ys = ap length (own-append seat xs ys) ∙ length-append (own seat xs) (own seat ys)
+pub entry_count-append : (seat : ℕ) (xs ys : List Entry) → entry_count seat (xs ++ ys) ≡ entry_count seat xs + entry_count seat ys
+entry_count-append seat xs ys = ap length (own-append seat xs ys) ∙ length-append (own seat xs) (own seat ys)
 
-pub turns-self : (e : Entry) (later : List Entry) → turns e.seat (e ∷ later) ≡ suc (turns e.seat later)
-turns-self e later = ap length (own-self e later)
+pub entry_count-self : (e : Entry) (later : List Entry) → entry_count e.seat (e ∷ later) ≡ suc (entry_count e.seat later)
+entry_count-self e later = ap length (own-self e later)
 
 -- an entry at which a chain is cut is one more of its seat
-pub turns_cut : (before : List Entry) (e : Entry) (after chain : List Entry) → before ++ e ∷ after ≡ chain → turns e.seat before < turns e.seat chain
-turns_cut before e after chain cut =
-    let at : turns e.seat (before ++ e ∷ after) ≡ turns e.seat chain = ap (turns e.seat) cut in
-    let sum = turns-append e.seat before (e ∷ after) in
-    let one = turns-self e after in
+pub entry_count_cut : (before : List Entry) (e : Entry) (after chain : List Entry) → before ++ e ∷ after ≡ chain → entry_count e.seat before < entry_count e.seat chain
+entry_count_cut before e after chain cut =
+    let at : entry_count e.seat (before ++ e ∷ after) ≡ entry_count e.seat chain = ap (entry_count e.seat) cut in
+    let sum = entry_count-append e.seat before (e ∷ after) in
+    let one = entry_count-self e after in
     omega arith
 
-pub turns_front : (seat : ℕ) (xs ys : List Entry) → IsBeginning xs ys → turns seat xs ≤ turns seat ys
-turns_front seat xs ys f =
-    let at : turns seat (xs ++ f.rest) ≡ turns seat ys = ap (turns seat) f.is in
-    let sum = turns-append seat xs f.rest in
+pub entry_count_prefix : (seat : ℕ) (xs ys : List Entry) → IsPrefix xs ys → entry_count seat xs ≤ entry_count seat ys
+entry_count_prefix seat xs ys f =
+    let at : entry_count seat (xs ++ f.rest) ≡ entry_count seat ys = ap (entry_count seat) f.is in
+    let sum = entry_count-append seat xs f.rest in
     omega arith
 
 pub own_push_other : (seat : ℕ) (chain : List Entry) (e : Entry) → e.seat ≢ seat → own seat (chain ++ e ∷ []) ≡ own seat chain
@@ -67,30 +67,30 @@ last_cases (x ∷ xs) = inr (elim (last_cases xs) [
   | inr some ↦ record { before = x ∷ some.before; last = some.last; is = λ k. x ∷ some.is k }
 ])
 
-module _ (seats per_seat : ℕ) (chain : List Entry) (fits : Fits seats per_seat chain) where
-  -- two entries of one seat with the same turn, of which the second comes after the first in the chain
-  none_between : (b : List Entry) (e : Entry) (a c : List Entry) (f : Entry) (d : List Entry) → b ++ e ∷ a ≡ chain → c ++ f ∷ d ≡ chain → turns e.seat b ≡ turns e.seat c → IsShorter b c → ⊥
+module _ (seats per_seat : ℕ) (chain : List Entry) (fits : FitsRow seats per_seat chain) where
+  -- two entries of one seat with equal indexes in its list, of which the second comes after the first in the chain
+  none_between : (b : List Entry) (e : Entry) (a c : List Entry) (f : Entry) (d : List Entry) → b ++ e ∷ a ≡ chain → c ++ f ∷ d ≡ chain → entry_count e.seat b ≡ entry_count e.seat c → IsProperPrefix b c → ⊥
   none_between b e a c f d at_e at_f same s =
       let next : s.next ≡ e = next_is b s.next e (s.rest ++ f ∷ d) a chain (cut_longer b s.next s.rest c (f ∷ d) chain s.is at_f) at_e in
-      let more : turns e.seat b < turns e.seat c = subst (λ (x : Entry). turns x.seat b < turns x.seat c) next (turns_cut b s.next s.rest c s.is) in
+      let more : entry_count e.seat b < entry_count e.seat c = subst (λ (x : Entry). entry_count x.seat b < entry_count x.seat c) next (entry_count_cut b s.next s.rest c s.is) in
       omega arith
 
   -- two entries of one cell are at the same position of the chain
   pub one_place : (b : List Entry) (e : Entry) (a : List Entry) (c : List Entry) (f : Entry) (d : List Entry) → b ++ e ∷ a ≡ chain → c ++ f ∷ d ≡ chain → cell_of seats b e ≡ cell_of seats c f → b ≡ c
   one_place b e a c f d at_e at_f same =
-      let apart = same_from_place (turns e.seat b) e.seat (turns f.seat c) f.seat seats (fits b e a at_e).0 (fits c f d at_f).0 same in
+      let apart = same_from_place (entry_count e.seat b) e.seat (entry_count f.seat c) f.seat seats (fits b e a at_e).0 (fits c f d at_f).0 same in
       let seat_is : e.seat ≡ f.seat = apart.1 in
-      elim (beginnings_meet b c chain (record { rest = e ∷ a; is = at_e }) (record { rest = f ∷ d; is = at_f })) [
-        | inl b_first ↦ elim (begins_cases b c b_first) [
+      elim (prefixes_compare b c chain (record { rest = e ∷ a; is = at_e }) (record { rest = f ∷ d; is = at_f })) [
+        | inl b_first ↦ elim (prefix_cases b c b_first) [
           | inl is ↦ is
-          | inr shorter ↦ absurd (none_between b e a c f d at_e at_f (apart.0 ∙ ap (λ s. turns s c) (sym seat_is)) shorter)
+          | inr shorter ↦ absurd (none_between b e a c f d at_e at_f (apart.0 ∙ ap (λ s. entry_count s c) (sym seat_is)) shorter)
         ]
-        | inr shorter ↦ absurd (none_between c f d b e a at_f at_e (sym apart.0 ∙ ap (λ s. turns s b) seat_is) shorter)
+        | inr shorter ↦ absurd (none_between c f d b e a at_f at_e (sym apart.0 ∙ ap (λ s. entry_count s b) seat_is) shorter)
       ]
 
   -- two prefixes of the chain with the same last cell are equal
-  pub same_front : (xs ys : List Entry) → IsBeginning xs chain → IsBeginning ys chain → head_word seats xs ≡ head_word seats ys → xs ≡ ys
-  same_front xs ys f g same = at (last_cases xs) (last_cases ys) where
+  pub same_prefix : (xs ys : List Entry) → IsPrefix xs chain → IsPrefix ys chain → head_word seats xs ≡ head_word seats ys → xs ≡ ys
+  same_prefix xs ys f g same = at (last_cases xs) (last_cases ys) where
     named : (zs : List Entry) (l : HasLast zs) → head_word seats zs ≡ cell_of seats l.before l.last + 1
     named zs l = ap (head_word seats) (sym l.is) ∙ head_word-push seats l.before l.last
 
@@ -109,16 +109,16 @@ module _ (seats per_seat : ℕ) (chain : List Entry) (fits : Fits seats per_seat
         let last : l.last ≡ m.last = next_is l.before l.last m.last f.rest g.rest chain cut_x cut_y' in
         sym l.is ∙ ((λ k. before k ++ last k ∷ []) ∙ m.is)
 
-pub fits_front : (seats per_seat : ℕ) (xs ys : List Entry) → IsBeginning xs ys → Fits seats per_seat ys → Fits seats per_seat xs
-fits_front seats per_seat xs ys f fits before e after cut = fits before e (after ++ f.rest) (cut_longer before e after xs f.rest ys cut f.is)
+pub fits_prefix : (seats per_seat : ℕ) (xs ys : List Entry) → IsPrefix xs ys → FitsRow seats per_seat ys → FitsRow seats per_seat xs
+fits_prefix seats per_seat xs ys f fits before e after cut = fits before e (after ++ f.rest) (cut_longer before e after xs f.rest ys cut f.is)
 
-pub fits_push : (seats per_seat : ℕ) (chain : List Entry) (e : Entry) → Fits seats per_seat chain → e.seat < seats → turns e.seat chain < per_seat → Fits seats per_seat (chain ++ e ∷ [])
+pub fits_push : (seats per_seat : ℕ) (chain : List Entry) (e : Entry) → FitsRow seats per_seat chain → e.seat < seats → entry_count e.seat chain < per_seat → FitsRow seats per_seat (chain ++ e ∷ [])
 fits_push seats per_seat chain e fits below room before f after cut = elim (cut_push before f after chain e cut) [
   | inl last ↦
-      subst (λ b. (f.seat < seats) × (turns f.seat b < per_seat)) (sym last.0)
-      (subst (λ (x : Entry). (x.seat < seats) × (turns x.seat chain < per_seat)) (sym last.1) (below, room))
+      subst (λ b. (f.seat < seats) × (entry_count f.seat b < per_seat)) (sym last.0)
+      (subst (λ (x : Entry). (x.seat < seats) × (entry_count x.seat chain < per_seat)) (sym last.1) (below, room))
   | inr older ↦ fits before f older.0 older.1
 ]
 
-pub turns_push : (e : Entry) (chain : List Entry) → turns e.seat (chain ++ e ∷ []) ≡ turns e.seat chain + 1
-turns_push e chain = turns-append e.seat chain (e ∷ []) ∙ ap (λ n. turns e.seat chain + n) (turns-self e [])
+pub entry_count_push : (e : Entry) (chain : List Entry) → entry_count e.seat (chain ++ e ∷ []) ≡ entry_count e.seat chain + 1
+entry_count_push e chain = entry_count-append e.seat chain (e ∷ []) ∙ ap (λ n. entry_count e.seat chain + n) (entry_count-self e [])

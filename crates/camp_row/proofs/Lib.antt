@@ -1,12 +1,12 @@
 pub mod Cells
-pub mod Dealing
+pub mod Splitting
 pub mod Drafting
-pub mod Beginnings
+pub mod Prefixes
 pub mod Loading
-pub mod Meeting
+pub mod Synchronising
 pub mod PassOfRow
 pub mod Publishing
 pub mod Ruling
-pub mod TrailPlaces
+pub mod TrailEntries
 pub mod TrailSteps
 pub mod Words

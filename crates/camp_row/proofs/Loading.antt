@@ -1,6 +1,6 @@
 -- Loads keep the invariant, and teach what `specs/Inside/Steps` says.
-use Rattle.camp_row.proofs.Words.{◌≡◌, ℕ, ◌+◌, ◌*◌, ◌<◌, List, [], ◌∷◌, ◌++◌, length, cond, ◌==◌, sym, refl, ap, ◌∙◌, subst, arith, set, slice_index, All, map, All-weaker, All-map, Entry, Knowledge, IsShorter, own, turns, cell_of, head_word, Fits, Part, parts_of, finds, place_word, Holds, Knows, IsRuled, Sees, Looked, Walked, Advanced, sum_by, spent}
-use Rattle.camp_row.proofs.Beginnings.{begins_refl, cut_longer, cut_pushed}
+use Rattle.camp_row.proofs.Words.{◌≡◌, ℕ, ◌+◌, ◌*◌, ◌<◌, List, [], ◌∷◌, ◌++◌, length, cond, ◌==◌, sym, refl, ap, ◌∙◌, subst, arith, set, slice_index, All, map, All-weaker, All-map, Entry, Knowledge, IsProperPrefix, own, entry_count, cell_of, head_word, FitsRow, Part, parts_of, finds, index_word, HasCell, Knows, IsRuled, SeatFindsChain, LoadedHead, Walked, Advanced, sum_by, spent}
+use Rattle.camp_row.proofs.Prefixes.{prefix_refl, cut_longer, cut_pushed}
 use Rattle.camp_row.proofs.Cells.{own_of_next}
 use Rattle.camp_row.proofs.Ruling.{Owes, only, sum_set, parts_of-cons, keep, word_same, knows, keep_words}
 
@@ -9,20 +9,20 @@ parts_of-finds chain number [] = refl
 parts_of-finds chain number (p ∷ ps) =
     parts_of-cons number (finds chain p) (map (finds chain) ps) ∙ (ap (λ n. cond (p.number == number) 1 0 + n) (parts_of-finds chain number ps) ∙ sym (parts_of-cons number p ps))
 
-module _ (seats per_seat : ℕ) (words : List ℕ) (chain : List Entry) (fits : Fits seats per_seat chain) where
+module _ (seats per_seat : ℕ) (words : List ℕ) (chain : List Entry) (fits : FitsRow seats per_seat chain) where
   pub finds_knows : (p : Part) → Knows seats per_seat words chain p → Knows seats per_seat words chain (finds chain p)
-  finds_knows p k = record { sizes = k.sizes; seen = k.seen; ahead = begins_refl chain; own_seen = k.own_seen; draft = k.draft; empty = k.empty }
+  finds_knows p k = record { sizes = k.sizes; seen = k.seen; ahead = prefix_refl chain; own_seen = k.own_seen; draft = k.draft; empty = k.empty }
 
-  pub sees : (found : ℕ) → found ≡ head_word seats chain → (p : Part) → Knows seats per_seat words chain p → Sees found chain p
-  sees found named p k = record {
+  pub finds_chain : (found : ℕ) → found ≡ head_word seats chain → (p : Part) → Knows seats per_seat words chain p → SeatFindsChain found chain p
+  finds_chain found named p k = record {
     named = named ∙ ap (λ s. head_word s chain) (sym k.sizes.0);
     grows = k.ahead;
-    sound = record { front = k.seen; own_seen = k.own_seen; fits = subst (λ s. Fits s p.per_seat chain) (sym k.sizes.0) (subst (λ t. Fits seats t chain) (sym k.sizes.1) fits) };
+    sound = record { prefix = k.seen; own_seen = k.own_seen; fits = subst (λ s. FitsRow s p.per_seat chain) (sym k.sizes.0) (subst (λ t. FitsRow seats t chain) (sym k.sizes.1) fits) };
   }
 
 -- a load of the head
-pub looks : (seats per_seat id : ℕ) (v : Knowledge) → Owes seats per_seat id v 0 (λ n. n) (λ found w. Looked found v.parts w.parts)
-looks seats per_seat id v words views ruled at =
+pub loads_head : (seats per_seat id : ℕ) (v : Knowledge) → Owes seats per_seat id v 0 (λ n. n) (λ found w. LoadedHead found v.parts w.parts)
+loads_head seats per_seat id v words views ruled at =
     let K : Part → Type 0 = Knows seats per_seat words ruled.chain in
     let known : All K v.parts = ruled.known id v at in
     let w : Knowledge = record { parts = map (finds ruled.chain) v.parts } in
@@ -36,7 +36,7 @@ looks seats per_seat id v words views ruled at =
             let f : Knowledge → ℕ = λ u. parts_of n u.parts in
             let without : sum_by f (set views id spent) + f v ≡ sum_by f views + 0 = sum_set f views id v spent at in
             omega (arith, ruled.one_each n);
-        each = All-weaker K (Sees (slice_index words 0) ruled.chain) (sees seats per_seat words ruled.chain ruled.fits (slice_index words 0) ruled.head) v.parts known;
+        each = All-weaker K (SeatFindsChain (slice_index words 0) ruled.chain) (finds_chain seats per_seat words ruled.chain ruled.fits (slice_index words 0) ruled.head) v.parts known;
         is = refl;
       },
     )
@@ -51,16 +51,16 @@ module _ (seats per_seat id : ℕ) (p : Part) (i : ℕ) where
         (
           refl,
           λ before e after cut.
-              let held : Holds words (cell_of p.seats before e) (head_word p.seats before) e.place =
-              subst (λ s. Holds words (cell_of s before e) (head_word s before) e.place) (sym k.sizes.0) (ruled.linked before e (after ++ k.ahead.rest) (cut_longer before e after p.ahead k.ahead.rest ruled.chain cut k.ahead.is)) in (
-                (λ is. ap (slice_index words) is ∙ held.names),
-                (λ is. ap (slice_index words) is ∙ held.places),
+              let held : HasCell words (cell_of p.seats before e) (head_word p.seats before) e.index =
+              subst (λ s. HasCell words (cell_of s before e) (head_word s before) e.index) (sym k.sizes.0) (ruled.linked before e (after ++ k.ahead.rest) (cut_longer before e after p.ahead k.ahead.rest ruled.chain cut k.ahead.is)) in (
+                (λ is. ap (slice_index words) is ∙ held.parent_is),
+                (λ is. ap (slice_index words) is ∙ held.index_is),
               ),
         ),
       )
 
   -- a load of the place word of the next cell
-  pub advances : (next : IsShorter p.seen p.ahead) → i ≡ place_word (cell_of p.seats p.seen next.next) → Owes seats per_seat id (only p) i (λ n. n) (λ found w. Advanced found (p ∷ []) w.parts)
+  pub advances : (next : IsProperPrefix p.seen p.ahead) → i ≡ index_word (cell_of p.seats p.seen next.next) → Owes seats per_seat id (only p) i (λ n. n) (λ found w. Advanced found (p ∷ []) w.parts)
   advances next word_is words views ruled at =
       let k = knows seats per_seat words views ruled id p at in
       let e : Entry = next.next in
@@ -68,17 +68,17 @@ module _ (seats per_seat id : ℕ) (p : Part) (i : ℕ) where
       let cut : p.seen ++ e ∷ later ≡ ruled.chain = cut_longer p.seen e next.rest p.ahead k.ahead.rest ruled.chain next.is k.ahead.is in
       let q : Part = record p { seen = p.seen ++ e ∷ [] } in
       let own_is : own p.number q.seen ≡ own p.number p.seen = own_of_next p.number p.seen e later ruled.chain cut k.own_seen in
-      let turns_is : turns p.number q.seen ≡ turns p.number p.seen = ap length own_is in
-      let held : Holds words (cell_of p.seats p.seen e) (head_word p.seats p.seen) e.place =
-      subst (λ s. Holds words (cell_of s p.seen e) (head_word s p.seen) e.place) (sym k.sizes.0) (ruled.linked p.seen e later cut) in (
+      let entry_count_is : entry_count p.number q.seen ≡ entry_count p.number p.seen = ap length own_is in
+      let held : HasCell words (cell_of p.seats p.seen e) (head_word p.seats p.seen) e.index =
+      subst (λ s. HasCell words (cell_of s p.seen e) (head_word s p.seen) e.index) (sym k.sizes.0) (ruled.linked p.seen e later cut) in (
         only q,
         keep_words seats per_seat words views ruled id p at i q refl (record {
           sizes = k.sizes;
           seen = record { rest = later; is = cut_pushed p.seen later e ∙ cut };
           ahead = k.ahead;
           own_seen = k.own_seen ∙ sym own_is;
-          draft = subst (λ t. t < per_seat → Holds words (t * seats + p.number) p.parent p.place) (sym turns_is) k.draft;
-          empty = subst (λ t. (turn : ℕ) → t < turn → turn < per_seat → Holds words (turn * seats + p.number) 0 0) (sym turns_is) k.empty;
+          draft = subst (λ t. t < per_seat → HasCell words (t * seats + p.number) p.parent p.index) (sym entry_count_is) k.draft;
+          empty = subst (λ t. (nth : ℕ) → t < nth → nth < per_seat → HasCell words (nth * seats + p.number) 0 0) (sym entry_count_is) k.empty;
         }),
-        record { next = next; place = ap (slice_index words) word_is ∙ held.places; is = refl },
+        record { next = next; index = ap (slice_index words) word_is ∙ held.index_is; is = refl },
       )

@@ -1,10 +1,10 @@
 -- A pass and its fields, and the row that it is of.
-use Rattle.camp_row.proofs.Words.{◌≡◌, ℕ, ◌+◌, ◌*◌, ◌<◌, ◌≤◌, List, [], ◌∷◌, sym, refl, ap, ◌∙◌, subst, arith, row_fits, TableId, Seat, Knowledge, Next, IsShorter, turns, cell_of, RowId, Known, ComesNext, Part, part_of, known_of, IsSoundPart, part, known, IsPass, id_of, IsRow, PassInside, RowInside, ◌%◌, ◌++◌, mod-mul-add, Allows, Splits, head_word, finds, Looked, Sees, Walked, first_apart, without_first, Entry}
+use Rattle.camp_row.proofs.Words.{◌≡◌, ℕ, ◌+◌, ◌*◌, ◌<◌, ◌≤◌, List, [], ◌∷◌, sym, refl, ap, ◌∙◌, subst, arith, row_fits, TableId, Seat, Knowledge, Next, IsProperPrefix, entry_count, cell_of, RowId, PassState, IsNextEntry, Part, part_of, known_of, IsSoundPart, part, known, IsPass, id_of, IsRow, PassInside, RowInside, ◌%◌, ◌++◌, mod-mul-add, Allows, Splits, head_word, finds, LoadedHead, SeatFindsChain, Walked, first_apart, without_first, Entry}
 use Rattle.std.proofs.Math.Nat.{mul-le-mul_left}
 use Rattle.camp_row.proofs.Drafting.{next_cell, HasRoom}
-use Rattle.camp_row.proofs.Dealing.{splits}
-pub use Rattle.camp_row.proofs.Beginnings.{cut_longer, cut_pushed, begins_nil, begins_refl, beginnings_meet, next_is, no_cut, shorter_begins}
-use Rattle.camp_row.proofs.Loading.{looks, walks}
+use Rattle.camp_row.proofs.Splitting.{splits}
+pub use Rattle.camp_row.proofs.Prefixes.{cut_longer, cut_pushed, prefix_nil, prefix_refl, prefixes_compare, next_is, no_cut, proper_is_prefix}
+use Rattle.camp_row.proofs.Loading.{loads_head, walks}
 use Rattle.camp_row.proofs.Ruling.{Owes, Ruled, allows, only, allows_one}
 
 -- the pass is to this row
@@ -22,10 +22,10 @@ pub record AtOwn (pass : PassInside) (row : RowInside) (cell : ℕ) : Type 0 whe
   pub below : cell < row.per_seat * row.seats
   pub room : HasRoom (part pass)
 
-module _ (pass : PassInside) (row : RowInside) {k : Known} {r : RowId} (is : IsRow row) (pass_is : known pass ≡ k) (row_is : id_of row ≡ r) (same : k.row ≡ r) where
+module _ (pass : PassInside) (row : RowInside) {k : PassState} {r : RowId} (is : IsRow row) (pass_is : known pass ≡ k) (row_is : id_of row ≡ r) (same : k.row ≡ r) where
   pub is_of : IsOf pass row
   is_of =
-      let e : (known pass).row ≡ id_of row = ap (λ (x : Known). x.row) pass_is ∙ (same ∙ sym row_is) in
+      let e : (known pass).row ≡ id_of row = ap (λ (x : PassState). x.row) pass_is ∙ (same ∙ sym row_is) in
       let few : row.per_seat * row.seats ≤ row.per_seat * 64 = mul-le-mul_left row.per_seat is.seats.1 in
       let within = is.per_seat.1 in record {
         table = ap (λ (x : RowId). x.table) e;
@@ -35,12 +35,12 @@ module _ (pass : PassInside) (row : RowInside) {k : Known} {r : RowId} (is : IsR
         few = omega arith;
       }
 
-  pub at_own : {cell : ℕ} → turns k.number k.seen < r.per_seat → cell ≡ turns k.number k.seen * r.seats + k.number → cell < r.per_seat * r.seats → AtOwn pass row cell
+  pub at_own : {cell : ℕ} → entry_count k.number k.seen < r.per_seat → cell ≡ entry_count k.number k.seen * r.seats + k.number → cell < r.per_seat * r.seats → AtOwn pass row cell
   at_own {cell} room cell_is below = record {
     of = is_of;
-    own = cell_is ∙ (ap (λ (x : RowId). turns k.number k.seen * x.seats + k.number) (sym same) ∙ ap (λ (x : Known). turns x.number x.seen * x.row.seats + x.number) (sym pass_is));
+    own = cell_is ∙ (ap (λ (x : RowId). entry_count k.number k.seen * x.seats + k.number) (sym same) ∙ ap (λ (x : PassState). entry_count x.number x.seen * x.row.seats + x.number) (sym pass_is));
     below = subst (λ (x : RowId). cell < x.per_seat * x.seats) (sym row_is) below;
-    room = subst (λ (x : Known). turns x.number x.seen < x.row.per_seat) (sym pass_is) (subst (λ (x : RowId). turns k.number k.seen < x.per_seat) (sym same) room);
+    room = subst (λ (x : PassState). entry_count x.number x.seen < x.row.per_seat) (sym pass_is) (subst (λ (x : RowId). entry_count k.number k.seen < x.per_seat) (sym same) room);
   }
 
 -- the part is the pass's own
@@ -51,23 +51,23 @@ pub known_at : (table : TableId) (parts : List Part) (q : Part) → parts ≡ q 
 known_at table parts q alone = ap (λ ps. known_of table (part_of ps)) alone
 
 -- a pass that found the chain
-pub found_pass : (pass : PassInside) (seat : Seat (Unit {0}) Knowledge) (found : ℕ) (chain : List Entry) → seat.me.0.parts ≡ finds chain (part pass) ∷ [] → seat.me.1 ≡ [] → Sees found chain (part pass)
+pub found_pass : (pass : PassInside) (seat : Seat (Unit {0}) Knowledge) (found : ℕ) (chain : List Entry) → seat.me.0.parts ≡ finds chain (part pass) ∷ [] → seat.me.1 ≡ [] → SeatFindsChain found chain (part pass)
     → IsPass pass (part pass) → IsPass (record pass { seat = seat; head = found }) (part (record pass { seat = seat; head = found }))
-found_pass pass seat found chain alone slots sees is = at_part (record pass { seat = seat; head = found }) (finds chain (part pass)) (record {
+found_pass pass seat found chain alone slots finds_chain is = at_part (record pass { seat = seat; head = found }) (finds chain (part pass)) (record {
   alone = alone;
   no_slot = slots;
   number = is.number;
-  turn = is.turn;
+  published = is.published;
   last = is.last;
-  head = sees.named;
+  head = finds_chain.named;
   number_below = is.number_below;
-  turn_within = is.turn_within;
-  sound = sees.sound;
+  published_within = is.published_within;
+  sound = finds_chain.sound;
 })
 
 -- the chain that was found before
-pub sees_still : (part : Part) {found : ℕ} → found ≡ head_word part.seats part.ahead → IsSoundPart part → Sees found part.ahead part
-sees_still part named sound = record { named = named; grows = begins_refl part.ahead; sound = sound }
+pub finds_same_chain : (part : Part) {found : ℕ} → found ≡ head_word part.seats part.ahead → IsSoundPart part → SeatFindsChain found part.ahead part
+finds_same_chain part named sound = record { named = named; grows = prefix_refl part.ahead; sound = sound }
 
 -- a cell that has an entry of the chain is in the row
 pub record Held (pass : PassInside) (row : RowInside) (before : List Entry) (entry : Entry) (cell : ℕ) : Type 0 where
@@ -82,25 +82,25 @@ pub held : {pass : PassInside} {row : RowInside} {before : List Entry} {e : Entr
 held {pass} {row} {before} {e} later {cell} of sound cut is =
     let fits = sound.fits before e later cut in
     let below : e.seat < row.seats = subst (λ s. e.seat < s) of.seats fits.0 in
-    let room : turns e.seat before < row.per_seat = subst (λ s. turns e.seat before < s) of.per_seat fits.1 in
-    let cell_is : cell ≡ turns e.seat before * row.seats + e.seat = is ∙ ap (λ s. turns e.seat before * s + e.seat) of.seats in
-    let in_row = row_fits (turns e.seat before) row.seats row.per_seat row.seats room (omega arith) in record {
+    let room : entry_count e.seat before < row.per_seat = subst (λ s. entry_count e.seat before < s) of.per_seat fits.1 in
+    let cell_is : cell ≡ entry_count e.seat before * row.seats + e.seat = is ∙ ap (λ s. entry_count e.seat before * s + e.seat) of.seats in
+    let in_row = row_fits (entry_count e.seat before) row.seats row.per_seat row.seats room (omega arith) in record {
       of = of;
       is = is;
       below = omega arith;
-      seat_is = ap (λ x. x % row.seats) cell_is ∙ mod-mul-add (turns e.seat before) row.seats e.seat below;
+      seat_is = ap (λ x. x % row.seats) cell_is ∙ mod-mul-add (entry_count e.seat before) row.seats e.seat below;
       seat_below = fits.0;
     }
 
 -- the next entry, as the pass's part sees it
-pub record NextIs (pass : PassInside) (row : RowInside) (next : Next) : Type 0 where
-  pub shorter : IsShorter (part pass).seen (part pass).ahead
+pub record IsNextOfPart (pass : PassInside) (row : RowInside) (next : Next) : Type 0 where
+  pub shorter : IsProperPrefix (part pass).seen (part pass).ahead
   pub entry : shorter.next ≡ next.entry
   pub held : Held pass row (part pass).seen next.entry next.cell
 
-pub next_of : {pass : PassInside} {row : RowInside} {k : Known} {next : Next} → IsOf pass row → known pass ≡ k → IsSoundPart (part pass) → ComesNext k next → NextIs pass row next
+pub next_of : {pass : PassInside} {row : RowInside} {k : PassState} {next : Next} → IsOf pass row → known pass ≡ k → IsSoundPart (part pass) → IsNextEntry k next → IsNextOfPart pass row next
 next_of {pass} {next = next} of same sound comes =
-    let n : ComesNext (known pass) next = subst (λ x. ComesNext x next) (sym same) comes in
+    let n : IsNextEntry (known pass) next = subst (λ x. IsNextEntry x next) (sym same) comes in
     record { shorter = record { next = next.entry; rest = n.later; is = n.is }; entry = refl; held = held n.later of sound n.is n.cell }
 
 -- the obligations of a step of a seat
@@ -119,11 +119,11 @@ module _ (row : RowInside) (seat : Seat (Unit {0}) Knowledge) (table : seat.tabl
   pub splits_in : IsRow row → MaySplit row seat
   splits_in is = let w = is.words in let shared = row.table.shared in (table, omega arith, splits shared.key.seats shared.key.per_seat seat.id seat.me.0)
 
-  pub looks_in : IsRow row → MayStep row seat 0 (λ n. n) Looked
-  looks_in is =
+  pub loads_head_in : IsRow row → MayStep row seat 0 (λ n. n) LoadedHead
+  loads_head_in is =
       let w = is.words in
       let shared = row.table.shared in
-      (table, omega arith, allows shared.key.seats shared.key.per_seat shared.table_id.slots seat.id seat.me 0 (λ n. n) (λ found w. Looked found seat.me.0.parts w.parts) (looks shared.key.seats shared.key.per_seat seat.id seat.me.0))
+      (table, omega arith, allows shared.key.seats shared.key.per_seat shared.table_id.slots seat.id seat.me 0 (λ n. n) (λ found w. LoadedHead found seat.me.0.parts w.parts) (loads_head shared.key.seats shared.key.per_seat seat.id seat.me.0))
 
   pub steps_in : {i : ℕ} (f : ℕ → ℕ) (then : ℕ → List Part → List Part → Type 0) {p : Part} → i < row.table.shared.table_id.words → seat.me.0.parts ≡ p ∷ []
       → Owes row.table.shared.key.seats row.table.shared.key.per_seat seat.id (only p) i f (λ n w. then n (p ∷ []) w.parts) → MayStep row seat i f then

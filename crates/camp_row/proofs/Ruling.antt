@@ -1,5 +1,5 @@
 -- The rule of the row, when a step changes one view and perhaps one word.
-use Rattle.camp_row.proofs.Words.{◌≡◌, ◌≢◌, ℕ, zero, suc, ◌+◌, ◌≤◌, inl, inr, List, [], ◌∷◌, length, cond, ◌==◌, sym, refl, ap, ◌∙◌, subst, arith, zero-add, set, get_or, slice_index, sum_by, All, get_or-set_other, set-get_or, sum_by-cons, All-head, All-cons, All-nil, eq-eqb, ne_eqb, cond-true, cond-false, some, some-injective, some-ne-none, get_elem?, State, Me, keeps, Allows, at_set, set_else, spent, Entry, Knowledge, head_word, Fits, Part, parts_of, parent_word, place_word, Holds, IsLinked, Knows, IsRuled}
+use Rattle.camp_row.proofs.Words.{◌≡◌, ◌≢◌, ℕ, zero, suc, ◌+◌, ◌≤◌, inl, inr, List, [], ◌∷◌, length, cond, ◌==◌, sym, refl, ap, ◌∙◌, subst, arith, zero-add, set, get_or, slice_index, sum_by, All, get_or-set_other, set-get_or, sum_by-cons, All-head, All-cons, All-nil, eq-eqb, ne_eqb, cond-true, cond-false, some, some-injective, some-ne-none, get_elem?, State, Me, keeps, Allows, at_set, set_else, spent, Entry, Knowledge, head_word, FitsRow, Part, parts_of, parent_word, index_word, HasCell, IsLinked, Knows, IsRuled}
 
 -- the obligation of a step that takes no slot: whatever the words and the views are, some view keeps the invariant
 abbrev pub Owes : ℕ → ℕ → ℕ → Knowledge → ℕ → (ℕ → ℕ) → (ℕ → Knowledge → Type 0) → Type 0
@@ -61,7 +61,7 @@ module _ (seats per_seat : ℕ) (words : List ℕ) (views : List Knowledge) (rul
 
   -- the rule after a step
   pub keep : (words' : List ℕ) (chain' : List Entry) (w : Knowledge)
-      → length words' ≡ length words → slice_index words' 0 ≡ head_word seats chain' → IsLinked seats words' chain' → Fits seats per_seat chain'
+      → length words' ≡ length words → slice_index words' 0 ≡ head_word seats chain' → IsLinked seats words' chain' → FitsRow seats per_seat chain'
       → ((number : ℕ) → parts_of number w.parts ≡ parts_of number v.parts)
       → All (Knows seats per_seat words' chain') w.parts
       → ((q : Part) → parts_of q.number v.parts ≡ 0 → Knows seats per_seat words ruled.chain q → Knows seats per_seat words' chain' q)
@@ -89,10 +89,10 @@ with_views others ruled one_each known = record { chain = ruled.chain; sized = r
 pub word_same : (words : List ℕ) (i : ℕ) → set words i (slice_index words i) ≡ words
 word_same words i = set-get_or words i 0
 
-pub holds_other : (words : List ℕ) (i x cell parent place : ℕ) → i ≢ parent_word cell → i ≢ place_word cell → Holds words cell parent place → Holds (set words i x) cell parent place
-holds_other words i x cell parent place apart apart' h = record {
-  names = get_or-set_other words i (parent_word cell) x 0 (λ e. apart (sym e)) ∙ h.names;
-  places = get_or-set_other words i (place_word cell) x 0 (λ e. apart' (sym e)) ∙ h.places;
+pub has_cell_other : (words : List ℕ) (i x cell parent index : ℕ) → i ≢ parent_word cell → i ≢ index_word cell → HasCell words cell parent index → HasCell (set words i x) cell parent index
+has_cell_other words i x cell parent index apart apart' h = record {
+  parent_is = get_or-set_other words i (parent_word cell) x 0 (λ e. apart (sym e)) ∙ h.parent_is;
+  index_is = get_or-set_other words i (index_word cell) x 0 (λ e. apart' (sym e)) ∙ h.index_is;
 }
 
 -- the invariant after a step by a seat with one part
@@ -107,7 +107,7 @@ module _ (seats per_seat : ℕ) (words : List ℕ) (views : List Knowledge) (rul
   other_number o none same = let one = parts_of-self p [] in let here : parts_of o.number (p ∷ []) ≡ parts_of p.number (p ∷ []) = ap (λ n. parts_of n (p ∷ [])) same in absurd (omega arith)
 
   pub keep_one : (words' : List ℕ) (chain' : List Entry) (q : Part)
-      → length words' ≡ length words → slice_index words' 0 ≡ head_word seats chain' → IsLinked seats words' chain' → Fits seats per_seat chain'
+      → length words' ≡ length words → slice_index words' 0 ≡ head_word seats chain' → IsLinked seats words' chain' → FitsRow seats per_seat chain'
       → q.number ≡ p.number
       → Knows seats per_seat words' chain' q
       → ((o : Part) → o.number ≢ p.number → Knows seats per_seat words ruled.chain o → Knows seats per_seat words' chain' o)

@@ -14,13 +14,13 @@ pub use Rattle.atomic_table.proofs.Lists.{at_set, at_snoc, set_else}
 pub use Rattle.atomic_table.specs.Seated.{TableId}
 pub use Rattle.atomic_table.specs.Table.{Allows, Joins, Me, Splits, State, keeps}
 pub use Rattle.atomic_table.specs.declared.shared.Seat.{Seat}
-pub use Rattle.camp_row.specs.Chains.{Fits, IsBeginning, IsShorter, cell_of, head_after, head_word, own, turns}
+pub use Rattle.camp_row.specs.Chains.{FitsRow, IsPrefix, IsProperPrefix, cell_of, head_after, head_word, own, entry_count}
 pub use Rattle.camp_row.specs.Inside.Parts.{IsSoundPart, Part, all_fresh, finds, fresh, known_of, part_of, parts_of}
 pub use Rattle.camp_row.specs.Inside.PassFields.{IsPass, known, part}
 pub use Rattle.camp_row.specs.Inside.RowFields.{IsRow, id_of}
-pub use Rattle.camp_row.specs.Inside.Rule.{Holds, IsLinked, IsRuled, Knows, parent_word, place_word}
-pub use Rattle.camp_row.specs.Inside.Steps.{Advanced, Looked, LostPart, Sees, StoredParent, StoredPlace, Tried, Walked, WonPart, drafted_part, first_apart, joined, spent, without_first, won_part}
-pub use Rattle.camp_row.specs.Known.{ComesNext, FindsChain, IsDrafted, Known, Leads, OneBegins, IsSound, RowId, Stands, cells_back, newcomer}
+pub use Rattle.camp_row.specs.Inside.Rule.{HasCell, IsLinked, IsRuled, Knows, parent_word, index_word}
+pub use Rattle.camp_row.specs.Inside.Steps.{Advanced, LoadedHead, LostPart, SeatFindsChain, StoredParent, StoredIndex, Tried, Walked, WonPart, drafted_part, first_apart, joined_views, spent, without_first, won_part}
+pub use Rattle.camp_row.specs.PassState.{IsNextEntry, FindsChain, IsDrafted, PassState, IsTrail, OneIsPrefix, IsSound, RowId, IsOnChain, cells_back, new_pass}
 pub use Rattle.camp_row.specs.declared.entries.Entry.{Entry}
 pub use Rattle.camp_row.specs.declared.knowledge.Knowledge.{Knowledge}
 pub use Rattle.camp_row.specs.declared.passes.Pass.TheInside.{Inside as PassInside}

@@ -1,3 +1,3 @@
 pub mod Chains
 pub mod Inside
-pub mod Known
+pub mod PassState

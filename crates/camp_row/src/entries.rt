@@ -5,5 +5,5 @@ pub struct Entry {
     /// The seat that published it.
     pub seat: u32,
     /// The number that the seat gave it.
-    pub place: usize,
+    pub index: usize,
 }

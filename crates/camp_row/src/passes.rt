@@ -6,13 +6,13 @@ use atomic_table::Seat;
 use std::marker::Model;
 
 /// The right to publish the cells of one seat, and what its holder has seen. It can be sent to another
-/// thread. Contracts see it as `Known`.
+/// thread. Contracts see it as `PassState`.
 #[derive(Drop)]
 pub struct Pass {
     pub(crate) seat: Seat<(), Knowledge>,
     pub(crate) number: u32,
     /// The number of entries that the seat has published.
-    pub(crate) turn: u32,
+    pub(crate) published: u32,
     /// The word that names the last cell that was seen.
     pub(crate) last: u64,
     /// The word that names the last cell that was found.
@@ -20,9 +20,9 @@ pub struct Pass {
 }
 
 impl Model for Pass {
-    ghost use Rattle.camp_row.specs.Known.{Known};
+    ghost use Rattle.camp_row.specs.PassState.{PassState};
 
-    ghost Value = { Known };
+    ghost Value = { PassState };
 
     ghost use Rattle.camp_row.specs.Inside.PassFields.{part, known, IsPass};
 
@@ -32,8 +32,8 @@ impl Model for Pass {
 }
 
 impl Pass {
-    ghost use Rattle.camp_row.specs.Chains.{turns};
-    ghost use Rattle.camp_row.specs.Known.{IsSound};
+    ghost use Rattle.camp_row.specs.Chains.{entry_count};
+    ghost use Rattle.camp_row.specs.PassState.{IsSound};
 
     /// Returns the number of its seat.
     pub fn number(&self) -> u32
@@ -45,10 +45,10 @@ impl Pass {
     }
 
     /// Returns the number of entries that its seat has published.
-    pub fn turns(&self) -> u32
-        ensures turns { result ≡ turns self.now.number self.now.seen }
+    pub fn entry_count(&self) -> u32
+        ensures entry_count { result ≡ entry_count self.now.number self.now.seen }
         ensures within { result ≤ self.now.row.per_seat }
     {
-        self.turn
+        self.published
     }
 }

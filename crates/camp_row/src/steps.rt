@@ -2,24 +2,24 @@
 ghost use Rattle.camp_row.specs.Inside.Parts.{all_fresh};
 ghost use Rattle.camp_row.specs.Inside.Rule.{IsRuled};
 ghost use Rattle.std.specs.Prelude.{◌≡◌};
-ghost use Rattle.camp_row.specs.Inside.Steps.{Looked, Walked, Advanced, StoredParent, StoredPlace, Tried, first_apart, without_first, joined, spent};
+ghost use Rattle.camp_row.specs.Inside.Steps.{LoadedHead, Walked, Advanced, StoredParent, StoredIndex, Tried, first_apart, without_first, joined_views, spent};
 
 use crate::knowledge::{Knowledge, Sizes};
 use atomic_table::{Join, Play, Split, TableRule};
 
-pub struct Law;
+pub struct RowRule;
 
-impl TableRule<(), Knowledge, Sizes> for Law {
+impl TableRule<(), Knowledge, Sizes> for RowRule {
     ghost holds = { λ sizes table. IsRuled sizes.seats sizes.per_seat table.words table.views };
 
     ghost first = { λ sizes. record { parts = all_fresh sizes.seats sizes.per_seat } };
 }
 
 /// A load of the head.
-pub struct Look;
+pub struct LoadHead;
 
-impl Play<(), Knowledge> for Look {
-    ghost then = { λ step old found new. (new.1 ≡ old.1) × Looked found old.0.parts new.0.parts };
+impl Play<(), Knowledge> for LoadHead {
+    ghost then = { λ step old found new. (new.1 ≡ old.1) × LoadedHead found old.0.parts new.0.parts };
 }
 
 /// A load of a parent word or an index word after which no more entries are seen.
@@ -44,10 +44,10 @@ impl Play<(), Knowledge> for DraftParent {
 }
 
 /// A store to the index word of the seat's next cell.
-pub struct DraftPlace;
+pub struct DraftIndex;
 
-impl Play<(), Knowledge> for DraftPlace {
-    ghost then = { λ step old stored new. (new.1 ≡ old.1) × StoredPlace stored old.0.parts new.0.parts };
+impl Play<(), Knowledge> for DraftIndex {
+    ghost then = { λ step old stored new. (new.1 ≡ old.1) × StoredIndex stored old.0.parts new.0.parts };
 }
 
 /// A compare-exchange of the head.
@@ -58,19 +58,19 @@ impl Play<(), Knowledge> for Publish {
 }
 
 /// A split of a seat.
-pub struct Cut;
+pub struct SplitSeat;
 
-impl Split<Knowledge> for Cut {
+impl Split<Knowledge> for SplitSeat {
     ghost left = { without_first };
 
     ghost right = { first_apart };
 }
 
 /// A join of two seats.
-pub struct Glue;
+pub struct JoinSeats;
 
-impl Join<Knowledge> for Glue {
-    ghost both = { joined };
+impl Join<Knowledge> for JoinSeats {
+    ghost both = { joined_views };
 
     ghost spent = { spent };
 }

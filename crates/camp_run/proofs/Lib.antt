@@ -1,5 +1,5 @@
 mod Words
-pub mod Keeping
+pub mod StoredTexts
 pub mod Serial
 pub mod Texts
 pub mod Written

@@ -16,68 +16,68 @@ use Rattle.camp_run.specs.Serial.{IsSerial, accepted_from, booked, history_from,
 module _ (limits : Bounds) where
   -- a call that is asked alone has the reply of its step, and leads to the state after it
   record IsStep (seat : ℕ) (before : Entries) (state : Contents) (call : Call) (answer : Result Reply Fault)
-      (front : Entries) (decision : Decision) : Type 0 where
+      (prefix : Entries) (decision : Decision) : Type 0 where
     replies : answer ≡ Ok (reply_of decision)
-    books : front ≡ before ++ booked decision (seat, call) []
-    leads : replay (repository_within limits) front ≡ Some (state_behind state decision)
+    books : prefix ≡ before ++ booked decision (seat, call) []
+    leads : replay (repository_within limits) prefix ≡ Some (state_behind state decision)
 
-  module _ (seat : ℕ) (before : Entries) (state : Contents) (call : Call) (front : Entries) where
-    done : (at : ℕ) (decision : Decision) → replay (repository_within limits) front ≡ next_of decision → IsLegal (repository_within limits) front
-        → front ≡ before ++ (seat, call) ∷ [] → at ≡ length front
-        → IsStep seat before state call (Ok (reply.Done at)) front decision
+  module _ (seat : ℕ) (before : Entries) (state : Contents) (call : Call) (prefix : Entries) where
+    done : (at : ℕ) (decision : Decision) → replay (repository_within limits) prefix ≡ next_of decision → IsLegal (repository_within limits) prefix
+        → prefix ≡ before ++ (seat, call) ∷ [] → at ≡ length prefix
+        → IsStep seat before state call (Ok (reply.Done at)) prefix decision
     done at (Next next) leads legal ends is = record {
-      replies = ap (λ n. Ok (reply.Done n)) (is ∙ sym (count-replay (repository_within limits) (repositories_are_lawful limits) front next leads));
+      replies = ap (λ n. Ok (reply.Done n)) (is ∙ sym (count-replay (repository_within limits) (repositories_are_lawful limits) prefix next leads));
       books = ends;
       leads = leads;
     }
     done at (Answer answer) leads legal ends is = cc
 
     answered : (answer : Reply) (decision : Decision) → decision ≡ Answer answer → replay (repository_within limits) before ≡ Some state
-        → front ≡ before → IsStep seat before state call (Ok answer) front decision
-    answered answer decision is replays stays =
-        subst (IsStep seat before state call (Ok answer) front) (sym is) (record {
+        → prefix ≡ before → IsStep seat before state call (Ok answer) prefix decision
+    answered answer decision is replays same =
+        subst (IsStep seat before state call (Ok answer) prefix) (sym is) (record {
           replies = refl;
-          books = stays ∙ sym (append-nil before);
-          leads = ap (replay (repository_within limits)) stays ∙ replays;
+          books = same ∙ sym (append-nil before);
+          leads = ap (replay (repository_within limits)) same ∙ replays;
         })
 
-    replayed : replay (repository_within limits) before ≡ Some state → front ≡ before ++ (seat, call) ∷ []
-        → replay (repository_within limits) front ≡ next_of (step state call)
+    replayed : replay (repository_within limits) before ≡ Some state → prefix ≡ before ++ (seat, call) ∷ []
+        → replay (repository_within limits) prefix ≡ next_of (step state call)
     replayed replays ends =
         ap (replay (repository_within limits)) ends ∙ replay_more (repository_within limits) before (seat, call)
         ∙ ap (option_and_then (λ s. next_of (step s call))) replays
 
-    by_told : (told : Option ℕ) (answer : Reply) → number_told answer ≡ told → replay (repository_within limits) before ≡ Some state
-        → IsLegal (repository_within limits) front
-        → MatchOption told ((front ≡ before) × IsAnswered (repository_within limits) before call answer)
-        (λ at. (front ≡ before ++ (seat, call) ∷ []) × (at ≡ length front))
-        → IsStep seat before state call (Ok answer) front (step state call)
-    by_told None answer tells replays legal says =
+    by_position : (position : Option ℕ) (answer : Reply) → number_told answer ≡ position → replay (repository_within limits) before ≡ Some state
+        → IsLegal (repository_within limits) prefix
+        → MatchOption position ((prefix ≡ before) × IsAnswered (repository_within limits) before call answer)
+        (λ at. (prefix ≡ before ++ (seat, call) ∷ []) × (at ≡ length prefix))
+        → IsStep seat before state call (Ok answer) prefix (step state call)
+    by_position None answer reports replays legal says =
         let same = same_Some says.1.state state (sym says.1.replays ∙ replays) in
         answered answer (step state call) (ap (λ s. step s call) (sym same) ∙ says.1.gives) replays says.0
-    by_told (Some at) answer tells replays legal says =
-        subst (λ r. IsStep seat before state call (Ok r) front (step state call))
-        (sym ((repositories_are_lawful limits).tells_exactly answer at tells))
+    by_position (Some at) answer reports replays legal says =
+        subst (λ r. IsStep seat before state call (Ok r) prefix (step state call))
+        (sym ((repositories_are_lawful limits).tells_exactly answer at reports))
         (done at (step state call) (replayed replays says.0) legal says.0 says.1)
 
-    is_step : (answer : Result Reply Fault) → replay (repository_within limits) before ≡ Some state → IsLegal (repository_within limits) front
-        → SaysAlone (repository_within limits) seat before call answer front
-        → IsStep seat before state call answer front (step state call)
-    is_step (Ok answer) replays legal says = by_told (number_told answer) answer refl replays legal says
+    is_step : (answer : Result Reply Fault) → replay (repository_within limits) before ≡ Some state → IsLegal (repository_within limits) prefix
+        → SaysAlone (repository_within limits) seat before call answer prefix
+        → IsStep seat before state call answer prefix (step state call)
+    is_step (Ok answer) replays legal says = by_position (number_told answer) answer refl replays legal says
     is_step (Err fault) replays legal says = absurd says
 
   -- the history before an answer is a prefix of the history after it
   module _ (seat : ℕ) where
-    front_grows : (told : Option ℕ) (before : Entries) (call : Call) (front : Entries) (P : Type 0)
-        → MatchOption told ((front ≡ before) × P) (λ at. (front ≡ before ++ (seat, call) ∷ []) × (at ≡ length front))
-        → IsBeginning before front
-    front_grows None before call front P says = subst (IsBeginning before) (sym says.0) (begins_self before)
-    front_grows (Some at) before call front P says = record { rest = (seat, call) ∷ []; makes = sym says.0 }
+    prefix_grows : (position : Option ℕ) (before : Entries) (call : Call) (prefix : Entries) (P : Type 0)
+        → MatchOption position ((prefix ≡ before) × P) (λ at. (prefix ≡ before ++ (seat, call) ∷ []) × (at ≡ length prefix))
+        → IsBeginning before prefix
+    prefix_grows None before call prefix P says = subst (IsBeginning before) (sym says.0) (begins_self before)
+    prefix_grows (Some at) before call prefix P says = record { rest = (seat, call) ∷ []; makes = sym says.0 }
 
-    says_grows : (before : Entries) (call : Call) (answer : Result Reply Fault) (front : Entries)
-        → SaysAlone (repository_within limits) seat before call answer front → IsBeginning before front
-    says_grows before call (Ok answer) front says = front_grows (number_told answer) before call front _ says
-    says_grows before call (Err fault) front says = absurd says
+    says_grows : (before : Entries) (call : Call) (answer : Result Reply Fault) (prefix : Entries)
+        → SaysAlone (repository_within limits) seat before call answer prefix → IsBeginning before prefix
+    says_grows before call (Ok answer) prefix says = prefix_grows (number_told answer) before call prefix _ says
+    says_grows before call (Err fault) prefix says = absurd says
 
     section_grows : (first : Entries) (calls : List Call) (answers : List (Result Reply Fault)) (last : Entries)
         → Section (SaysAlone (repository_within limits) seat) first calls answers last → IsBeginning first last

@@ -12,32 +12,32 @@ module _ (limits : Bounds) where
   reply_has : (reply : Reply) → HasText (Ok reply)
   reply_has reply is = cc
 
-  alone_has : (seat : ℕ) (before : Entries) (call : Call) (answer : Result Reply Fault) (front : Entries)
-      → SaysAlone (repository_within limits) seat before call answer front → HasText answer
-  alone_has seat before call (Ok reply) front says = reply_has reply
-  alone_has seat before call (Err fault) front says = absurd says
+  alone_has : (seat : ℕ) (before : Entries) (call : Call) (answer : Result Reply Fault) (prefix : Entries)
+      → SaysAlone (repository_within limits) seat before call answer prefix → HasText answer
+  alone_has seat before call (Ok reply) prefix says = reply_has reply
+  alone_has seat before call (Err fault) prefix says = absurd says
 
-  shared_has : (seat tries : ℕ) (before : Entries) (call : Call) (answer : Result Reply Fault) (front : Entries)
-      → SaysAmongThreads (repository_within limits) seat tries before call answer front → HasText answer
-  shared_has seat tries before call (Ok reply) front says = reply_has reply
-  shared_has seat tries before call (Err Memory) front says = absurd says
-  shared_has seat tries before call (Err (Busy lost)) front says = λ is. cc
-  shared_has seat tries before call (Err Full) front says = absurd says
+  shared_has : (seat tries : ℕ) (before : Entries) (call : Call) (answer : Result Reply Fault) (prefix : Entries)
+      → SaysAmongThreads (repository_within limits) seat tries before call answer prefix → HasText answer
+  shared_has seat tries before call (Ok reply) prefix says = reply_has reply
+  shared_has seat tries before call (Err Memory) prefix says = absurd says
+  shared_has seat tries before call (Err (Busy lost)) prefix says = λ is. cc
+  shared_has seat tries before call (Err Full) prefix says = absurd says
 
   somewhere_has : (call : Call) (answer : Result Reply Fault) → SaysSomewhere (repository_within limits) call answer → HasText answer
   somewhere_has call (Ok reply) says = reply_has reply
   somewhere_has call (Err fault) says = absurd says
 
-  section_has : (Tells : Entries → Call → Result Reply Fault → Entries → Type 0)
-      → ((before : Entries) (call : Call) (answer : Result Reply Fault) (front : Entries)
-      → Tells before call answer front → HasText answer)
+  section_has : (Relates : Entries → Call → Result Reply Fault → Entries → Type 0)
+      → ((before : Entries) (call : Call) (answer : Result Reply Fault) (prefix : Entries)
+      → Relates before call answer prefix → HasText answer)
       → (first : Entries) (calls : List Call) (answers : List (Result Reply Fault)) (last : Entries)
-      → Section Tells first calls answers last → All HasText answers
-  section_has Tells each first [] [] last s = All-nil HasText
-  section_has Tells each first [] (a ∷ answers) last s = absurd s
-  section_has Tells each first (c ∷ calls) [] last s = absurd s
-  section_has Tells each first (c ∷ calls) (a ∷ answers) last s =
-      All-cons HasText a answers (each first c a s.0 s.1) (section_has Tells each s.0 calls answers last s.2)
+      → Section Relates first calls answers last → All HasText answers
+  section_has Relates each first [] [] last s = All-nil HasText
+  section_has Relates each first [] (a ∷ answers) last s = absurd s
+  section_has Relates each first (c ∷ calls) [] last s = absurd s
+  section_has Relates each first (c ∷ calls) (a ∷ answers) last s =
+      All-cons HasText a answers (each first c a s.0 s.1) (section_has Relates each s.0 calls answers last s.2)
 
   each_has : (calls : List Call) (answers : List (Result Reply Fault)) → AllZip (SaysSomewhere (repository_within limits)) calls answers
       → All HasText answers
@@ -80,11 +80,11 @@ module _ (limits : Bounds) where
         → (seat : ℕ) → seat < length answers → All HasText (get_or answers seat [])
     shared_section tries is zero within =
         section_has (SaysAmongThreads (repository_within limits) 0 tries) (shared_has 0 tries) [] (get_or sections 0 []) (get_or answers 0 [])
-        is.opening.last is.opening.beginnings
+        is.opening.last is.opening.prefixes
     shared_section tries is (suc k) within =
         let client = is.clients (suc k) (omega arith) (omega (arith, within, is.as_many)) in
         section_has (SaysAmongThreads (repository_within limits) (suc k) tries) (shared_has (suc k) tries) is.opening.last
-        (get_or sections (suc k) []) (get_or answers (suc k) []) client.last client.beginnings
+        (get_or sections (suc k) []) (get_or answers (suc k) []) client.last client.prefixes
 
     pub shared_texts : (tries : ℕ) → IsShared (repository_within limits) tries sections answers history → HaveTexts answers
     shared_texts tries is = by_seat answers (shared_section tries is)

@@ -5,31 +5,31 @@ use Rattle.std.specs.Io.KnownBytes.{Appends}
 use Rattle.camp_script.specs.Outputs.{output_text}
 use Rattle.camp_script.specs.Writing.{AppendsBeginning}
 use Rattle.camp_run.specs.Inputs.{ReadsAs}
-use Rattle.camp_run.specs.Outputs.{IsOutput, Outcome, if_wanted}
+use Rattle.camp_run.specs.Outputs.{IsOutput, RunRelation, if_wanted}
 use Rattle.camp_run.specs.Runs.{Runs}
 use Rattle.camp_run.specs.declared.faults.RunFault.{RunFault}
 use Rattle.camp_run.specs.declared.faults.RunFault.TheVariants.{Write}
 
-module _ (Comes : Outcome) (wants_history : Bool) (remaining rest old new : Option (List ℕ)) (script : List (List Call)) (text lent : List ℕ) where
-  pub written : (result : Result (Unit {0}) RunFault) → ReadsAs remaining rest (Ok script) → IsOutput Comes wants_history script text → lent ≡ text
+module _ (Relates : RunRelation) (wants_history : Bool) (remaining rest old new : Option (List ℕ)) (script : List (List Call)) (text lent : List ℕ) where
+  pub written : (result : Result (Unit {0}) RunFault) → ReadsAs remaining rest (Ok script) → IsOutput Relates wants_history script text → lent ≡ text
       → MatchResult result (λ _. Appends old new lent) (λ why. (why ≡ Write) × AppendsBeginning old new lent)
-      → Runs Comes wants_history remaining rest old result new
+      → Runs Relates wants_history remaining rest old result new
   written (Ok done) reads is same says = (text, record { script = script; reads = reads; is_output = is }, subst (Appends old new) same says)
   written (Err why) reads is same says =
-      subst (λ fault. Runs Comes wants_history remaining rest old (Err fault) new) (sym says.0)
+      subst (λ fault. Runs Relates wants_history remaining rest old (Err fault) new) (sym says.0)
       (text, record { script = script; reads = reads; is_output = is }, subst (AppendsBeginning old new) same says.1)
 
 -- the result of a script, and its text
-module _ (Comes : Outcome) (wants_history : Bool) (script sections : List (List Call))
+module _ (Relates : RunRelation) (wants_history : Bool) (script sections : List (List Call))
     (answers lent_answers : List (List (Result Reply Fault))) (history lent_history : List (ℕ × Call)) (text : List ℕ) where
-  pub prepared : sections ≡ script → Comes sections answers history
+  pub prepared : sections ≡ script → Relates sections answers history
       → lent_answers ≡ answers → lent_history ≡ history
       → text ≡ output_text lent_answers (if_wanted wants_history lent_history)
-      → IsOutput Comes wants_history script text
-  prepared are comes same_answers same_history is_text = record {
+      → IsOutput Relates wants_history script text
+  prepared are relates same_answers same_history is_text = record {
     answers = answers;
     history = history;
-    comes = subst (λ sections. Comes sections answers history) are comes;
+    relates = subst (λ sections. Relates sections answers history) are relates;
     is_text = is_text ∙ ap (λ a. output_text a (if_wanted wants_history lent_history)) same_answers
         ∙ ap (λ h. output_text answers (if_wanted wants_history h)) same_history;
   }

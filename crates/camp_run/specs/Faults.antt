@@ -5,12 +5,12 @@ use Rattle.camp_run.specs.declared.faults.RunFault.{RunFault}
 use Rattle.camp_run.specs.declared.faults.RunFault.TheVariants.{Script, Foreign, Memory, Read, Write}
 
 -- the words that report a fault
-abbrev pub fault_words : RunFault → List ℕ
-fault_words (Script fault) = line_words fault
-fault_words Foreign = codes "foreign call"
-fault_words Memory = codes "out of memory"
-fault_words Read = codes "cannot read input"
-fault_words Write = codes "cannot write output"
+abbrev pub run_fault_words : RunFault → List ℕ
+run_fault_words (Script fault) = line_words fault
+run_fault_words Foreign = codes "foreign call"
+run_fault_words Memory = codes "out of memory"
+run_fault_words Read = codes "cannot read input"
+run_fault_words Write = codes "cannot write output"
 
 -- the exit status: 1 if the script has a fault, and 3 if memory, the lock, the input or the output failed
 abbrev pub status_of : RunFault → ℕ

@@ -1,6 +1,6 @@
 pub mod Faults
 pub mod Inputs
-pub mod Keeping
+pub mod StoredTexts
 pub mod Laws
 pub mod Outputs
 pub mod Runs

@@ -6,8 +6,8 @@ use Rattle.camp_call.specs.declared.replies.Reply.{Reply}
 use Rattle.camp_script.specs.Outputs.{output_text}
 
 -- a possible result of sections of calls: the answers to each, and the history
-abbrev pub Outcome : Type 1
-Outcome = List (List Call) → List (List (Result Reply Fault)) → List (ℕ × Call) → Type 0
+abbrev pub RunRelation : Type 1
+RunRelation = List (List Call) → List (List (Result Reply Fault)) → List (ℕ × Call) → Type 0
 
 -- a history, if it is wanted
 abbrev pub if_wanted : Bool → List (ℕ × Call) → Option (List (ℕ × Call))
@@ -15,8 +15,8 @@ if_wanted true history = Some history
 if_wanted false history = None
 
 -- a text is that of the answers of a script, and of the history if it is wanted
-pub record IsOutput (Comes : Outcome) (wants_history : Bool) (script : List (List Call)) (text : List ℕ) : Type 0 where
+pub record IsOutput (Relates : RunRelation) (wants_history : Bool) (script : List (List Call)) (text : List ℕ) : Type 0 where
   pub answers : List (List (Result Reply Fault))
   pub history : List (ℕ × Call)
-  pub comes : Comes script answers history
+  pub relates : Relates script answers history
   pub is_text : text ≡ output_text answers (if_wanted wants_history history)

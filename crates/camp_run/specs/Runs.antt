@@ -4,31 +4,31 @@ use Rattle.std.specs.Io.KnownBytes.{Appends, Keeps}
 use Rattle.camp_call.specs.declared.calls.Call.{Call}
 use Rattle.camp_script.specs.Writing.{AppendsBeginning}
 use Rattle.camp_run.specs.Inputs.{ReadsAs}
-use Rattle.camp_run.specs.Outputs.{Outcome, IsOutput}
+use Rattle.camp_run.specs.Outputs.{RunRelation, IsOutput}
 use Rattle.camp_run.specs.declared.faults.RunFault.{RunFault}
 use Rattle.camp_run.specs.declared.faults.RunFault.TheVariants.{Script, Foreign, Memory, Read, Write}
 
 -- a script was read, and this is the text of its result
-pub record HasOutput (Comes : Outcome) (wants_history : Bool) (remaining rest : Option (List ℕ)) (text : List ℕ)
+pub record HasOutput (Relates : RunRelation) (wants_history : Bool) (remaining rest : Option (List ℕ)) (text : List ℕ)
     : Type 0 where
   pub script : List (List Call)
   pub reads : ReadsAs remaining rest (Ok script)
-  pub is_output : IsOutput Comes wants_history script text
+  pub is_output : IsOutput Relates wants_history script text
 
 -- Ok: a script was read, and exactly its output was written. A fault of the script: it is the first one, and nothing
 -- was written. A foreign call, out of memory, or a failed reader: nothing was written. A failed writer: a script was
 -- read, and a proper prefix of its output was written.
-abbrev pub Runs : Outcome → Bool
+abbrev pub Runs : RunRelation → Bool
     → Option (List ℕ) → Option (List ℕ) → Option (List ℕ) → Result (Unit {0}) RunFault → Option (List ℕ) → Type 0
-Runs Comes wants_history remaining rest old (Ok done) new =
-    (text : List ℕ) × HasOutput Comes wants_history remaining rest text × Appends old new text
-Runs Comes wants_history remaining rest old (Err (Script fault)) new =
+Runs Relates wants_history remaining rest old (Ok done) new =
+    (text : List ℕ) × HasOutput Relates wants_history remaining rest text × Appends old new text
+Runs Relates wants_history remaining rest old (Err (Script fault)) new =
     ReadsAs remaining rest (Err fault) × Keeps old new
-Runs Comes wants_history remaining rest old (Err Foreign) new = Keeps old new
-Runs Comes wants_history remaining rest old (Err Memory) new = Keeps old new
-Runs Comes wants_history remaining rest old (Err Read) new = Keeps old new
-Runs Comes wants_history remaining rest old (Err Write) new =
-    (text : List ℕ) × HasOutput Comes wants_history remaining rest text × AppendsBeginning old new text
+Runs Relates wants_history remaining rest old (Err Foreign) new = Keeps old new
+Runs Relates wants_history remaining rest old (Err Memory) new = Keeps old new
+Runs Relates wants_history remaining rest old (Err Read) new = Keeps old new
+Runs Relates wants_history remaining rest old (Err Write) new =
+    (text : List ℕ) × HasOutput Relates wants_history remaining rest text × AppendsBeginning old new text
 
 -- why there is no text to write: a fault of the script is its first one; the writer cannot have failed yet
 abbrev pub HasNoOutput : Option (List ℕ) → Option (List ℕ) → RunFault → Type 0

@@ -1,6 +1,6 @@
 //! Why a script was not run, or its answers not written.
 ghost use Rattle.std.specs.Prelude.{◌≡◌, Some};
-ghost use Rattle.camp_run.specs.Faults.{fault_words, status_of};
+ghost use Rattle.camp_run.specs.Faults.{run_fault_words, status_of};
 ghost use Rattle.camp_run.specs.declared.faults.RunFault.TheVariants as fault;
 
 use camp_script::LineFault;
@@ -36,7 +36,7 @@ impl RunFault {
 }
 
 impl fmt::Display for RunFault {
-    ghost output = { λ fault. Some (fault_words fault) };
+    ghost output = { λ fault. Some (run_fault_words fault) };
 
     fn fmt<W: fmt::Write>(&self, f: &mut fmt::Formatter<W>) -> fmt::Result {
         match self {

@@ -45,7 +45,7 @@ pub fn run_head<T: Threads + Wait + Sync, R: Read, W: Write, G: Gate + Sync>(
     )
 }
 
-/// The same. The section gate is notified of each section: `Turns` is both gates.
+/// The same. The section gate is notified of each section: `TurnGate` is both gates.
 pub fn run_head_at<
     T: Threads + Wait + Sync,
     R: Read,

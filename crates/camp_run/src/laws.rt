@@ -1,5 +1,5 @@
 //! Laws of runs: what a script's answers and history have in common over a book, a lock and a head, and what its text gives back.
-ghost use Rattle.camp_run.specs.Keeping.{KeptLeadsBack, SeatZeroStays};
+ghost use Rattle.camp_run.specs.StoredTexts.{KeptLeadsBack, SeatZeroIsPreserved};
 ghost use Rattle.camp_run.specs.Laws.{LockedSectionIsSerial, OneByOneIsSerial, SharedSectionIsSerial};
 
 /// A script of one section has the same answers and history over a lock as in one thread, so `run_locked`
@@ -29,6 +29,6 @@ pub fn kept_text_leads_back()
 
 /// If all calls of such a history are at seat 0, its text is read as these calls, each is accepted, and they lead to the
 /// history itself.
-pub fn seat_zero_stays()
-    ensures law { SeatZeroStays }
+pub fn seat_zero_is_preserved()
+    ensures law { SeatZeroIsPreserved }
 {}

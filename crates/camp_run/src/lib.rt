@@ -9,7 +9,7 @@ mod inputs;
 mod laws;
 mod locks;
 mod outputs;
-mod turns;
+mod turn_gate;
 
 pub use books::run_book;
 pub use camp_clients::SectionGate;
@@ -18,8 +18,8 @@ pub use camp_repo::Limits;
 pub use faults::RunFault;
 pub use heads::{run_head, run_head_at};
 pub use laws::{
-    kept_text_leads_back, locked_section_is_serial, one_by_one_is_serial, seat_zero_stays,
+    kept_text_leads_back, locked_section_is_serial, one_by_one_is_serial, seat_zero_is_preserved,
     shared_section_is_serial,
 };
 pub use locks::run_locked;
-pub use turns::Turns;
+pub use turn_gate::TurnGate;

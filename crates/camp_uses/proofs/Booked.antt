@@ -3,7 +3,7 @@ use Rattle.camp_uses.proofs.Words.{◌≡◌, ℕ, List, [], ◌∷◌, ◌++◌
 use Rattle.camp_object.proofs.SameBooks.{same_book}
 use Rattle.camp_object.specs.Books.{AsksBook, Booked}
 use Rattle.camp_repo.specs.States.{Contents}
-use Rattle.camp_uses.specs.Asked.{Leaves, booked_call}
+use Rattle.camp_uses.specs.BookCalls.{Leaves, booked_call}
 
 pub left : (seat : ℕ) (old new : Booked Contents Call) (call : Call) (answer : Result Reply Fault) → AsksBook repository seat old call answer new → Leaves seat old call answer new
 left seat old new call (Ok (Done at)) asks = (

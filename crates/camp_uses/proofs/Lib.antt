@@ -1,6 +1,6 @@
 pub mod Booked
 pub mod Emptied
-pub mod Kept
+pub mod StoredBooks
 pub mod Once
 pub mod Questioned
 pub mod ReadBack

@@ -1,4 +1,4 @@
--- What the answers of a head say to callers.
+-- What the answers of a head mean for callers.
 use Rattle.camp_uses.proofs.Words.{◌≡◌, ℕ, false, true, List, Option, None, Some, MatchOption, Result, Ok, Err, refl, subst, sym, Files, LeadsTo, Catch, Call, Reply, Done, Tree, Caller, Says, IsAnswered, IsLegal, own, Fault, Memory, Busy, Full, Answer, Has, HistoriesTellTrees, repository, Contents, catches_of, Decision, step}
 use Rattle.camp_call.specs.declared.calls.Call.TheVariants as call
 use Rattle.camp_object.specs.Asking.{Accepts}
@@ -8,36 +8,36 @@ use Rattle.camp_object.specs.Objects.{IsFirst, begun}
 use Rattle.camp_repo.specs.Limits.{Bounds}
 use Rattle.camp_repo.specs.Objects.{repository_within}
 use Rattle.camp_repo.specs.ObjectLaws.{repository_is_lawful}
-use Rattle.camp_uses.specs.Shared.{Grows, HoldsTree, LacksBranch, tree_in}
+use Rattle.camp_uses.specs.Shared.{AddsIfDone, HistoryHasTree, HistoryLacksBranch, tree_in}
 
 -- the calls of a caller, by what it was answered
-pub grows : (first : Contents) (caller : Caller) (seen now : List (ℕ × Call)) (asked : Call) (answer : Result Reply Fault) → Says (begun repository first) caller seen asked answer now → Grows (own caller.seat seen) asked answer (own caller.seat now)
-grows first caller seen now asked (Ok (Done at)) says = says.own_grows
-grows first caller seen now asked (Ok other) says = says.0.own_stays
-grows first caller seen now asked (Err Memory) says = says.own_stays
-grows first caller seen now asked (Err (Busy lost)) says = says.adds_nothing.own_stays
-grows first caller seen now asked (Err Full) says = says.adds_nothing.own_stays
+pub grows : (first : Contents) (caller : Caller) (seen now : List (ℕ × Call)) (given : Call) (answer : Result Reply Fault) → Says (begun repository first) caller seen given answer now → AddsIfDone (own caller.seat seen) given answer (own caller.seat now)
+grows first caller seen now given (Ok (Done at)) says = says.own_grows
+grows first caller seen now given (Ok other) says = says.0.own_stays
+grows first caller seen now given (Err Memory) says = says.own_stays
+grows first caller seen now given (Err (Busy lost)) says = says.adds_nothing.own_stays
+grows first caller seen now given (Err Full) says = says.adds_nothing.own_stays
 
 -- one answer has one tree
-same_tree : (one other : Files) (comes : Decision) → comes ≡ Answer (Tree one) → comes ≡ Answer (Tree other) → one ≡ other
-same_tree one other comes first second = cc
+same_tree : (one other : Files) (decision : Decision) → decision ≡ Answer (Tree one) → decision ≡ Answer (Tree other) → one ≡ other
+same_tree one other decision first second = cc
 
 -- a branch that has a tree is there
 is_there : (state : Contents) (branch : List ℕ) (tree : Files) (found : Option (List Catch)) → catches_of state.branches branch ≡ found → step state (call.Tree branch) ≡ Answer (Tree tree) → (catches : List Catch) × Has state branch catches
-is_there state branch tree (Some catches) is comes = (catches, is)
-is_there state branch tree None is comes = let none = rw is at comes in cc
+is_there state branch tree (Some catches) is decision = (catches, is)
+is_there state branch tree None is decision = let none = rw is at decision in cc
 
 -- a tree that is answered is that of the branch after the history
-pub holds : HistoriesTellTrees → (limits : Bounds) (history : List (ℕ × Call)) (branch : List ℕ) (tree : Files) → IsAnswered (repository_within limits) history (call.Tree branch) (Tree tree) → HoldsTree limits history branch tree
+pub holds : HistoriesTellTrees → (limits : Bounds) (history : List (ℕ × Call)) (branch : List ℕ) (tree : Files) → IsAnswered (repository_within limits) history (call.Tree branch) (Tree tree) → HistoryHasTree limits history branch tree
 holds law limits history branch tree answered =
     let there = is_there answered.state branch tree (catches_of answered.state.branches branch) refl answered.gives in
-    let told = law limits history answered.state branch there.0 answered.replays there.1 in
+    let effects = law limits history answered.state branch there.0 answered.replays there.1 in
     record {
       state = answered.state;
       replays = answered.replays;
       catches = there.0;
       has = there.1;
-      leads = subst (LeadsTo there.0) (same_tree told.0 tree _ told.3 answered.gives) told.1;
+      leads = subst (LeadsTo there.0) (same_tree effects.0 tree _ effects.3 answered.gives) effects.1;
     }
 
 -- the question for a tree is never accepted
@@ -56,28 +56,28 @@ asks_alone first is caller seen now branch (Err (Busy lost)) legal says = says.a
 asks_alone first is caller seen now branch (Err Full) legal says = says.adds_nothing.own_stays
 
 -- one state gives one answer
-same_answer : (one other : Reply) (comes : Decision) → comes ≡ Answer one → comes ≡ Answer other → one ≡ other
-same_answer one other comes first second = cc
+same_answer : (one other : Reply) (decision : Decision) → decision ≡ Answer one → decision ≡ Answer other → one ≡ other
+same_answer one other decision first second = cc
 
--- where the answer tells no tree, there is no branch
+-- if the answer has no tree, there is no branch
 module _ (law : HistoriesTellTrees) (limits : Bounds) (history : List (ℕ × Call)) (branch : List ℕ) (answer : Reply) (none : tree_in answer ≡ None) (answered : IsAnswered (repository_within limits) history (call.Tree branch) answer) where
-  lacks_by : (found : Option (List Catch)) → catches_of answered.state.branches branch ≡ found → LacksBranch limits history branch
+  lacks_by : (found : Option (List Catch)) → catches_of answered.state.branches branch ≡ found → HistoryLacksBranch limits history branch
   lacks_by None is = record { state = answered.state; replays = answered.replays; lacks = is }
   lacks_by (Some catches) is =
-      let told = law limits history answered.state branch catches answered.replays is in
-      let same = same_answer answer (Tree told.0) _ answered.gives told.3 in
-      let some : Some told.0 ≡ None = subst (λ reply. tree_in reply ≡ None) same none in
+      let effects = law limits history answered.state branch catches answered.replays is in
+      let same = same_answer answer (Tree effects.0) _ answered.gives effects.3 in
+      let some : Some effects.0 ≡ None = subst (λ reply. tree_in reply ≡ None) same none in
       cc
 
-  lacks_branch : LacksBranch limits history branch
+  lacks_branch : HistoryLacksBranch limits history branch
   lacks_branch = lacks_by (catches_of answered.state.branches branch) refl
 
 -- a repository that begins with a first state is one with its limits
-by_limits : (first : Contents) → IsFirst repository first → (history : List (ℕ × Call)) (asked : Call) (answer : Reply) → IsAnswered (begun repository first) history asked answer → IsAnswered (repository_within first.limits) history asked answer
-by_limits first is history asked answer answered = subst (λ (state : Contents). IsAnswered (begun repository state) history asked answer) (sym is.itself) answered
+by_limits : (first : Contents) → IsFirst repository first → (history : List (ℕ × Call)) (given : Call) (answer : Reply) → IsAnswered (begun repository first) history given answer → IsAnswered (repository_within first.limits) history given answer
+by_limits first is history given answer answered = subst (λ (state : Contents). IsAnswered (begun repository state) history given answer) (sym is.itself) answered
 
--- the tree that is told is that of the branch, and where none is told there is no branch
-pub found : HistoriesTellTrees → (first : Contents) → IsFirst repository first → (caller : Caller) (seen now : List (ℕ × Call)) (branch : List ℕ) (answer : Reply) → IsLegal (begun repository first) now → Says (begun repository first) caller seen (call.Tree branch) (Ok answer) now → MatchOption (tree_in answer) (LacksBranch first.limits now branch) (HoldsTree first.limits now branch)
+-- the tree in the answer is that of the branch, and if there is none in it there is no branch
+pub found : HistoriesTellTrees → (first : Contents) → IsFirst repository first → (caller : Caller) (seen now : List (ℕ × Call)) (branch : List ℕ) (answer : Reply) → IsLegal (begun repository first) now → Says (begun repository first) caller seen (call.Tree branch) (Ok answer) now → MatchOption (tree_in answer) (HistoryLacksBranch first.limits now branch) (HistoryHasTree first.limits now branch)
 found law first is caller seen now branch (Done at) legal says = absurd (never_done first is caller seen now branch at legal says)
 found law first is caller seen now branch (Tree tree) legal says = holds law first.limits now branch tree (by_limits first is now (call.Tree branch) (Tree tree) says.1)
 found law first is caller seen now branch other legal says = lacks_branch law first.limits now branch other refl (by_limits first is now (call.Tree branch) other says.1)

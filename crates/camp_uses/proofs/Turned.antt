@@ -13,19 +13,19 @@ turned law j k (Ok (Some both)) one = law j k both.0 both.1 one
 turned law j k (Err why) none = tt
 
 -- a list that is merged fits after the other one
-pub behind : ListsKeepEffects → (ours theirs merged rest : List Catch) → MergeLists theirs ours merged rest → (old left right : Files) → FitsAll ours old left → FitsAll theirs old right → (new : Files) × FitsAll merged left new
-behind law ours theirs merged rest gives old left right first second =
+pub fits_after : ListsKeepEffects → (ours theirs merged rest : List Catch) → MergeLists theirs ours merged rest → (old left right : Files) → FitsAll ours old left → FitsAll theirs old right → (new : Files) × FitsAll merged left new
+fits_after law ours theirs merged rest gives old left right first second =
     let (new, fits, other) = law.merged theirs ours merged rest gives old left right first second in
     (new, fits)
 
 -- the values of two results are the value of each of them
-pub told_by_both : {T E : Type 0} → (here told : Option T) (there : Result (Option T) E) → there ≡ Ok told → IfSome (option_zip here told) (λ pair. (here ≡ Some pair.0) × (there ≡ Ok (Some pair.1)))
-told_by_both None told there e = tt
-told_by_both (Some one) None there e = tt
-told_by_both (Some one) (Some other) there e = (refl, e)
+pub each_has_value : {T E : Type 0} → (here value : Option T) (there : Result (Option T) E) → there ≡ Ok value → IfSome (option_zip here value) (λ pair. (here ≡ Some pair.0) × (there ≡ Ok (Some pair.1)))
+each_has_value None value there e = tt
+each_has_value (Some one) None there e = tt
+each_has_value (Some one) (Some other) there e = (refl, e)
 
 -- what two catches become after each other is the same, whichever is asked first
-pub agreed : {E : Type 0} → MergeIsSymmetric → MergeIsUnique → (j k : Catch) (here : Option (Catch × Catch)) (there : Result (Option (Catch × Catch)) E) (found : Result (Option ((Catch × Catch) × (Catch × Catch))) E) → FindsPair (MergeCatch j k) here → IfOk there (FindsPair (MergeCatch k j)) → IfOk found (λ told. IfSome told (λ pair. (here ≡ Some pair.0) × (there ≡ Ok (Some pair.1)))) → IfOk found (λ told. IfSome told (λ both. (both.0.0 ≡ both.1.1) × (both.0.1 ≡ both.1.0)))
+pub agreed : {E : Type 0} → MergeIsSymmetric → MergeIsUnique → (j k : Catch) (here : Option (Catch × Catch)) (there : Result (Option (Catch × Catch)) E) (found : Result (Option ((Catch × Catch) × (Catch × Catch))) E) → FindsPair (MergeCatch j k) here → IfOk there (FindsPair (MergeCatch k j)) → IfOk found (λ value. IfSome value (λ pair. (here ≡ Some pair.0) × (there ≡ Ok (Some pair.1)))) → IfOk found (λ value. IfSome value (λ both. (both.0.0 ≡ both.1.1) × (both.0.1 ≡ both.1.0)))
 agreed symmetric unique j k here there (Err why) one other are = tt
 agreed symmetric unique j k here there (Ok None) one other are = tt
 agreed symmetric unique j k here there (Ok (Some (a, b))) one other are =

@@ -26,7 +26,7 @@ pub use Rattle.camp_repo.specs.Laws.{AcceptedCallsHaveEffect, Has, HistoriesTell
 pub use Rattle.camp_repo.specs.Objects.{repository}
 pub use Rattle.camp_repo.specs.States.{Contents, catches_of, initial}
 pub use Rattle.camp_repo.specs.Steps.{Decision, becomes, is_empty, is_full_with, pull_wanted, refused, refused_if, step, wanted, with_patches}
-pub use Rattle.camp_run.specs.Keeping.{KeptLeadsBack, at_seat_0}
+pub use Rattle.camp_run.specs.StoredTexts.{KeptLeadsBack, moved_to_seat_0}
 pub use Rattle.camp_run.specs.Serial.{history_from}
 pub use Rattle.camp_script.specs.Canonical.{ReadsBack, call_text}
 pub use Rattle.camp_script.specs.Keeping.{CanStand, calls_of, kept_text}

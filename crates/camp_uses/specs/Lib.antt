@@ -1,5 +1,5 @@
-pub mod Asked
-pub mod Kept
+pub mod BookCalls
+pub mod StoredBooks
 pub mod NumberLaws
 pub mod NumberList
 pub mod Questioned

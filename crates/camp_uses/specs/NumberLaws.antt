@@ -3,7 +3,7 @@ use Rattle.std.proofs.Common.{◌≡◌, ℕ, ◌+◌, Bool, true, false, List, 
 use Rattle.std.proofs.Common.{None, Some, refl, ap, ◌∙◌, if◌then◌else◌}
 use Rattle.std.proofs.lemmas.List.{length_push}
 use Rattle.camp_object.specs.Objects.{IsLawfulObject}
-use Rattle.camp_uses.specs.NumberList.{numbers_object, inserted, has_number, is_insert, position_of, Replies}
+use Rattle.camp_uses.specs.NumberList.{numbers_object, inserted, has_number, is_insert, position_of, NumberReplies}
 use Rattle.camp_uses.specs.declared.numbers.NumberCall.{NumberCall}
 use Rattle.camp_uses.specs.declared.numbers.NumberCall.TheVariants.{Insert, Show}
 use Rattle.camp_uses.specs.declared.numbers.NumberReply.{NumberReply}
@@ -34,7 +34,7 @@ tells_exactly Present at is = cc
 tells_exactly (Shown numbers) at is = cc
 
 tells_none : (numbers : List ℕ) (call : NumberCall) (reply : NumberReply)
-    → Replies numbers call reply → position_of reply ≡ None
+    → NumberReplies numbers call reply → position_of reply ≡ None
 tells_none numbers (Insert number) reply is = ap position_of is
 tells_none numbers Show (Done at) shows = absurd shows
 tells_none numbers Show Present shows = refl

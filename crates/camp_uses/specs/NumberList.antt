@@ -23,9 +23,9 @@ numbers_in (Shown numbers) = Some numbers.items
 numbers_in other = None
 
 -- a number that is there is refused; a question shows the numbers
-abbrev pub Replies : List ℕ → NumberCall → NumberReply → Type 0
-Replies numbers (Insert number) reply = reply ≡ Present
-Replies numbers Show reply = IsSomeAnd (numbers_in reply) (λ shown. shown ≡ numbers)
+abbrev pub NumberReplies : List ℕ → NumberCall → NumberReply → Type 0
+NumberReplies numbers (Insert number) reply = reply ≡ Present
+NumberReplies numbers Show reply = IsSomeAnd (numbers_in reply) (λ shown. shown ≡ numbers)
 
 abbrev pub is_insert : NumberCall → Bool
 is_insert (Insert number) = true
@@ -40,7 +40,7 @@ abbrev pub numbers_object : Sequential (List ℕ) NumberCall NumberReply
 numbers_object = record {
   initial = [];
   after = inserted;
-  answers = Replies;
+  answers = NumberReplies;
   first = λ _. [];
   count = length;
   is_writing = is_insert;

@@ -15,7 +15,7 @@ IsOutputOf bytes history text =
     (script : List (List Call)) × (script_of bytes ≡ Ok script) × IsOutput (IsSerial default_bounds) history script text
 
 -- a fault of the script is its first one, and no call is foreign
-abbrev pub IsToldOf : List ℕ → RunFault → Type 0
-IsToldOf bytes (Script fault) = script_of bytes ≡ Err fault
-IsToldOf bytes Foreign = ⊥
-IsToldOf bytes other = Unit {0}
+abbrev pub IsRunFaultOf : List ℕ → RunFault → Type 0
+IsRunFaultOf bytes (Script fault) = script_of bytes ≡ Err fault
+IsRunFaultOf bytes Foreign = ⊥
+IsRunFaultOf bytes other = Unit {0}

@@ -14,7 +14,7 @@ use Rattle.camp_repo.specs.Objects.{repository_within}
 use Rattle.camp_repo.specs.States.{Contents, catches_of}
 
 -- after a history of a repository with these limits a branch has this tree: the effects of its catches, in their order, applied to no files
-pub record HoldsTree (limits : Bounds) (history : List (ℕ × Call)) (branch : List ℕ) (tree : Files) : Type 0 where
+pub record HistoryHasTree (limits : Bounds) (history : List (ℕ × Call)) (branch : List ℕ) (tree : Files) : Type 0 where
   pub state : Contents
   pub replays : replay (repository_within limits) history ≡ Some state
   pub catches : List Catch
@@ -22,7 +22,7 @@ pub record HoldsTree (limits : Bounds) (history : List (ℕ × Call)) (branch : 
   pub leads : LeadsTo catches tree
 
 -- after such a history there is no branch of this name
-pub record LacksBranch (limits : Bounds) (history : List (ℕ × Call)) (branch : List ℕ) : Type 0 where
+pub record HistoryLacksBranch (limits : Bounds) (history : List (ℕ × Call)) (branch : List ℕ) : Type 0 where
   pub state : Contents
   pub replays : replay (repository_within limits) history ≡ Some state
   pub lacks : catches_of state.branches branch ≡ None
@@ -33,6 +33,6 @@ tree_in (Tree tree) = Some tree
 tree_in other = None
 
 -- the calls of a caller: one more if it got a number, else as before
-abbrev pub Grows : List Call → Call → Result Reply Fault → List Call → Type 0
-Grows old call (Ok (Done at)) new = new ≡ old ++ call ∷ []
-Grows old call other new = new ≡ old
+abbrev pub AddsIfDone : List Call → Call → Result Reply Fault → List Call → Type 0
+AddsIfDone old call (Ok (Done at)) new = new ≡ old ++ call ∷ []
+AddsIfDone old call other new = new ≡ old

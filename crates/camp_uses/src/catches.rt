@@ -53,19 +53,19 @@ fn both<T: Drop>(
 
 /// Returns what the catches of another list become after our own, if both lists begin in one state. They keep
 /// their labels, and fit the tree that our list leads to.
-pub fn behind_ours(
+pub fn theirs_after_ours(
     alloc: Global,
     ours: &[Shared<Catch>],
     theirs: &[Shared<Catch>],
 ) -> Result<Option<Vec<Shared<Catch>>>, AllocError>
-    ensures fits { IfOk result (λ found. IfSome found (λ behind. (old left right : Files) →
-        FitsAll ours.now old left → FitsAll theirs.now old right → (new : Files) × FitsAll behind.items left new)) }
-    ensures labels { IfOk result (λ found. IfSome found (λ behind. keys_of behind.items ≡ keys_of theirs.now)) }
+    ensures fits { IfOk result (λ found. IfSome found (λ after. (old left right : Files) →
+        FitsAll ours.now old left → FitsAll theirs.now old right → (new : Files) × FitsAll after.items left new)) }
+    ensures labels { IfOk result (λ found. IfSome found (λ after. keys_of after.items ≡ keys_of theirs.now)) }
 {
     lists_keep_effects();
     labels_are_kept();
     match merge_lists(alloc, theirs, ours) {
-        Ok(behind) => Ok(Some(behind)),
+        Ok(after) => Ok(Some(after)),
         Err(Unmade::Blocked(_)) => Ok(None),
         Err(Unmade::Memory) => Err(AllocError),
     }

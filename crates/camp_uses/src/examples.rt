@@ -64,7 +64,7 @@ pub fn pull(tree: &mut Tree, ours: &Seq, theirs: &Seq) -> Result<bool, Apply> {
 }
 
 /// Returns whether `p` conflicts with `q` once it is moved in front of the list; `camp_ctx`.
-pub fn meets(
+pub fn conflicts_in_front(
     alloc: Global,
     list: &Seq,
     x: &Contexted,

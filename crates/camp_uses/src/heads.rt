@@ -1,9 +1,9 @@
 //! Callers of `camp_head`: one repository, at several seats.
 ghost use Rattle.std.specs.Prelude.{◌≡◌, IfOk, MatchOption, OnOk};
 ghost use Rattle.camp_object.specs.Histories.{IsBeginning, own};
-ghost use Rattle.camp_history.specs.Kept.{IsKeptBy};
-ghost use Rattle.camp_history.specs.Seats.{IsSeatOf, history_of, number_of};
-ghost use Rattle.camp_uses.specs.Shared.{Grows, HoldsTree, LacksBranch, tree_in};
+ghost use Rattle.camp_history.specs.StoredCalls.{IsStoredIn};
+ghost use Rattle.camp_history.specs.Seats.{IsSeatOf, history_of, seat_number};
+ghost use Rattle.camp_uses.specs.Shared.{AddsIfDone, HistoryHasTree, HistoryLacksBranch, tree_in};
 
 use camp_base::{Name, Tree};
 use camp_head::{Fault, Head, Kept, Seat};
@@ -12,12 +12,12 @@ use std::sync::Wait;
 
 /// What became of two seats: each as it is now, with the answer to its call.
 #[derive(Drop)]
-pub struct Met {
+pub struct Synchronised {
     pub first: Seat,
     pub second: Seat,
     pub first_answer: Result<Reply, Fault>,
     pub second_answer: Result<Reply, Fault>,
-    pub met: Result<(), Fault>,
+    pub synchronised: Result<(), Fault>,
 }
 
 /// Asks for the tree of a branch: `None` if there is no such branch, else the effects of the branch's
@@ -32,10 +32,10 @@ pub fn tree_at(
     requires { IsSeatOf head.now seat.old }
     ensures seat { IsSeatOf head.now seat.new }
     ensures grows { IsBeginning (history_of seat.old) (history_of seat.new) }
-    ensures own { own (number_of seat.old) (history_of seat.new) ≡ own (number_of seat.old) (history_of seat.old) }
+    ensures own { own (seat_number seat.old) (history_of seat.new) ≡ own (seat_number seat.old) (history_of seat.old) }
     ensures tree { IfOk result (λ found. MatchOption found
-        (LacksBranch head.now.first.limits (history_of seat.new) branch.now)
-        (HoldsTree head.now.first.limits (history_of seat.new) branch.now)) }
+        (HistoryLacksBranch head.now.first.limits (history_of seat.new) branch.now)
+        (HistoryHasTree head.now.first.limits (history_of seat.new) branch.now)) }
 {
     histories_tell_trees();
     // Its clauses show the prover what the history begins with.
@@ -56,24 +56,30 @@ fn tree_in(reply: Reply) -> Option<Tree>
 }
 
 /// Asks a call at each of two seats, and synchronises the first with the second. Each has its own calls as
-/// its answers say; and if `met` is Ok, the first has seen what the second has.
-pub fn ask_and_meet(head: &Head, first: Seat, second: Seat, one: Kept, two: Kept) -> Met
+/// its answers say; and if `synchronised` is Ok, the first has seen what the second has.
+pub fn ask_and_synchronise(
+    head: &Head,
+    first: Seat,
+    second: Seat,
+    one: Kept,
+    two: Kept,
+) -> Synchronised
     requires seats { IsSeatOf head.now first × IsSeatOf head.now second }
-    requires kept { IsKeptBy head.now one × IsKeptBy head.now two }
-    ensures first { Grows (own (number_of first) (history_of first)) one.call result.first_answer (own (number_of first) (history_of result.first)) }
-    ensures second { Grows (own (number_of second) (history_of second)) two.call result.second_answer (own (number_of second) (history_of result.second)) }
-    ensures one_history { OnOk result.met (IsBeginning (history_of result.second) (history_of result.first)) }
+    requires kept { IsStoredIn head.now one × IsStoredIn head.now two }
+    ensures first { AddsIfDone (own (seat_number first) (history_of first)) one.call result.first_answer (own (seat_number first) (history_of result.first)) }
+    ensures second { AddsIfDone (own (seat_number second) (history_of second)) two.call result.second_answer (own (seat_number second) (history_of result.second)) }
+    ensures one_history { OnOk result.synchronised (IsBeginning (history_of result.second) (history_of result.first)) }
 {
     let mut first = first;
     let mut second = second;
     let first_answer = head.ask(&mut first, one);
     let second_answer = head.ask(&mut second, two);
-    let (first, second, met) = head.meet(first, second);
-    Met {
+    let (first, second, synchronised) = head.meet(first, second);
+    Synchronised {
         first,
         second,
         first_answer,
         second_answer,
-        met,
+        synchronised,
     }
 }

@@ -2,7 +2,7 @@
 ghost use Rattle.std.specs.Prelude.{◌≡◌, ◌-◌, ◌^◌, ◌<◌, List, None, Some, IfOk, MatchOption};
 ghost use Rattle.camp_catch.specs.declared.catches.Catch.{Catch};
 ghost use Rattle.camp_repo.specs.States.{catches_of, tree_of};
-ghost use Rattle.camp_uses.specs.Asked.{Leaves};
+ghost use Rattle.camp_uses.specs.BookCalls.{Leaves};
 
 use camp_base::{Name, Tree};
 use camp_repo::{Book, Call, Decided, Fault, Reply, State, trees_are_answered};

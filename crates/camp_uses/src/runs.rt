@@ -1,6 +1,6 @@
 //! Callers of `camp_run`.
 ghost use Rattle.std.specs.Prelude.{IfOk, IfErr};
-ghost use Rattle.camp_uses.specs.Runs.{IsOutputOf, IsToldOf};
+ghost use Rattle.camp_uses.specs.Runs.{IsOutputOf, IsRunFaultOf};
 
 use camp_run::{Limits, RunFault, run_book};
 use std::alloc::Global;
@@ -8,7 +8,7 @@ use std::alloc::Global;
 /// Runs a script in memory.
 pub fn run(alloc: Global, script: &[u8], history: bool) -> Result<Vec<u8>, RunFault>
     ensures output { IfOk result (λ text. IsOutputOf script.now history text.items) }
-    ensures fault { IfErr result (IsToldOf script.now) }
+    ensures fault { IfErr result (IsRunFaultOf script.now) }
 {
     let mut reader = script;
     let mut written = Vec::new(alloc);

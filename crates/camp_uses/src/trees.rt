@@ -10,7 +10,7 @@ use std::alloc::{AllocError, Global};
 /// Adds a file and removes it again: the tree is as before.
 pub fn add_and_remove(tree: &mut Tree, path: &Path) -> Result<(), Apply>
     ensures same { OnOk result (tree.new ≡ tree.old) }
-    ensures told { IsErrOf result apply.DoesNotApply → IsSome (get tree.old path.now) }
+    ensures fault { IsErrOf result apply.DoesNotApply → IsSome (get tree.old path.now) }
 {
     inverse_leads_back();
     applied_is_applies();

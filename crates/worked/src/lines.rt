@@ -1,6 +1,6 @@
 //! Tables: each entry with its result below it.
 use crate::entries::{entry_len, play_of};
-use crate::plays::asking::Asked;
+use crate::plays::executions::Executions;
 use crate::plays::{Entry, Stage};
 use crate::tables::{Table, split_call};
 use crate::values::calls;
@@ -93,12 +93,12 @@ fn entry_text<R: Threads + Wait + Sync>(
     entry: &[&[u8]],
     wants: &mut Wants,
 ) -> Result<Vec<u8>, AllocError> {
-    let mut asked = Asked::nothing();
-    match try_entry(rt, table, stage, entry, &mut asked) {
+    let mut executions = Executions::nothing();
+    match try_entry(rt, table, stage, entry, &mut executions) {
         Ok(text) => Ok(text),
         Err(_) => {
             wants.note();
-            try_entry(rt, table, stage, entry, &mut asked)
+            try_entry(rt, table, stage, entry, &mut executions)
         }
     }
 }
@@ -108,12 +108,12 @@ fn try_entry<R: Threads + Wait + Sync>(
     table: &mut Table,
     stage: &mut Stage,
     entry: &[&[u8]],
-    asked: &mut Asked,
+    executions: &mut Executions,
 ) -> Result<Vec<u8>, AllocError> {
     let mut text = joined(table.alloc(), entry)?;
     let done = match entry {
         [first, body @ ..] => match play_of(first) {
-            Some(play) => stage.append(rt, Entry { play, first, body }, asked, &mut text),
+            Some(play) => stage.append(rt, Entry { play, first, body }, executions, &mut text),
             None => append_line(table, first, &mut text),
         },
         [] => Ok(()),

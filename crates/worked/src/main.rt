@@ -15,7 +15,7 @@
 //! | `history`, `history SEAT` | the accepted calls of the book, or what a seat has seen |
 //! | `seen SEAT`, `meet SEAT SEAT` | how much a seat has seen; the first seat is synchronised with the second |
 //! | `adopted SEAT` | how many snapshots the seat has installed from slots |
-//! | `hand-on SEAT` | the seat publishes what it has seen |
+//! | `publish SEAT` | the seat publishes what it has seen |
 //! | `no-merge LEFT RIGHT` | the text of a refusal |
 //! | `run book`, `run locked`, `run head`, `run head TRIES`, `run turns TRIES` | the script below, up to an empty line, after its gates |
 //! | `run locked counts` and the like | how its calls were answered, whatever the order of its clients |

@@ -1,15 +1,15 @@
 //! Books and heads: entries that are no calls of a table of values, but ask a book, a head or a run.
 
-pub(crate) mod asking;
 pub(crate) mod commands;
+pub(crate) mod executions;
 pub(crate) mod faults;
 pub(crate) mod gates;
 pub(crate) mod runs;
 pub(crate) mod seatings;
 
 use crate::entries::Play;
-use crate::plays::asking::Asked;
 use crate::plays::commands::{command_of, names_of, read_numbers};
+use crate::plays::executions::Executions;
 use crate::plays::faults::{NO_COMMAND, NO_LINE, PlayFault};
 use crate::plays::runs::append_run;
 use crate::plays::seatings::Seating;
@@ -50,11 +50,11 @@ impl Stage {
         &mut self,
         rt: &R,
         entry: Entry<'_>,
-        asked: &mut Asked,
+        executions: &mut Executions,
         text: &mut Vec<u8>,
     ) -> Result<(), AllocError> {
         let done = match entry.play {
-            Play::Command => self.append_asked(rt, entry, asked, text),
+            Play::Command => self.append_executed(rt, entry, executions, text),
             Play::Run | Play::Ends => append_run(rt, entry, text),
             play => self.append_line(play, entry.first, text),
         };
@@ -62,19 +62,19 @@ impl Stage {
     }
 
     /// Executes a command as often as it says, and appends the last answer.
-    fn append_asked<R: Wait>(
+    fn append_executed<R: Wait>(
         &mut self,
         rt: &R,
         entry: Entry<'_>,
-        asked: &mut Asked,
+        executions: &mut Executions,
         text: &mut Vec<u8>,
     ) -> Result<(), PlayFault> {
         let command = command_of(entry.first, entry.body)?;
-        for time in asked.count()..command.count {
+        for time in executions.count()..command.count {
             let call = command.call(*text.allocator(), time.saturating_add(1))?;
-            asked.note(self.ask(rt, command.seat, &call)?);
+            executions.note(self.ask(rt, command.seat, &call)?);
         }
-        asked.append_last(text)
+        executions.append_last(text)
     }
 
     /// Executes a call; again if it runs out of memory.
@@ -101,7 +101,7 @@ impl Stage {
             Play::Book => self.begin(*text.allocator()),
             Play::Head => self.open(words, text),
             Play::NoMerge => append_no_merge(words, text),
-            play => self.append_told(play, words, text),
+            play => self.append_report(play, words, text),
         }
     }
 
@@ -125,7 +125,7 @@ impl Stage {
     }
 
     /// Appends what a book has accepted, or what seats report.
-    fn append_told(
+    fn append_report(
         &mut self,
         play: Play,
         words: &[u8],
@@ -138,7 +138,7 @@ impl Stage {
                 append_written(ended, &written, text)
             }
             Stage::Book(_) => Err(NO_LINE),
-            Stage::Head(seating) => seating.append_told(play, words, text),
+            Stage::Head(seating) => seating.append_report(play, words, text),
         }
     }
 }

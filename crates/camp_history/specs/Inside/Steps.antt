@@ -7,15 +7,15 @@ use Rattle.camp_object.specs.Asking.{Ask}
 use Rattle.camp_object.specs.declared.faults.Fault.{Fault}
 use Rattle.camp_object.specs.declared.objects.Decided.{Decided}
 use Rattle.camp_object.specs.declared.objects.Decided.TheVariants.{Next, Answer}
-use Rattle.camp_row.specs.Chains.{IsShorter}
+use Rattle.camp_row.specs.Chains.{IsProperPrefix}
 use Rattle.camp_row.specs.declared.entries.Entry.{Entry}
 use Rattle.boxcar.specs.Table.{Where}
-use Rattle.camp_history.specs.Seats.{HeadId, Seated, IsSeatOf, entry_of, history_of, caller_at}
+use Rattle.camp_history.specs.Seats.{HeadId, SeatState, IsSeatOf, entry_of, history_of, caller_at}
 use Rattle.camp_history.specs.declared.marks.Mark.{Mark}
 
 -- the entries of a seat's marks
-abbrev pub entries_of : {State Call : Type 0} → Seated State Call → List Entry
-entries_of seat = map entry_of seat.marks
+abbrev pub seen_entries : {State Call : Type 0} → SeatState State Call → List Entry
+seen_entries seat = map entry_of seat.marks
 
 -- the decision of an object on a call, at the replay of a history
 pub record DecidesAt {State Call Reply : Type 0} (object : Sequential State Call Reply) (history : List (ℕ × Call))
@@ -26,18 +26,18 @@ pub record DecidesAt {State Call Reply : Type 0} (object : Sequential State Call
 
 -- what a head decides about a call after what a seat has seen: the next state, if the call is accepted and the seat
 -- has a cell for it; else an answer
-abbrev pub Decision : {State Call Reply : Type 0} → Sequential State Call Reply → HeadId State → Seated State Call → Call
+abbrev pub HeadDecision : {State Call Reply : Type 0} → Sequential State Call Reply → HeadId State → SeatState State Call → Call
     → Result (Decided State Reply) Fault → Type 0
-Decision object head seat call (Ok (Next next)) =
+HeadDecision object head seat call (Ok (Next next)) =
     (length (own seat.known.number (history_of seat)) < head.row.per_seat)
     × DecidesAt object (history_of seat) call (Next next)
-Decision object head seat call (Ok (Answer reply)) =
+HeadDecision object head seat call (Ok (Answer reply)) =
     Ask object (caller_at head seat) (history_of seat) call (Ok reply) (history_of seat)
-Decision object head seat call (Err fault) =
+HeadDecision object head seat call (Err fault) =
     Ask object (caller_at head seat) (history_of seat) call (Err fault) (history_of seat)
 
 -- a seat after it has seen one more call
-abbrev pub with_mark : {State Call : Type 0} → Seated State Call → Mark Call → Seated State Call
+abbrev pub with_mark : {State Call : Type 0} → SeatState State Call → Mark Call → SeatState State Call
 with_mark seat mark = record {
   first = seat.first;
   known = record seat.known { seen = seat.known.seen ++ entry_of mark ∷ [] };
@@ -47,20 +47,20 @@ with_mark seat mark = record {
 
 -- a seat sees more: its pass is still that of the same seat and row, and none of the calls that are new to it is its
 -- own
-pub record SeesMore {State Call : Type 0} (old new : Seated State Call) : Type 0 where
+pub record SeesMore {State Call : Type 0} (old new : SeatState State Call) : Type 0 where
   pub number : new.known.number ≡ old.known.number
   pub row : new.known.row ≡ old.known.row
   pub more : IsBeginning (history_of old) (history_of new)
   pub own_stays : own old.known.number (history_of new) ≡ own old.known.number (history_of old)
 
 -- a seat of a head sees more of the chain that it found
-pub record GetsOn {State Call : Type 0} (head : HeadId State) (old new : Seated State Call) : Type 0 where
+pub record SeesFurther {State Call : Type 0} (head : HeadId State) (old new : SeatState State Call) : Type 0 where
   pub of : IsSeatOf head new
   pub more : SeesMore old new
   pub ahead : new.known.ahead ≡ old.known.ahead
 
 -- the seat published its call, which is the last that it has seen now
-pub record Publishes {State Call : Type 0} (old : Seated State Call) (call : Where Call) (new : Seated State Call) : Type 0 where
+pub record Publishes {State Call : Type 0} (old : SeatState State Call) (call : Where Call) (new : SeatState State Call) : Type 0 where
   pub first : new.first ≡ old.first
   pub number : new.known.number ≡ old.known.number
   pub row : new.known.row ≡ old.known.row
@@ -68,24 +68,24 @@ pub record Publishes {State Call : Type 0} (old : Seated State Call) (call : Whe
   pub bases : new.bases ≡ old.bases
 
 -- an exchange was lost: the chain was longer than what the seat has seen, and the seat finds it
-pub record FindsMore {State Call : Type 0} (old new : Seated State Call) : Type 0 where
+pub record FindsMore {State Call : Type 0} (old new : SeatState State Call) : Type 0 where
   pub first : new.first ≡ old.first
   pub number : new.known.number ≡ old.known.number
   pub row : new.known.row ≡ old.known.row
   pub marks : new.marks ≡ old.marks
   pub bases : new.bases ≡ old.bases
-  pub longer : IsShorter (entries_of new) new.known.ahead
+  pub longer : IsProperPrefix (seen_entries new) new.known.ahead
 
 -- the exchange was lost, at a history at which the call is accepted
 pub record LosesOne {State Call Reply : Type 0} (object : Sequential State Call Reply) (head : HeadId State)
-    (old : Seated State Call) (call : Call) (new : Seated State Call) : Type 0 where
+    (old : SeatState State Call) (call : Call) (new : SeatState State Call) : Type 0 where
   pub has_room : length (own old.known.number (history_of old)) < head.row.per_seat
   pub accepted : IsAccepted object (history_of old) call
   pub finds : FindsMore old new
 
 -- one attempt at a call: an answer, or none if the exchange was lost
-abbrev pub Attempts : {State Call Reply : Type 0} → Sequential State Call Reply → HeadId State → Seated State Call → Call
-    → Result (Option Reply) Fault → Seated State Call → Type 0
+abbrev pub Attempts : {State Call Reply : Type 0} → Sequential State Call Reply → HeadId State → SeatState State Call → Call
+    → Result (Option Reply) Fault → SeatState State Call → Type 0
 Attempts object head old call (Ok (Some reply)) new =
     Ask object (caller_at head old) (history_of old) call (Ok reply) (history_of new)
 Attempts object head old call (Ok None) new = LosesOne object head old call new

@@ -3,8 +3,8 @@ use Rattle.std.specs.Prelude.{◌≡◌, ℕ, List, [], slice_index_or, map, cou
 use Rattle.std.specs.List.{range_with_len}
 use Rattle.atomic_table.specs.Seated.{TableId}
 use Rattle.camp_row.specs.declared.entries.Entry.{Entry}
-use Rattle.camp_row.specs.Chains.{IsBeginning, own, Fits}
-use Rattle.camp_row.specs.Known.{Known}
+use Rattle.camp_row.specs.Chains.{IsPrefix, own, FitsRow}
+use Rattle.camp_row.specs.PassState.{PassState}
 
 -- what one seat knows: the sizes of the row, its number, the entries that it has seen, the chain that it last found, and
 -- the two words of its next cell
@@ -15,12 +15,12 @@ pub record Part : Type 0 where
   pub seen : List Entry
   pub ahead : List Entry
   pub parent : ℕ
-  pub place : ℕ
+  pub index : ℕ
 
 -- a seat that has seen nothing
 abbrev pub fresh : ℕ → ℕ → ℕ → Part
 fresh seats per_seat number =
-    record { seats = seats; per_seat = per_seat; number = number; seen = []; ahead = []; parent = 0; place = 0 }
+    record { seats = seats; per_seat = per_seat; number = number; seen = []; ahead = []; parent = 0; index = 0 }
 
 -- the parts of all seats of a new row
 abbrev pub all_fresh : ℕ → ℕ → List Part
@@ -35,14 +35,14 @@ abbrev pub parts_of : ℕ → List Part → ℕ
 parts_of number parts = count_by (λ (part : Part). part.number == number) parts
 
 -- what the pass of this seat knows of the row in this table
-abbrev pub known_of : TableId → Part → Known
+abbrev pub known_of : TableId → Part → PassState
 known_of table part = record {
   row = record { table = table; seats = part.seats; per_seat = part.per_seat };
   number = part.number;
   seen = part.seen;
   ahead = part.ahead;
   parent = part.parent;
-  place = part.place;
+  index = part.index;
 }
 
 -- what the seat knows after it found this chain
@@ -52,6 +52,6 @@ finds chain part = record part { ahead = chain }
 -- the seat has seen a prefix of the chain that it found, with all its own entries in the chain; and the chain fits the
 -- row
 pub record IsSoundPart (part : Part) : Type 0 where
-  pub front : IsBeginning part.seen part.ahead
+  pub prefix : IsPrefix part.seen part.ahead
   pub own_seen : own part.number part.ahead ≡ own part.number part.seen
-  pub fits : Fits part.seats part.per_seat part.ahead
+  pub fits : FitsRow part.seats part.per_seat part.ahead

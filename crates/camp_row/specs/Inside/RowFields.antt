@@ -1,6 +1,6 @@
 -- A row and its fields.
 use Rattle.std.specs.Prelude.{◌≡◌, ◌+◌, ◌*◌, ◌<◌, ◌≤◌}
-use Rattle.camp_row.specs.Known.{RowId, most_cells, most_seats}
+use Rattle.camp_row.specs.PassState.{RowId, most_cells, most_seats}
 use Rattle.camp_row.specs.declared.rows.Row.TheInside.{Inside}
 
 abbrev pub id_of : Inside → RowId

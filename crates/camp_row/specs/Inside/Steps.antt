@@ -2,21 +2,21 @@
 use Rattle.std.specs.Prelude.{◌≡◌, ℕ, ◌==◌, List, [], ◌∷◌, ◌++◌, map, take, drop, All, MatchBool, ◌≤◌}
 use Rattle.camp_row.specs.declared.entries.Entry.{Entry}
 use Rattle.camp_row.specs.declared.knowledge.Knowledge.{Knowledge}
-use Rattle.camp_row.specs.Chains.{IsBeginning, IsShorter, cell_of, head_word}
+use Rattle.camp_row.specs.Chains.{IsPrefix, IsProperPrefix, cell_of, head_word}
 use Rattle.camp_row.specs.Inside.Parts.{Part, part_of, parts_of, finds, IsSoundPart}
-use Rattle.camp_row.specs.Inside.Rule.{parent_word, place_word}
+use Rattle.camp_row.specs.Inside.Rule.{parent_word, index_word}
 
 -- the seat finds the chain: the head names its last cell, the chain has only grown, and what the seat knows stays sound
-pub record Sees (found : ℕ) (chain : List Entry) (part : Part) : Type 0 where
+pub record SeatFindsChain (found : ℕ) (chain : List Entry) (part : Part) : Type 0 where
   pub named : found ≡ head_word part.seats chain
-  pub grows : IsBeginning part.ahead chain
+  pub grows : IsPrefix part.ahead chain
   pub sound : IsSoundPart (finds chain part)
 
 -- a load of the head: each seat of the view finds the chain. No seat is in the view twice
-pub record Looked (found : ℕ) (old new : List Part) : Type 0 where
+pub record LoadedHead (found : ℕ) (old new : List Part) : Type 0 where
   pub chain : List Entry
   pub one_each : (number : ℕ) → parts_of number old ≤ 1
-  pub each : All (Sees found chain) old
+  pub each : All (SeatFindsChain found chain) old
   pub is : new ≡ map (finds chain) old
 
 -- a word of a cell that was found and not seen was loaded: it is the word that the chain says
@@ -24,7 +24,7 @@ abbrev pub Reads : ℕ → ℕ → Part → Type 0
 Reads word found part =
     (before : List Entry) (entry : Entry) (after : List Entry) → before ++ entry ∷ after ≡ part.ahead
     → (word ≡ parent_word (cell_of part.seats before entry) → found ≡ head_word part.seats before)
-    × (word ≡ place_word (cell_of part.seats before entry) → found ≡ entry.place)
+    × (word ≡ index_word (cell_of part.seats before entry) → found ≡ entry.index)
 
 -- a load of a parent word or an index word that changes nothing
 abbrev pub Walked : ℕ → ℕ → List Part → List Part → Type 0
@@ -32,8 +32,8 @@ Walked word found old new = (new ≡ old) × Reads word found (part_of old)
 
 -- a load of the index word of the cell after the last that was seen: one more entry is seen
 pub record Advanced (found : ℕ) (old new : List Part) : Type 0 where
-  pub next : IsShorter (part_of old).seen (part_of old).ahead
-  pub place : found ≡ next.next.place
+  pub next : IsProperPrefix (part_of old).seen (part_of old).ahead
+  pub index : found ≡ next.next.index
   pub is : new ≡ (record (part_of old) { seen = (part_of old).seen ++ next.next ∷ [] }) ∷ []
 
 -- a store to the parent word of the seat's next cell, which is not in the chain
@@ -41,18 +41,18 @@ abbrev pub StoredParent : ℕ → List Part → List Part → Type 0
 StoredParent stored old new = new ≡ (record (part_of old) { parent = stored }) ∷ []
 
 -- a store to the index word of the seat's next cell
-abbrev pub StoredPlace : ℕ → List Part → List Part → Type 0
-StoredPlace stored old new = new ≡ (record (part_of old) { place = stored }) ∷ []
+abbrev pub StoredIndex : ℕ → List Part → List Part → Type 0
+StoredIndex stored old new = new ≡ (record (part_of old) { index = stored }) ∷ []
 
 -- the entry that the seat's drafted cell makes
 abbrev pub drafted_part : Part → Entry
-drafted_part part = record { seat = part.number; place = part.place }
+drafted_part part = record { seat = part.number; index = part.index }
 
 -- what the seat knows after its drafted cell became the last of the chain
 abbrev pub won_part : Part → Part
 won_part part =
     let entries = part.seen ++ drafted_part part ∷ [] in
-    record part { seen = entries; ahead = entries; parent = 0; place = 0 }
+    record part { seen = entries; ahead = entries; parent = 0; index = 0 }
 
 -- a compare-exchange succeeded: the chain was exactly what the seat had seen
 pub record WonPart (part : Part) (new : List Part) : Type 0 where
@@ -62,8 +62,8 @@ pub record WonPart (part : Part) (new : List Part) : Type 0 where
 -- a compare-exchange failed: the chain was longer than what the seat had seen, and the seat finds it
 pub record LostPart (found : ℕ) (part : Part) (new : List Part) : Type 0 where
   pub chain : List Entry
-  pub longer : IsShorter part.seen chain
-  pub sees : Sees found chain part
+  pub longer : IsProperPrefix part.seen chain
+  pub finds_chain : SeatFindsChain found chain part
   pub is : new ≡ finds chain part ∷ []
 
 -- a compare_exchange of the head, from the last cell that was seen to the seat's next cell
@@ -79,8 +79,8 @@ abbrev pub without_first : Knowledge → Knowledge
 without_first view = record { parts = drop 1 view.parts }
 
 -- a join of two views: the seats of `other`, then those of `view`; `other` is consumed
-abbrev pub joined : Knowledge → Knowledge → Knowledge
-joined view other = record { parts = other.parts ++ view.parts }
+abbrev pub joined_views : Knowledge → Knowledge → Knowledge
+joined_views view other = record { parts = other.parts ++ view.parts }
 
 abbrev pub spent : Knowledge
 spent = record { parts = [] }

@@ -3,14 +3,14 @@ use crate::plays::commands::number;
 use crate::plays::faults::PlayFault;
 use crate::words::{meaning_of, split_word};
 use bstr::ByteSlice;
-use camp_run::{Gate, SectionGate, Turns};
+use camp_run::{Gate, SectionGate, TurnGate};
 use std::alloc::Global;
 use std::sync::Wait;
 use std::sync::atomic::{AtomicU64, Ordering};
 use std::thread;
 
 /// How often a seat polls before it gives up.
-const MOST_LOOKS: u32 = 100_000_000;
+const MOST_POLLS: u32 = 100_000_000;
 
 #[derive(Clone, Copy, PartialEq)]
 enum Kind {
@@ -25,7 +25,7 @@ enum Kind {
 /// A scheduling event: its kind, the seat, and a number (the index of the call; the compare-exchanges that
 /// the call has lost; 0 at the start and the end of a section).
 #[derive(Clone, Copy, PartialEq)]
-struct Moment {
+struct Event {
     kind: Kind,
     seat: u32,
     number: u32,
@@ -34,8 +34,8 @@ struct Moment {
 /// A delay: at an event of one seat it waits until another one's event.
 #[derive(Drop)]
 struct Delay {
-    at: Moment,
-    until: Moment,
+    at: Event,
+    until: Event,
     has_come: AtomicU64,
     has_passed: AtomicU64,
     gave_up: AtomicU64,
@@ -43,7 +43,7 @@ struct Delay {
 
 impl Delay {
     fn wait(&self) {
-        for _ in 0..MOST_LOOKS {
+        for _ in 0..MOST_POLLS {
             if self.has_come.load(Ordering::SeqCst) == 1 {
                 self.has_passed.store(1, Ordering::SeqCst);
                 return;
@@ -84,7 +84,7 @@ impl Delays {
 
     /// Adds a delay by words such as `before 1 0 until after 2 0`.
     fn push(&mut self, words: &[u8]) -> Result<(), PlayFault> {
-        let (at, until) = moments_of(words)?;
+        let (at, until) = events_of(words)?;
         let delay = Delay {
             at,
             until,
@@ -109,15 +109,15 @@ impl Delays {
         true
     }
 
-    fn tell(&self, kind: Kind, seat: u32, number: u32) {
-        let moment = Moment { kind, seat, number };
+    fn notify(&self, kind: Kind, seat: u32, number: u32) {
+        let event = Event { kind, seat, number };
         for delay in &self.all {
-            if delay.until == moment {
+            if delay.until == event {
                 delay.has_come.store(1, Ordering::SeqCst);
             }
         }
         for delay in &self.all {
-            if delay.at == moment {
+            if delay.at == event {
                 delay.wait();
             }
         }
@@ -126,41 +126,41 @@ impl Delays {
 
 impl Gate for Delays {
     fn before(&self, seat: u32, call: u32) {
-        self.tell(Kind::Before, seat, call);
+        self.notify(Kind::Before, seat, call);
     }
 
     fn exchange(&self, seat: u32, lost: u32) {
-        self.tell(Kind::Exchange, seat, lost);
+        self.notify(Kind::Exchange, seat, lost);
     }
 
     fn after(&self, seat: u32, call: u32) {
-        self.tell(Kind::After, seat, call);
+        self.notify(Kind::After, seat, call);
     }
 }
 
 impl SectionGate for Delays {
     fn begin(&self, seat: u32, writes: bool) {
         let kind = if writes { Kind::Writes } else { Kind::Asks };
-        self.tell(kind, seat, 0);
+        self.notify(kind, seat, 0);
     }
 
     fn end(&self, seat: u32) {
-        self.tell(Kind::End, seat, 0);
+        self.notify(Kind::End, seat, 0);
     }
 }
 
 /// Delays at the events of clients that take turns: a client that has the turn and is delayed keeps it.
 #[derive(Drop)]
-pub(crate) struct InTurns<'a, R: Wait> {
-    turns: Turns<'a, R>,
+pub(crate) struct DelayedTurns<'a, R: Wait> {
+    turn_gate: TurnGate<'a, R>,
     delays: &'a Delays,
     ended: AtomicU64,
 }
 
-impl<'a, R: Wait> InTurns<'a, R> {
-    pub(crate) fn new(rt: &'a R, delays: &'a Delays) -> InTurns<'a, R> {
-        InTurns {
-            turns: Turns::new(rt),
+impl<'a, R: Wait> DelayedTurns<'a, R> {
+    pub(crate) fn new(rt: &'a R, delays: &'a Delays) -> DelayedTurns<'a, R> {
+        DelayedTurns {
+            turn_gate: TurnGate::new(rt),
             delays,
             ended: AtomicU64::new(0),
         }
@@ -168,42 +168,42 @@ impl<'a, R: Wait> InTurns<'a, R> {
 
     /// Checks that after a run nobody waits, and no section has woken more than two clients.
     pub(crate) fn are_over(&self) -> Result<(), PlayFault> {
-        if self.turns.waiting() != 0 {
+        if self.turn_gate.waiting() != 0 {
             return Err(PlayFault::Wrong("a client still waits"));
         }
         let ended = self.ended.load(Ordering::SeqCst);
-        if self.turns.wakes() / 2 > ended {
+        if self.turn_gate.wakes() / 2 > ended {
             return Err(PlayFault::Wrong("clients are woken too often"));
         }
         Ok(())
     }
 }
 
-impl<'a, R: Wait> Gate for InTurns<'a, R> {
+impl<'a, R: Wait> Gate for DelayedTurns<'a, R> {
     fn before(&self, seat: u32, call: u32) {
-        self.turns.before(seat, call);
+        self.turn_gate.before(seat, call);
         self.delays.before(seat, call);
     }
 
     fn exchange(&self, seat: u32, lost: u32) {
-        self.turns.exchange(seat, lost);
+        self.turn_gate.exchange(seat, lost);
         self.delays.exchange(seat, lost);
     }
 
     fn after(&self, seat: u32, call: u32) {
-        self.turns.after(seat, call);
+        self.turn_gate.after(seat, call);
         self.delays.after(seat, call);
     }
 }
 
-impl<'a, R: Wait> SectionGate for InTurns<'a, R> {
+impl<'a, R: Wait> SectionGate for DelayedTurns<'a, R> {
     fn begin(&self, seat: u32, writes: bool) {
-        self.turns.begin(seat, writes);
+        self.turn_gate.begin(seat, writes);
         self.delays.begin(seat, writes);
     }
 
     fn end(&self, seat: u32) {
-        self.turns.end(seat);
+        self.turn_gate.end(seat);
         self.ended.fetch_add(1, Ordering::SeqCst);
         self.delays.end(seat);
     }
@@ -211,15 +211,15 @@ impl<'a, R: Wait> SectionGate for InTurns<'a, R> {
 
 const NO_DELAY: PlayFault = PlayFault::Wrong("wait MOMENT SEAT NUMBER until MOMENT SEAT NUMBER");
 
-fn moments_of(words: &[u8]) -> Result<(Moment, Moment), PlayFault> {
+fn events_of(words: &[u8]) -> Result<(Event, Event), PlayFault> {
     let (at, until) = words.split_once_str(b" until ").ok_or(NO_DELAY)?;
-    Ok((moment_of(at)?, moment_of(until)?))
+    Ok((event_of(at)?, event_of(until)?))
 }
 
-fn moment_of(words: &[u8]) -> Result<Moment, PlayFault> {
+fn event_of(words: &[u8]) -> Result<Event, PlayFault> {
     let (kind, rest) = split_word(words);
     let (seat, count) = split_word(rest);
-    Ok(Moment {
+    Ok(Event {
         kind: kind_of(kind)?,
         seat: number(seat)?,
         number: number(count)?,

@@ -5,7 +5,7 @@ ghost use Rattle.camp_clients.specs.Sections.{most_tries};
 use crate::entries::Play;
 use crate::plays::commands::{number, read_numbers};
 use crate::plays::faults::{NO_COMMAND, NO_LINE, PlayFault, ran};
-use crate::plays::gates::{Delays, InTurns};
+use crate::plays::gates::{DelayedTurns, Delays};
 use crate::plays::{Entry, append_words};
 use crate::words::{joined, meaning_of, split_word};
 use bstr::ByteSlice;
@@ -38,7 +38,7 @@ const MEANS: &[(&str, Means)] = &[
 
 /// What is shown of a run.
 #[derive(Clone, Copy)]
-enum Told {
+enum Output {
     /// What it writes, with its history.
     Answers,
     /// How its calls were answered.
@@ -50,7 +50,7 @@ enum Told {
 #[derive(Clone, Copy)]
 struct Manner {
     means: Means,
-    told: Told,
+    output: Output,
     sizes: Sizes,
 }
 
@@ -80,7 +80,7 @@ pub(crate) fn append_run<R: Threads + Wait + Sync>(
     let run = run_of(*text.allocator(), entry)?;
     let mut writer = run.writer(*text.allocator());
     let ended = run.play(rt, *text.allocator(), &mut writer);
-    run.append_told(ended, &writer, text)
+    run.append_output(ended, &writer, text)
 }
 
 fn run_of(alloc: Global, entry: Entry<'_>) -> Result<Run, PlayFault> {
@@ -101,13 +101,13 @@ fn manner_of(entry: Entry<'_>) -> Result<Manner, PlayFault> {
     if matches!(entry.play, Play::Ends) {
         return failing(words);
     }
-    let (words, told) = match words.strip_suffix(b" counts") {
-        Some(words) => (words, Told::Counts),
-        None => (words, Told::Answers),
+    let (words, output) = match words.strip_suffix(b" counts") {
+        Some(words) => (words, Output::Counts),
+        None => (words, Output::Answers),
     };
     Ok(Manner {
         means: means_of(words)?,
-        told,
+        output,
         sizes: ENDLESS,
     })
 }
@@ -121,7 +121,7 @@ fn failing(words: &[u8]) -> Result<Manner, PlayFault> {
     let [reads, read_size, writes, write_size, times] = sizes;
     Ok(Manner {
         means: means_of(words)?,
-        told: Told::Ends,
+        output: Output::Ends,
         sizes: Sizes {
             reads,
             read_size,
@@ -165,7 +165,7 @@ impl Run {
 
     /// Appends what is to be shown of a run that has ended like this. A run that runs out of memory, as its
     /// writer may, is tried again.
-    fn append_told(
+    fn append_output(
         &self,
         ended: Result<(), PlayFault>,
         writer: &Writer,
@@ -174,11 +174,11 @@ impl Run {
         if writer.wants_memory() {
             return Err(PlayFault::Memory);
         }
-        match self.manner.told {
-            Told::Ends => append_ends(ended, writer.written(), text),
-            told => {
+        match self.manner.output {
+            Output::Ends => append_ends(ended, writer.written(), text),
+            output => {
                 self.is_well(ended, writer.written())?;
-                append_written(told, writer.written(), text)
+                append_written(output, writer.written(), text)
             }
         }
     }
@@ -203,7 +203,7 @@ fn answer<T: Threads + Wait + Sync, R: Read, W: Write>(
     reader: &mut R,
     writer: &mut W,
 ) -> Result<(), PlayFault> {
-    let history = matches!(manner.told, Told::Answers);
+    let history = matches!(manner.output, Output::Answers);
     let limits = Limits::default();
     match manner.means {
         Means::Book => ran(run_book(alloc, limits, reader, writer, history)),
@@ -217,7 +217,7 @@ fn answer<T: Threads + Wait + Sync, R: Read, W: Write>(
             ))
         }
         Means::Turns(tries) if is_allowed(tries) => {
-            let gate = InTurns::new(rt, delays);
+            let gate = DelayedTurns::new(rt, delays);
             ran(run_head_at(
                 rt, alloc, limits, reader, writer, history, tries, &gate, &gate,
             ))?;
@@ -247,9 +247,9 @@ fn append_ends(
     }
 }
 
-fn append_written(told: Told, written: &[u8], text: &mut Vec<u8>) -> Result<(), PlayFault> {
-    match told {
-        Told::Counts => append_words(counts_text(*text.allocator(), written), text),
+fn append_written(output: Output, written: &[u8], text: &mut Vec<u8>) -> Result<(), PlayFault> {
+    match output {
+        Output::Counts => append_words(counts_text(*text.allocator(), written), text),
         _ => Ok(text.extend_from_slice(written)?),
     }
 }
@@ -263,10 +263,10 @@ fn counts_text(alloc: Global, answers: &[u8]) -> Result<String, AllocError> {
 }
 
 /// Counts the lines that begin with these bytes.
-fn count(text: &[u8], front: &[u8]) -> u32 {
+fn count(text: &[u8], prefix: &[u8]) -> u32 {
     let mut count = 0_u32;
     for line in text.lines() {
-        if line.starts_with(front) {
+        if line.starts_with(prefix) {
             count = count.saturating_add(1);
         }
     }

@@ -32,7 +32,7 @@ impl Seating {
     }
 
     /// Executes a line about one seat or two, and appends the result.
-    pub(crate) fn append_told(
+    pub(crate) fn append_report(
         &mut self,
         play: Play,
         words: &[u8],
@@ -43,7 +43,7 @@ impl Seating {
         match play {
             Play::Meet => self.append_met(seats[0], seats[1], text),
             Play::History => self.append_history(seats[0], text),
-            Play::HandOn => self.hand_on(seats[0]),
+            Play::Publish => self.publish(seats[0]),
             Play::Adopted => self.append_adopted(seats[0], text),
             _ => self.append_seen(seats[0], text),
         }
@@ -66,8 +66,8 @@ impl Seating {
     }
 
     /// Lets the seat publish what it has seen.
-    fn hand_on(&self, number: u32) -> Result<(), PlayFault> {
-        Ok(self.head.hand_on(self.seat(number)?)?)
+    fn publish(&self, number: u32) -> Result<(), PlayFault> {
+        Ok(self.head.publish_snapshot(self.seat(number)?)?)
     }
 
     /// Appends what a seat has seen.
@@ -123,10 +123,10 @@ impl Seating {
         }
         let second = take(&self.head, &mut self.seats, second)?;
         let first = take(&self.head, &mut self.seats, first)?;
-        let (first, second, met) = self.head.meet(first, second);
+        let (first, second, answer) = self.head.meet(first, second);
         put(&self.head, &mut self.seats, first)?;
         put(&self.head, &mut self.seats, second)?;
-        Ok(met?)
+        Ok(answer?)
     }
 }
 

@@ -1,7 +1,7 @@
 //! Values: the calls on names, paths and lines, and the words of faults.
 use crate::tables::Table;
 use crate::values::calls::Call;
-use crate::values::results::{Outcome, told};
+use crate::values::results::{Outcome, rendered};
 use crate::words::words_of;
 use camp_base::{Apply, BaseFault, Line, Name, Path};
 use camp_clients::LockFault;
@@ -25,14 +25,14 @@ pub(crate) fn answer(table: &Table, call: Call, bytes: &[u8]) -> Outcome {
 
 fn displayed<T: Display + Drop>(table: &Table, made: Result<T, BaseFault>) -> Outcome {
     match made {
-        Ok(value) => told(words_of(table.alloc(), &value)),
+        Ok(value) => rendered(words_of(table.alloc(), &value)),
         Err(why) => refused(table, why),
     }
 }
 
 fn line(table: &Table, bytes: &[u8]) -> Outcome {
     match Line::new(table.alloc(), bytes) {
-        Ok(line) => told(word_text(table.alloc(), line.bytes())),
+        Ok(line) => rendered(word_text(table.alloc(), line.bytes())),
         Err(why) => refused(table, why),
     }
 }
@@ -41,7 +41,7 @@ fn line(table: &Table, bytes: &[u8]) -> Outcome {
 fn refused(table: &Table, fault: BaseFault) -> Outcome {
     match fault {
         BaseFault::Memory => Err(NotationError::Memory),
-        _ => told(words_of(table.alloc(), &fault)),
+        _ => rendered(words_of(table.alloc(), &fault)),
     }
 }
 

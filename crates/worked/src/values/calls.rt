@@ -159,14 +159,14 @@ fn answer_values(table: &Table, call: Call, values: &[Value]) -> Outcome {
     match values {
         [] => bases::faults(table),
         [Value::Word(bytes)] => bases::answer(table, call, bytes),
-        [Value::Tree(tree), behind @ ..] => trees::answer(table, call, tree, behind),
-        [Value::Named(p), behind @ ..] => primitives::answer(table, call, p, behind),
-        [Value::List(list), behind @ ..] => lists::answer(table, call, list, behind),
-        [Value::Contexted(x), behind @ ..] => contexts::answer(table, call, x, behind),
-        [Value::Set(set), behind @ ..] => contexts::answer_set(table, call, set, behind),
-        [Value::Catch(j), behind @ ..] => catches::answer(table, call, j, behind),
-        [Value::Catches(list), behind @ ..] => catches::answer_list(table, call, list, behind),
-        [Value::Numbers(list), behind @ ..] => shares::answer(table, call, list, behind),
+        [Value::Tree(tree), rest @ ..] => trees::answer(table, call, tree, rest),
+        [Value::Named(p), rest @ ..] => primitives::answer(table, call, p, rest),
+        [Value::List(list), rest @ ..] => lists::answer(table, call, list, rest),
+        [Value::Contexted(x), rest @ ..] => contexts::answer(table, call, x, rest),
+        [Value::Set(set), rest @ ..] => contexts::answer_set(table, call, set, rest),
+        [Value::Catch(j), rest @ ..] => catches::answer(table, call, j, rest),
+        [Value::Catches(list), rest @ ..] => catches::answer_list(table, call, list, rest),
+        [Value::Numbers(list), rest @ ..] => shares::answer(table, call, list, rest),
         _ => no_such_call(table),
     }
 }

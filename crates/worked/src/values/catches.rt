@@ -2,7 +2,7 @@
 use crate::tables::Table;
 use crate::values::arguments::Value;
 use crate::values::calls::{Call, no_such_call};
-use crate::values::results::{Outcome, Shown, show, tell, told};
+use crate::values::results::{Outcome, Shown, render, rendered, show};
 use camp_base::Name;
 use camp_catch::{Catch, NoMerge, Stuck, Unmade, align, arrange, commute, merge, merge_lists};
 use camp_notation::{NotationError, label_text};
@@ -11,12 +11,12 @@ use camp_share::{Shared, SharedMap};
 use std::alloc::AllocError;
 
 /// Returns the result of a call on a catch.
-pub(crate) fn answer(table: &Table, call: Call, j: &Catch, behind: &[Value]) -> Outcome {
-    match behind {
-        [] => tell(table, j.try_clone()),
+pub(crate) fn answer(table: &Table, call: Call, j: &Catch, rest: &[Value]) -> Outcome {
+    match rest {
+        [] => render(table, j.try_clone()),
         [Value::Catch(k)] => match call {
-            Call::Merge => tell(table, merge(table.alloc(), j, k)),
-            _ => tell(table, commute(table.alloc(), j, k)),
+            Call::Merge => render(table, merge(table.alloc(), j, k)),
+            _ => render(table, commute(table.alloc(), j, k)),
         },
         _ => no_such_call(table),
     }
@@ -27,34 +27,34 @@ pub(crate) fn answer_list(
     table: &Table,
     call: Call,
     list: &Vec<Shared<Catch>>,
-    behind: &[Value],
+    rest: &[Value],
 ) -> Outcome {
-    match behind {
+    match rest {
         [] => show(table, list),
         [Value::Labels(labels)] => match call {
             Call::Align => aligned(table, list, labels),
             _ => arranged(table, list, labels),
         },
-        [Value::Catches(other)] => tell_list(table, merge_lists(table.alloc(), list, other)),
+        [Value::Catches(other)] => render_list(table, merge_lists(table.alloc(), list, other)),
         _ => no_such_call(table),
     }
 }
 
 fn arranged(table: &Table, list: &[Shared<Catch>], labels: &[Label]) -> Outcome {
     let names = names(table, labels)?;
-    tell_list(table, arrange(table.alloc(), list, &names))
+    render_list(table, arrange(table.alloc(), list, &names))
 }
 
 fn aligned(table: &Table, list: &[Shared<Catch>], labels: &[Label]) -> Outcome {
     let order = keys(table, labels)?;
-    tell_list(table, align(table.alloc(), list, &order))
+    render_list(table, align(table.alloc(), list, &order))
 }
 
 /// Shows what is made of a list, or what blocks it.
-fn tell_list<T: Shown + Drop, O: Obstacle>(table: &Table, made: Result<T, Unmade<O>>) -> Outcome {
+fn render_list<T: Shown + Drop, O: Obstacle>(table: &Table, made: Result<T, Unmade<O>>) -> Outcome {
     match made {
         Ok(list) => show(table, &list),
-        Err(Unmade::Blocked(obstacle)) => told(obstacle.words(table)),
+        Err(Unmade::Blocked(obstacle)) => rendered(obstacle.words(table)),
         Err(Unmade::Memory) => Err(NotationError::Memory),
     }
 }

@@ -2,44 +2,44 @@
 use crate::tables::Table;
 use crate::values::arguments::Value;
 use crate::values::calls::{Call, no_such_call};
-use crate::values::results::{Outcome, changed, tell};
+use crate::values::results::{Outcome, changed, render};
 use camp_base::Tree;
 use camp_ctx::{Contexted, CtxSet, merge_behind_common};
 use camp_seq::{Seq, apply_all, clean_merge, front, invert_all, norm, past_all, split};
 
 /// Returns the result of a call on a list of primitives.
-pub(crate) fn answer(table: &Table, call: Call, list: &Seq, behind: &[Value]) -> Outcome {
-    match behind {
+pub(crate) fn answer(table: &Table, call: Call, list: &Seq, rest: &[Value]) -> Outcome {
+    match rest {
         [] => alone(table, call, list),
         [Value::List(right)] => beside(table, call, list, right),
-        [Value::Label(label)] => tell(table, front(list, label)),
-        [Value::Labels(labels)] => tell(table, split(list, labels)),
+        [Value::Label(label)] => render(table, front(list, label)),
+        [Value::Labels(labels)] => render(table, split(list, labels)),
         [Value::Tree(tree)] => applied(table, list, tree),
         [Value::Contexted(x)] => before_one(table, call, list, x),
-        [Value::Set(set)] => tell(table, CtxSet::add(list, set)),
+        [Value::Set(set)] => render(table, CtxSet::add(list, set)),
         _ => no_such_call(table),
     }
 }
 
 fn alone(table: &Table, call: Call, list: &Seq) -> Outcome {
     match call {
-        Call::InvertAll => tell(table, invert_all(list)),
-        _ => tell(table, norm(list)),
+        Call::InvertAll => render(table, invert_all(list)),
+        _ => render(table, norm(list)),
     }
 }
 
 fn beside(table: &Table, call: Call, left: &Seq, right: &Seq) -> Outcome {
     match call {
-        Call::PastAll => tell(table, past_all(left, right)),
-        Call::CleanMerge => tell(table, clean_merge(left, right)),
-        _ => tell(table, merge_behind_common(table.alloc(), left, right)),
+        Call::PastAll => render(table, past_all(left, right)),
+        Call::CleanMerge => render(table, clean_merge(left, right)),
+        _ => render(table, merge_behind_common(table.alloc(), left, right)),
     }
 }
 
 fn before_one(table: &Table, call: Call, list: &Seq, x: &Contexted) -> Outcome {
     match call {
-        Call::Add => tell(table, Contexted::add(list, x)),
-        _ => tell(table, Contexted::past(list, x)),
+        Call::Add => render(table, Contexted::add(list, x)),
+        _ => render(table, Contexted::past(list, x)),
     }
 }
 

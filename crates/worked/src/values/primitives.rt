@@ -2,7 +2,7 @@
 use crate::tables::Table;
 use crate::values::arguments::Value;
 use crate::values::calls::{Call, no_such_call};
-use crate::values::results::{Outcome, changed, show, tell};
+use crate::values::results::{Outcome, changed, render, show};
 use camp_base::Tree;
 use camp_ctx::Contexted;
 use camp_prim::{Named, commute};
@@ -10,21 +10,21 @@ use camp_seq::past;
 use std::alloc::AllocError;
 
 /// Returns the result of a call on a primitive.
-pub(crate) fn answer(table: &Table, call: Call, p: &Named, behind: &[Value]) -> Outcome {
-    match behind {
+pub(crate) fn answer(table: &Table, call: Call, p: &Named, rest: &[Value]) -> Outcome {
+    match rest {
         [] => alone(table, call, p),
-        [Value::Named(q)] => tell(table, commute(p, q)),
+        [Value::Named(q)] => render(table, commute(p, q)),
         [Value::Tree(tree)] => apply(table, p, tree),
-        [Value::List(list)] => tell(table, past(p, list)),
-        [Value::Contexted(x)] => tell(table, Contexted::add_one(p, x)),
+        [Value::List(list)] => render(table, past(p, list)),
+        [Value::Contexted(x)] => render(table, Contexted::add_one(p, x)),
         _ => no_such_call(table),
     }
 }
 
 fn alone(table: &Table, call: Call, p: &Named) -> Outcome {
     match call {
-        Call::Copy => tell(table, p.try_clone()),
-        Call::Invert => tell(table, invert(p)),
+        Call::Copy => render(table, p.try_clone()),
+        Call::Invert => render(table, invert(p)),
         _ => show(table, p),
     }
 }

@@ -26,19 +26,19 @@ pub(crate) trait Shown {
 
 impl Shown for Named {
     fn shown(&self, table: &Table) -> Outcome {
-        told(named_text(table.alloc(), table.known(), self))
+        rendered(named_text(table.alloc(), table.known(), self))
     }
 }
 
 impl Shown for Seq {
     fn shown(&self, table: &Table) -> Outcome {
-        told(list_text(table.alloc(), table.known(), self))
+        rendered(list_text(table.alloc(), table.known(), self))
     }
 }
 
 impl Shown for Tree {
     fn shown(&self, table: &Table) -> Outcome {
-        told(tree_text(table.alloc(), self))
+        rendered(tree_text(table.alloc(), self))
     }
 }
 
@@ -90,7 +90,7 @@ impl Shown for Arranged {
 
 impl Shown for Numbers {
     fn shown(&self, table: &Table) -> Outcome {
-        told(numbers_text(table.alloc(), self))
+        rendered(numbers_text(table.alloc(), self))
     }
 }
 
@@ -120,7 +120,7 @@ impl<T: Shown, U: Shown> Shown for (T, U) {
 fn both<T: Shown, U: Shown>(table: &Table, first: &T, second: &U) -> Outcome {
     let text = first.shown(table)?;
     match second.shown(table) {
-        Ok(behind) => told(joined(text, &behind)),
+        Ok(rest) => rendered(joined(text, &rest)),
         Err(why) => Err(why),
     }
 }
@@ -151,7 +151,7 @@ fn read_back(text: String, is_same: bool) -> Outcome {
 }
 
 /// Returns what a call makes, unless memory ran out.
-pub(crate) fn tell<T: Shown + Drop>(table: &Table, made: Result<T, AllocError>) -> Outcome {
+pub(crate) fn render<T: Shown + Drop>(table: &Table, made: Result<T, AllocError>) -> Outcome {
     match made {
         Ok(value) => show(table, &value),
         Err(_) => Err(NotationError::Memory),
@@ -169,7 +169,7 @@ pub(crate) fn show<T: Shown>(table: &Table, value: &T) -> Outcome {
 
 /// Shows a word as it is.
 pub(crate) fn word(table: &Table, text: &str) -> Outcome {
-    told(String::from_str(table.alloc(), text))
+    rendered(String::from_str(table.alloc(), text))
 }
 
 pub(crate) fn none(table: &Table) -> Outcome {
@@ -177,7 +177,7 @@ pub(crate) fn none(table: &Table) -> Outcome {
 }
 
 /// Shows a text, unless memory ran out.
-pub(crate) fn told(text: Result<String, AllocError>) -> Outcome {
+pub(crate) fn rendered(text: Result<String, AllocError>) -> Outcome {
     match text {
         Ok(text) => Ok(text),
         Err(_) => Err(NotationError::Memory),
@@ -200,8 +200,8 @@ pub(crate) fn changed(
 
 fn refused(table: &Table, why: Apply, is_kept: bool) -> Outcome {
     match why {
-        _ if !is_kept => told(format!(in table.alloc(); "{why}, and another tree")),
-        Apply::DoesNotApply => told(words_of(table.alloc(), &why)),
+        _ if !is_kept => rendered(format!(in table.alloc(); "{why}, and another tree")),
+        Apply::DoesNotApply => rendered(words_of(table.alloc(), &why)),
         Apply::Memory => Err(NotationError::Memory),
     }
 }

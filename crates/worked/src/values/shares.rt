@@ -4,15 +4,15 @@ use crate::tables::Table;
 use crate::values::arguments::Value;
 use crate::values::calls::{Call, no_such_call};
 use crate::values::numbers::{Number, Numbers};
-use crate::values::results::{Outcome, none, tell};
+use crate::values::results::{Outcome, none, render};
 use camp_share::Share;
 
 /// Returns the result of a call on a shared list, or none if an index is past its end.
-pub(crate) fn answer(table: &Table, call: Call, list: &Numbers, behind: &[Value]) -> Outcome {
-    match behind {
-        [] => tell(table, list.share()),
+pub(crate) fn answer(table: &Table, call: Call, list: &Numbers, rest: &[Value]) -> Outcome {
+    match rest {
+        [] => render(table, list.share()),
         [Value::Count(count)] => match call {
-            Call::Pushed => tell(table, list.pushed(Number(*count))),
+            Call::Pushed => render(table, list.pushed(Number(*count))),
             _ => without(table, list, *count as usize),
         },
         [Value::Count(at), Value::Count(count)] => match call {
@@ -30,21 +30,21 @@ fn without(table: &Table, list: &Numbers, at: usize) -> Outcome {
     if at >= list.len() {
         return none(table);
     }
-    tell(table, list.without(at))
+    render(table, list.without(at))
 }
 
 fn inserted(table: &Table, list: &Numbers, at: usize, number: Number) -> Outcome {
     if at > list.len() {
         return none(table);
     }
-    tell(table, list.inserted(at, number))
+    render(table, list.inserted(at, number))
 }
 
 fn replaced(table: &Table, list: &Numbers, at: usize, number: Number) -> Outcome {
     if at >= list.len() {
         return none(table);
     }
-    tell(table, list.replaced(at, number))
+    render(table, list.replaced(at, number))
 }
 
 /// Returns a list with a range replaced by another list.
@@ -53,5 +53,5 @@ fn spliced(table: &Table, list: &Numbers, from: usize, to: usize, items: &Number
     if from > to || to > list.len() {
         return none(table);
     }
-    tell(table, list.spliced(from, to, &items))
+    render(table, list.spliced(from, to, &items))
 }

@@ -12,9 +12,9 @@ struct Nesting {
 }
 
 impl Nesting {
-    fn behind(self, byte: u8) -> Nesting {
+    fn after(self, byte: u8) -> Nesting {
         if self.quoted {
-            return self.behind_quoted(byte);
+            return self.after_quoted(byte);
         }
         let depth = match byte {
             b'[' | b'{' | b'(' => self.depth.saturating_add(1),
@@ -28,7 +28,7 @@ impl Nesting {
         }
     }
 
-    fn behind_quoted(self, byte: u8) -> Nesting {
+    fn after_quoted(self, byte: u8) -> Nesting {
         Nesting {
             depth: self.depth,
             quoted: self.escaped || byte != b'"',
@@ -47,9 +47,9 @@ pub(crate) fn split(alloc: Global, text: &[u8]) -> Result<Vec<&[u8]>, AllocError
     let mut parts = Vec::new(alloc);
     let mut rest = text;
     for _ in 0..text.len() {
-        let (part, behind) = rest.split_at(argument_len(rest));
+        let (part, after) = rest.split_at(argument_len(rest));
         parts.push(part)?;
-        match behind.strip_prefix(b", ") {
+        match after.strip_prefix(b", ") {
             Some(others) => rest = others,
             None => return Ok(parts),
         }
@@ -70,7 +70,7 @@ fn argument_len(text: &[u8]) -> usize
         if *byte == b',' && nesting.is_outside() {
             return at;
         }
-        nesting = nesting.behind(*byte);
+        nesting = nesting.after(*byte);
     }
     text.len()
 }

@@ -2,17 +2,17 @@
 use crate::tables::Table;
 use crate::values::arguments::Value;
 use crate::values::calls::{Call, no_such_call};
-use crate::values::results::{Outcome, changed, show, tell, word};
+use crate::values::results::{Outcome, changed, render, show, word};
 use camp_base::{Line, Path, Tree};
 use camp_notation::lines_text;
 use camp_share::SharedList;
 use std::alloc::AllocError;
 
 /// Returns the result of a call on a tree.
-pub(crate) fn answer(table: &Table, call: Call, tree: &Tree, behind: &[Value]) -> Outcome {
-    match behind {
+pub(crate) fn answer(table: &Table, call: Call, tree: &Tree, rest: &[Value]) -> Outcome {
+    match rest {
         [] => match call {
-            Call::Copy => tell(table, tree.try_clone()),
+            Call::Copy => render(table, tree.try_clone()),
             _ => show(table, &tree.is_empty()),
         },
         [Value::Path(path)] => at_path(table, call, tree, path),

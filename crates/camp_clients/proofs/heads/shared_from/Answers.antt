@@ -1,5 +1,5 @@
 use Rattle.camp_clients.proofs.Words.{◌≡◌, ◌≤◌, [], sym, subst, arith, count_by, All, IsSeatOf, history_of}
-use Rattle.camp_clients.proofs.Gathering.{behind_first}
+use Rattle.camp_clients.proofs.Gathering.{after_first}
 use Rattle.camp_clients.proofs.Opening.{opened_length, opened_seat}
 use Rattle.camp_clients.proofs.heads.shared_from.Goals as goal
 
@@ -16,7 +16,7 @@ invariant_of-run-clause-room g c =
 
 pub all-requires-clause-seats : goal.all-requires-clause-seats
 all-requires-clause-seats g c _ _ =
-    behind_first (λ k seat. IsSeatOf c.in_ok-head.head seat × (seat.known.number ≡ k) × (history_of seat ≡ []))
+    after_first (λ k seat. IsSeatOf c.in_ok-head.head seat × (seat.known.number ≡ k) × (history_of seat ≡ []))
     c.in_ok-head.seats.items c.remove-opener.new.self.items c.remove-opener.ensures.items
     (opened_seat _ _ _ _ _ _ c.in_ok-head.ensures)
 

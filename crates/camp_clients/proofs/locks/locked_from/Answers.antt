@@ -11,7 +11,7 @@ has_exactly-requires-clause-as_many g c = ap length c.deref-2.ensures.value
 
 pub returns : goal.returns
 returns g c =
-    let begins = c.begins_with.ensures.exact.0 c.if-not-begins_with.false ∙ c.requires.is_same in
+    let begins = c.has_first.ensures.exact.0 c.if-not-has_first.false ∙ c.requires.is_same in
     record {
       begins = begins;
       locked =

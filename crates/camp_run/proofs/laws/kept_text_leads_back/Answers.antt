@@ -1,4 +1,4 @@
-use Rattle.camp_run.proofs.Keeping.{kept_leads_back}
+use Rattle.camp_run.proofs.StoredTexts.{kept_leads_back}
 use Rattle.camp_run.proofs.laws.kept_text_leads_back.Goals as goal
 
 pub returns : goal.returns

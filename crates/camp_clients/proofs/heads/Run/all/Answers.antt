@@ -1,17 +1,17 @@
-use Rattle.camp_clients.proofs.Words.{◌≡◌, ℕ, ◌<◌, [], length, sym, ◌∙◌, ap, subst, arith, All, All-map, AllZip-long, all_unmap, map-map, IsBeginning, own, Asks, IsSeatOf, history_of, lists_of, vec_items, section_of, Section, HasMet, IsMet, Ran, begun, IsLegal}
-use Rattle.camp_clients.proofs.Meeting.{caller_of, can_begin, clients_hold, shared_run, zip_all}
+use Rattle.camp_clients.proofs.Words.{◌≡◌, ℕ, ◌<◌, [], length, sym, ◌∙◌, ap, subst, arith, All, All-map, AllZip-long, all_unmap, map-map, IsBeginning, own, SectionStep, IsSeatOf, history_of, lists_of, vec_items, section_of, Section, IsSynchronised, HasAllOfSeat, Ran, begun, IsLegal}
+use Rattle.camp_clients.proofs.Synchronising.{caller_of, can_begin, clients_hold, shared_run, zip_all}
 use Rattle.camp_clients.proofs.Vectors.{length-lists_of}
 use Rattle.camp_clients.proofs.heads.Run.all.Goals as goal
 
-pub each_meets-requires-clause-seats : goal.each_meets-requires-clause-seats
-each_meets-requires-clause-seats g c k d below = (c.requires.seats k d below).0
+pub synchronise_each_with-requires-clause-seats : goal.synchronise_each_with-requires-clause-seats
+synchronise_each_with-requires-clause-seats g c k d below = (c.requires.seats k d below).0
 
 pub clients-requires-clause-ready : goal.clients-requires-clause-ready
 clients-requires-clause-ready g c _ _ =
     can_begin c.args.self.now.head.now _ (history_of c.at_seat.new.seat) c.args.seats.items c.in_ok-seats.seats.items c.requires.as_many c.requires.seats c.in_ok-seats.ensures.seats
 
-pub meet_all-requires-clause-seats : goal.meet_all-requires-clause-seats
-meet_all-requires-clause-seats g c =
+pub synchronise_with_all-requires-clause-seats : goal.synchronise_with_all-requires-clause-seats
+synchronise_with_all-requires-clause-seats g c =
     let ran = c.in_ok-seats-2.ensures in
     subst (All (IsSeatOf c.args.self.now.head.now)) (sym ran.seats)
     (All-map (IsSeatOf c.args.self.now.head.now) (λ one. one.0) ran.brought
@@ -30,16 +30,16 @@ returns-clause-shared g c =
     let l1 = c.in_ok-seats.seats.items in
     let l2 = ran.brought in
     let long : length l2 ≡ length l0 =
-    AllZip-long (λ seat one. Ran object head sections seat one.0 one.1.items) l1 l2 ran.ran ∙ AllZip-long (HasMet head opened) l0 l1 c.in_ok-seats.ensures.seats in
-    let met = all_unmap (IsMet history) (λ one. one.0) l2 (subst (All (IsMet history)) ran.seats c.in_ok-opener.ensures.seats) in
+    AllZip-long (λ seat one. Ran object head sections seat one.0 one.1.items) l1 l2 ran.ran ∙ AllZip-long (IsSynchronised head opened) l0 l1 c.in_ok-seats.ensures.seats in
+    let synchronised = all_unmap (HasAllOfSeat history) (λ one. one.0) l2 (subst (All (HasAllOfSeat history)) ran.seats c.in_ok-opener.ensures.seats) in
     let holds = λ (k : ℕ) (d : _) (below : k < length l2).
-    clients_hold object head sections opened history l0 l1 l2 c.requires.seats c.in_ok-seats.ensures.seats ran.ran met k d (omega (arith, long)) in
+    clients_hold object head sections opened history l0 l1 l2 c.requires.seats c.in_ok-seats.ensures.seats ran.ran synchronised k d (omega (arith, long)) in
     let opener = c.args.opener in
     let opening = c.in_ok-opening.opening in
-    let from_start = subst (λ first. Section (Asks object (caller_of head opener.known.number)) first (section_of sections opener.known.number) opening.items opened)
+    let from_start = subst (λ first. Section (SectionStep object (caller_of head opener.known.number)) first (section_of sections opener.known.number) opening.items opened)
     c.requires.opener.2 c.in_ok-opening.ensures.section in
-    let asked = subst (λ n. Section (Asks object (caller_of head n)) [] (section_of sections n) opening.items opened) c.requires.opener.1 from_start in
-    let beginning = subst (λ h. IsBeginning h history) c.in_ok-seats.ensures.seen c.in_ok-opener.ensures.grows in
+    let asked = subst (λ n. Section (SectionStep object (caller_of head n)) [] (section_of sections n) opening.items opened) c.requires.opener.1 from_start in
+    let prefix = subst (λ h. IsBeginning h history) c.in_ok-seats.ensures.seen c.in_ok-opener.ensures.grows in
     let number = c.in_ok-seats.ensures.number ∙ c.in_ok-opening.ensures.number ∙ c.requires.opener.1 in
     let same = subst (λ n. own n history ≡ own n (history_of c.in_ok-seats.opener)) number c.in_ok-opener.ensures.own
     ∙ ap (own 0) c.in_ok-seats.ensures.seen in
@@ -47,5 +47,5 @@ returns-clause-shared g c =
     let seats = ap (λ row. row.seats) c.in_ok-opener.ensures.seat.row ∙ c.args.self.now.seats ∙ sym (length-lists_of c.args.self.now.sections.now) in
     let no_other = subst (λ n. All (λ entry. entry.0 < n) history) seats c.number-number.ensures.seats_below in
     let run = shared_run object head sections opened history opening.items l2 (c.args.opener, opening)
-    (omega (arith, long, c.requires.as_many, length-lists_of c.args.self.now.sections.now)) holds asked beginning same legal no_other in
+    (omega (arith, long, c.requires.as_many, length-lists_of c.args.self.now.sections.now)) holds asked prefix same legal no_other in
     rw (ran.all_answers, map-map vec_items (λ one. one.1) ran.brought) run

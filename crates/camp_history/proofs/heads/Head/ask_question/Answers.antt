@@ -1,5 +1,5 @@
 use Rattle.camp_history.proofs.Words.{Ok, Err, history_of, subst, begun, Ask, caller_at}
-use Rattle.camp_history.proofs.Asked.{ask_later}
+use Rattle.camp_history.proofs.AskLemmas.{ask_later}
 use Rattle.camp_history.proofs.heads.Head.ask_question.Goals as goal
 
 pub returns-in-Ok-Answer-clause-asks : goal.returns-in-Ok-Answer-clause-asks

@@ -1,15 +1,15 @@
-use Rattle.camp_history.proofs.Words.{◌≡◌, [], sym, ap, subst, All-rest, All-drop, All-same, Shows, Mark, drop, entries_of}
+use Rattle.camp_history.proofs.Words.{◌≡◌, [], sym, ap, subst, All-rest, All-drop, All-same, Shows, Mark, drop, seen_entries}
 use Rattle.camp_row.specs.Chains as chain
-use Rattle.camp_history.proofs.Versioned.{Compared, compared_start, compared_step, compared_end, compared_other_end, same_next, seat_begins, begins_either, begins_asked, left_first}
+use Rattle.camp_history.proofs.SnapshotLemmas.{Compared, compared_start, compared_step, compared_end, compared_other_end, same_next, seat_begins, begins_either, begins_asked, left_first}
 use Rattle.camp_history.proofs.heads.Head.compare.Goals as goal
 
 pub loop-mark-init : goal.loop-mark-init
 loop-mark-init g c =
     let a = c.args.a.now in
     let b = c.args.b.now in
-    let from = c.shared-from.result in
+    let from = c.common_len_of_seats-from.result in
     let Stored : Mark g.row.State-Call.Denot → Type 0 = λ mark. Shows c.args.self.now.store mark.call in
-    let start = compared_start a.marks b.marks from c.shared-from.ensures in
+    let start = compared_start a.marks b.marks from c.common_len_of_seats-from.ensures in
     let left : c.marks_from-marks.result ≡ drop from a.marks = c.marks_from-marks.ensures in
     let others : c.marks_from-others.result ≡ drop from b.marks = c.marks_from-others.ensures in
     record {
@@ -26,12 +26,12 @@ agrees-requires g c =
     let mark = c.in-Some.mark.now in
     let other = c.in-Some-next.other.now in
     let Stored : Mark g.row.State-Call.Denot → Type 0 = λ mark. Shows c.args.self.now.store mark.call in
-    let entry = same_next a.known.ahead a.marks b.marks _ _ _ _ mark other c.in-Some.ensures c.in-Some-next.ensures (seat_begins a c.is_whole.ensures.places c.is_whole.ensures.sound)
-    (subst (λ ahead. chain.IsBeginning (entries_of b) ahead) (sym c.requires.chain) (seat_begins b c.is_whole-2.ensures.places c.is_whole-2.ensures.sound)) past.compared in
+    let entry = same_next a.known.ahead a.marks b.marks _ _ _ _ mark other c.in-Some.ensures c.in-Some-next.ensures (seat_begins a c.show_invariant.ensures.entries_are c.show_invariant.ensures.sound)
+    (subst (λ ahead. chain.IsPrefix (seen_entries b) ahead) (sym c.requires.chain) (seat_begins b c.show_invariant-2.ensures.entries_are c.show_invariant-2.ensures.sound)) past.compared in
     let store : c.self.inside.calls ≡ c.args.self.now.store = ap (λ head. head.store) c.self.view_is in
     let one : Shows c.args.self.now.store mark.call = left_first Stored _ _ mark c.in-Some.ensures past.stored in
     let two : Shows c.args.self.now.store other.call = left_first Stored _ _ other c.in-Some-next.ensures past.others_stored in
-    (rw store one, rw store two, ap (λ entry. entry.place) entry)
+    (rw store one, rw store two, ap (λ entry. entry.index) entry)
 
 pub loop-mark-preserved : goal.loop-mark-preserved
 loop-mark-preserved g c =
@@ -41,8 +41,8 @@ loop-mark-preserved g c =
     let mark = c.in-Some.mark.now in
     let other = c.in-Some-next.other.now in
     let Stored : Mark g.row.State-Call.Denot → Type 0 = λ mark. Shows c.args.self.now.store mark.call in
-    let entry = same_next a.known.ahead a.marks b.marks _ _ _ _ mark other c.in-Some.ensures c.in-Some-next.ensures (seat_begins a c.is_whole.ensures.places c.is_whole.ensures.sound)
-    (subst (λ ahead. chain.IsBeginning (entries_of b) ahead) (sym c.requires.chain) (seat_begins b c.is_whole-2.ensures.places c.is_whole-2.ensures.sound)) past.compared in
+    let entry = same_next a.known.ahead a.marks b.marks _ _ _ _ mark other c.in-Some.ensures c.in-Some-next.ensures (seat_begins a c.show_invariant.ensures.entries_are c.show_invariant.ensures.sound)
+    (subst (λ ahead. chain.IsPrefix (seen_entries b) ahead) (sym c.requires.chain) (seat_begins b c.show_invariant-2.ensures.entries_are c.show_invariant-2.ensures.sound)) past.compared in
     record {
       compared = compared_step a.marks b.marks _ _ _ _ mark other c.in-Some.ensures c.in-Some-next.ensures (λ k. (entry k, c.agrees.ensures k)) past.compared;
       stored = All-rest Stored _ _ _ c.in-Some.ensures past.stored;

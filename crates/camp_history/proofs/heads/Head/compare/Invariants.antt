@@ -1,5 +1,5 @@
 use Rattle.camp_history.proofs.Words.{length, All, Shows}
-use Rattle.camp_history.proofs.Versioned.{Compared}
+use Rattle.camp_history.proofs.SnapshotLemmas.{Compared}
 use Rattle.camp_history.proofs.heads.Head.compare.Given as goal
 
 abbrev pub invariant-loop-mark : goal.invariant-loop-mark

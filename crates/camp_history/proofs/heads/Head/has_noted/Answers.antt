@@ -1,5 +1,5 @@
-use Rattle.camp_history.proofs.Words.{All, ap, ◌∙◌, sym, subst, IsBaseAt, Begins, bases_in, based, slice_index_or}
-use Rattle.camp_history.proofs.Versioned.{noted_at}
+use Rattle.camp_history.proofs.Words.{All, ap, ◌∙◌, sym, subst, IsBaseAt, IsMarkPrefix, bases_in, based, slice_index_or}
+use Rattle.camp_history.proofs.SnapshotLemmas.{noted_at}
 use Rattle.camp_history.proofs.heads.Head.has_noted.Goals as goal
 
 pub agrees-requires : goal.agrees-requires
@@ -13,6 +13,6 @@ agrees-requires g c =
 pub returns-then-noted-base : goal.returns-then-noted-base
 returns-then-noted-base g c =
     let marks = c.args.seat.now.marks in
-    let whole = subst (λ marks. All (λ base. Begins base.marks marks) (bases_in c.seat.inside.bases.items)) (ap (λ seat. seat.marks) c.seat.view_is) c.seat.invariant.begins in
-    let here = noted_at (λ base. Begins base.marks marks) _ _ (ap bases_in c.deref-noted-items.ensures.value) whole c.loop-noted.noted-index c.noted-item.result c.loop-noted-test.true c.noted-item.is in
-    record { begins = λ _. subst (λ list. Begins list marks) c.agrees.ensures here }
+    let whole = subst (λ marks. All (λ base. IsMarkPrefix base.marks marks) (bases_in c.seat.inside.bases.items)) (ap (λ seat. seat.marks) c.seat.view_is) c.seat.invariant.begins in
+    let here = noted_at (λ base. IsMarkPrefix base.marks marks) _ _ (ap bases_in c.deref-noted-items.ensures.value) whole c.loop-noted.noted-index c.noted-item.result c.loop-noted-test.true c.noted-item.is in
+    record { begins = λ _. subst (λ list. IsMarkPrefix list marks) c.agrees.ensures here }

@@ -1,5 +1,5 @@
-use Rattle.camp_history.proofs.Words.{◌≡◌, ◌∷◌, [], ◌++◌, ◌∙◌, sym, ap, map, length, length-append, length-map, arith, All-rest, All-same, Shows, Mark, asked, append_assoc}
-use Rattle.camp_history.proofs.Versioned.{left_first}
+use Rattle.camp_history.proofs.Words.{◌≡◌, ◌∷◌, [], ◌++◌, ◌∙◌, sym, ap, map, length, length-append, length-map, arith, All-rest, All-same, Shows, Mark, seat_and_call, append_assoc}
+use Rattle.camp_history.proofs.SnapshotLemmas.{left_first}
 use Rattle.camp_history.proofs.heads.Head.history.Goals as goal
 
 pub loop-mark-init : goal.loop-mark-init
@@ -7,9 +7,9 @@ loop-mark-init g c =
     let marks = c.args.seat.now.marks in
     let whole : c.marks_from-marks.result ≡ marks = c.marks_from-marks.ensures in
     record {
-      so_far = ap (λ items. items ++ map asked c.marks_from-marks.result) c.in_ok-history.ensures.items ∙ ap (map asked) whole;
+      so_far = ap (λ items. items ++ map seat_and_call c.marks_from-marks.result) c.in_ok-history.ensures.items ∙ ap (map seat_and_call) whole;
       stored = All-same (λ mark. Shows c.args.self.now.store mark.call) c.marks_from-marks.result marks whole c.requires.stored;
-      room = omega (arith, ap length whole, length-map c.args.seat.now.marks asked, c.in_ok-history.ensures.len, c.in_ok-history.ensures.capacity, c.position.ensures.exact);
+      room = omega (arith, ap length whole, length-map c.args.seat.now.marks seat_and_call, c.in_ok-history.ensures.len, c.in_ok-history.ensures.capacity, c.position.ensures.exact);
     }
 
 pub value-requires : goal.value-requires
@@ -26,12 +26,12 @@ loop-mark-preserved g c =
     let items = c.loop-mark.history.items in
     let first : c.loop-mark.marks ≡ mark ∷ left = c.in-Some.ensures in
     let call : c.in_ok-call.call ≡ mark.call.value = c.in_ok-call.ensures ∙ c.value.ensures in
-    let pushed : c.push_reserved.new.self.items ≡ items ++ asked mark ∷ [] = c.push_reserved.ensures.items ∙ ap (λ call. items ++ (mark.seat, call) ∷ []) call in
+    let pushed : c.push_reserved.new.self.items ≡ items ++ seat_and_call mark ∷ [] = c.push_reserved.ensures.items ∙ ap (λ call. items ++ (mark.seat, call) ∷ []) call in
     record {
       so_far =
-          ap (λ list. list ++ map asked left) pushed
-          ∙ append_assoc items (asked mark ∷ []) (map asked left)
-          ∙ ap (λ list. items ++ map asked list) (sym first)
+          ap (λ list. list ++ map seat_and_call left) pushed
+          ∙ append_assoc items (seat_and_call mark ∷ []) (map seat_and_call left)
+          ∙ ap (λ list. items ++ map seat_and_call list) (sym first)
           ∙ past.so_far;
       stored = All-rest (λ mark. Shows c.args.self.now.store mark.call) mark left c.loop-mark.marks first past.stored;
       room = omega (arith, ap length first, past.room, c.push_reserved.ensures.len, c.push_reserved.ensures.capacity);
@@ -40,4 +40,4 @@ loop-mark-preserved g c =
 pub returns-in_err-call-clause-empty : goal.returns-in_err-call-clause-empty
 returns-in_err-call-clause-empty g c = λ none.
     let past = c.loop-mark.invariant in
-    absurd (omega (arith, ap length past.so_far, ap length none, ap length c.in-Some.ensures, length-append c.loop-mark.history.items (map asked c.loop-mark.marks), length-map c.loop-mark.marks asked))
+    absurd (omega (arith, ap length past.so_far, ap length none, ap length c.in-Some.ensures, length-append c.loop-mark.history.items (map seat_and_call c.loop-mark.marks), length-map c.loop-mark.marks seat_and_call))

@@ -1,5 +1,5 @@
-use Rattle.camp_history.proofs.Words.{◌-◌, All, ap, ◌∙◌, sym, subst, arith, length, IsBaseAt, Begins, bases_in, based}
-use Rattle.camp_history.proofs.Versioned.{noted_at}
+use Rattle.camp_history.proofs.Words.{◌-◌, All, ap, ◌∙◌, sym, subst, arith, length, IsBaseAt, IsMarkPrefix, bases_in, based}
+use Rattle.camp_history.proofs.SnapshotLemmas.{noted_at}
 use Rattle.camp_history.proofs.heads.Head.last_noted.Goals as goal
 
 pub returns-clause-base : goal.returns-clause-base
@@ -16,6 +16,6 @@ returns-clause-begins g c =
     let items = c.deref.result.now in
     let marks = c.args.seat.now.marks in
     let some = c.in_ok-last.ensures.item.3.0 in
-    let whole = subst (λ marks. All (λ base. Begins base.marks marks) (bases_in c.seat.inside.bases.items)) (ap (λ seat. seat.marks) c.seat.view_is) c.seat.invariant.begins in
-    subst (λ base. Begins base.version.value marks) (sym c.again.ensures)
-    (noted_at (λ base. Begins base.marks marks) items _ (ap bases_in c.deref.ensures.value) whole (length items - 1) c.in_ok-last.field-0.now (omega (arith, some)) c.in_ok-last.ensures.item.1)
+    let whole = subst (λ marks. All (λ base. IsMarkPrefix base.marks marks) (bases_in c.seat.inside.bases.items)) (ap (λ seat. seat.marks) c.seat.view_is) c.seat.invariant.begins in
+    subst (λ base. IsMarkPrefix base.snapshot.value marks) (sym c.again.ensures)
+    (noted_at (λ base. IsMarkPrefix base.marks marks) items _ (ap bases_in c.deref.ensures.value) whole (length items - 1) c.in_ok-last.field-0.now (omega (arith, some)) c.in_ok-last.ensures.item.1)

@@ -1,10 +1,10 @@
-use Rattle.camp_history.proofs.Words.{length, GetsOn, Leads}
+use Rattle.camp_history.proofs.Words.{length, SeesFurther, IsTrail}
 use Rattle.camp_history.proofs.heads.Head.see_all.Given as goal
 
 abbrev pub invariant-loop-next : goal.invariant-loop-next
 invariant-loop-next g l = record {
-  gets_on : GetsOn l.self l.fn.seat l.seat;
-  leads : Leads l.seat.known l.seat.known.seen l.trail;
+  sees_further : SeesFurther l.self l.fn.seat l.seat;
+  leads : IsTrail l.seat.known l.seat.known.seen l.trail;
 }
 
 abbrev pub decreases-loop-next : goal.decreases-loop-next

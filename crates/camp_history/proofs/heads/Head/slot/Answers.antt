@@ -1,5 +1,5 @@
 use Rattle.camp_history.proofs.Words.{◌≡◌, ap, ◌∙◌, subst, IfSome, slice_index_or, ids_of}
-use Rattle.camp_history.proofs.Versioned.{slot_by}
+use Rattle.camp_history.proofs.SnapshotLemmas.{slot_by}
 use Rattle.camp_history.proofs.heads.Head.slot.Goals as goal
 
 pub returns-clause-id : goal.returns-clause-id

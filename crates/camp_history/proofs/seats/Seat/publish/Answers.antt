@@ -1,4 +1,4 @@
-use Rattle.camp_history.proofs.Words.{◌≡◌, Some, [], ◌<◌, ◌∷◌, ◌++◌, length, refl, sym, ◌∙◌, ap, replay, own, turns, Known, Won, drafted, with_draft, bases_in, marks_in, history_of, entry_of, Mark, begun, IsFirst, map, asked, subst, Publishes, Seated, seated}
+use Rattle.camp_history.proofs.Words.{◌≡◌, Some, [], ◌<◌, ◌∷◌, ◌++◌, length, refl, sym, ◌∙◌, ap, replay, own, entry_count, PassState, Won, drafted, with_draft, bases_in, marks_in, history_of, entry_of, Mark, begun, IsFirst, map, seat_and_call, subst, Publishes, SeatState, seat_state}
 use Rattle.camp_history.proofs.Seeing.{entries_more, history_more, begins_more, all_more, bases_begin, length-own, one_more, begins_same, next_first, next_replays}
 use Rattle.camp_history.proofs.seats.Seat.publish.Given.{Over}
 use Rattle.camp_history.proofs.seats.Seat.publish.Goals.{After-drop-self-inside}
@@ -6,8 +6,8 @@ use Rattle.camp_history.proofs.seats.Seat.publish.Goals as goal
 
 pub exchange_cell-requires-clause-room : goal.exchange_cell-requires-clause-room
 exchange_cell-requires-clause-room g c =
-    let here : turns c.self.inside.pass.number c.self.inside.pass.seen ≡ length (own c.args.self.now.known.number (history_of c.args.self.now)) =
-    ap (turns c.self.inside.pass.number) (sym c.self.invariant.places)
+    let here : entry_count c.self.inside.pass.number c.self.inside.pass.seen ≡ length (own c.args.self.now.known.number (history_of c.args.self.now)) =
+    ap (entry_count c.self.inside.pass.number) (sym c.self.invariant.entries_are)
     ∙ sym (length-own c.self.inside.pass.number (marks_in c.self.inside))
     ∙ ap (λ seat. length (own seat.known.number (history_of seat))) c.self.view_is
     in
@@ -32,21 +32,21 @@ stands g c =
     )
 
 -- what a pass knows after it has won
-abbrev won : Known → Known
-won known = record known { seen = known.seen ++ drafted known ∷ []; ahead = known.seen ++ drafted known ∷ []; parent = 0; place = 0 }
+abbrev won : PassState → PassState
+won known = record known { seen = known.seen ++ drafted known ∷ []; ahead = known.seen ++ drafted known ∷ []; parent = 0; index = 0 }
 
 -- the pass has won
 passed : (g : Over) (c : After-drop-self-inside g) → c.exchange_cell.new.pass ≡ won (with_draft c.self.inside.pass c.args.call.now.index)
 passed g c =
     let won_over : Won (with_draft c.self.inside.pass c.index.result) c.exchange_cell.new.pass = c.if-not-exchange_cell.ensures in
     let index : c.index.result ≡ c.args.call.now.index = c.index.ensures in
-    won_over.is ∙ ap (λ place. won (with_draft c.self.inside.pass place)) index
+    won_over.is ∙ ap (λ index. won (with_draft c.self.inside.pass index)) index
 
 -- the history that the seat began with
 begins : (g : Over) (c : After-drop-self-inside g) → IsFirst g.State.Object.object c.args.self.now.first
 begins g c = subst (IsFirst g.State.Object.object) (ap (λ seat. seat.first) c.self.view_is) c.self.invariant.is_first
 
-leads : (g : Over) (c : After-drop-self-inside g) → replay (begun g.State.Object.object c.args.self.now.first) (map asked (c.self.inside.earlier ++ c.push_reserved.new.self.items)) ≡ Some c.args.next
+leads : (g : Over) (c : After-drop-self-inside g) → replay (begun g.State.Object.object c.args.self.now.first) (map seat_and_call (c.self.inside.earlier ++ c.push_reserved.new.self.items)) ≡ Some c.args.next
 unfolding pushed
 leads g c =
     let object = begun g.State.Object.object c.args.self.now.first in
@@ -61,13 +61,13 @@ invariant_of-self-2 g c =
     let now = c.self.inside.earlier ++ c.push_reserved.new.self.items in
     rw (passed g c) (
     record {
-      places = entries_more marks now (pushed g c) (stands g c) c.self.inside.pass.seen (c.self.inside.pass.seen ++ entry_of (pushed g c) ∷ []) c.self.invariant.places refl;
+      entries_are = entries_more marks now (pushed g c) (stands g c) c.self.inside.pass.seen (c.self.inside.pass.seen ++ entry_of (pushed g c) ∷ []) c.self.invariant.entries_are refl;
       below =
           all_more marks now (pushed g c) (stands g c) (λ mark. mark.seat < c.self.inside.pass.row.seats) c.self.invariant.below (
           let below = c.number-number.ensures.below in rw (← c.number-number.ensures.number) below
           );
-      is_first = next_first g.State.Object.object g.met.State.Object.lawful c.args.self.now.first (begins g c) (map asked now) c.args.next (leads g c);
-      replays = next_replays g.State.Object.object g.met.State.Object.lawful c.args.self.now.first (begins g c) (map asked now) c.args.next (leads g c);
+      is_first = next_first g.State.Object.object g.met.State.Object.lawful c.args.self.now.first (begins g c) (map seat_and_call now) c.args.next (leads g c);
+      replays = next_replays g.State.Object.object g.met.State.Object.lawful c.args.self.now.first (begins g c) (map seat_and_call now) c.args.next (leads g c);
       begins = bases_begin marks now (bases_in c.self.inside.bases.items) (begins_more marks now (pushed g c) (stands g c)) c.self.invariant.begins;
       few = c.self.invariant.few;
     }
@@ -78,10 +78,10 @@ unfolding pushed
 returns g c =
     let here = (goal.at.returns g c).After-drop-self-inside in
     let object = g.State.Object.object in
-    let now : Seated g.row.State.Denot g.row.State-Call.Denot =
+    let now : SeatState g.row.State.Denot g.row.State-Call.Denot =
     record { first = object.first c.args.next; known = c.exchange_cell.new.pass; marks = c.self.inside.earlier ++ c.push_reserved.new.self.items; bases = bases_in c.self.inside.bases.items } in
-    let publishes : Publishes (seated object c.self.inside) c.args.call.now now = record {
-      first = begins_same object g.met.State.Object.lawful c.args.self.now.first (begins g here) (map asked now.marks) c.args.next (leads g here) ∙ sym (ap (λ seat. seat.first) c.self.view_is);
+    let publishes : Publishes (seat_state object c.self.inside) c.args.call.now now = record {
+      first = begins_same object g.met.State.Object.lawful c.args.self.now.first (begins g here) (map seat_and_call now.marks) c.args.next (leads g here) ∙ sym (ap (λ seat. seat.first) c.self.view_is);
       number = ap (λ known. known.number) (passed g here);
       row = ap (λ known. known.row) (passed g here);
       marks = stands g here;

@@ -1,4 +1,4 @@
-use Rattle.camp_history.proofs.Words.{◌≡◌, [], ◌<◌, ◌∷◌, ◌++◌, refl, sym, ◌∙◌, ap, List, bases_in, marks_in, replay, asked, entry_of, history_of, with_mark, Known, Mark, Some, map, subst, begun, IsFirst}
+use Rattle.camp_history.proofs.Words.{◌≡◌, [], ◌<◌, ◌∷◌, ◌++◌, refl, sym, ◌∙◌, ap, List, bases_in, marks_in, replay, seat_and_call, entry_of, history_of, with_mark, PassState, Mark, Some, map, subst, begun, IsFirst}
 use Rattle.camp_history.proofs.Seeing.{entries_more, history_more, begins_more, bases_begin, all_more, one_more, begins_same, next_first, next_replays}
 use Rattle.camp_history.proofs.seats.Seat.step.Given.{Over}
 use Rattle.camp_history.proofs.seats.Seat.step.Goals as goal
@@ -22,8 +22,8 @@ stands g c =
 known : (g : Over) (c : goal.After-drop-self-inside g) → c.advance.new.pass ≡ record c.self.inside.pass { seen = c.self.inside.pass.seen ++ entry_of (pushed g c) ∷ [] }
 unfolding pushed
 known g c =
-    let Then : _ → Known = λ place. record c.self.inside.pass { seen = c.self.inside.pass.seen ++ record { seat = c.args.next.entry.seat; place = place } ∷ [] } in
-    c.advance.ensures.exact ∙ ap Then (sym c.requires.place)
+    let Then : _ → PassState = λ index. record c.self.inside.pass { seen = c.self.inside.pass.seen ++ record { seat = c.args.next.entry.seat; index = index } ∷ [] } in
+    c.advance.ensures.exact ∙ ap Then (sym c.requires.index)
 
 below : (g : Over) (c : goal.After-drop-self-inside g) → c.args.next.entry.seat < c.self.inside.pass.row.seats
 below g c =
@@ -34,12 +34,12 @@ below g c =
 begins : (g : Over) (c : goal.After-drop-self-inside g) → IsFirst g.State.Object.object c.args.self.now.first
 begins g c = subst (IsFirst g.State.Object.object) (ap (λ seat. seat.first) c.self.view_is) c.self.invariant.is_first
 
-leads : (g : Over) (c : goal.After-drop-self-inside g) → replay (begun g.State.Object.object c.args.self.now.first) (map asked (now g c)) ≡ Some c.args.state
+leads : (g : Over) (c : goal.After-drop-self-inside g) → replay (begun g.State.Object.object c.args.self.now.first) (map seat_and_call (now g c)) ≡ Some c.args.state
 unfolding pushed now
 leads g c =
     let object = begun g.State.Object.object c.args.self.now.first in
     ap (replay object) (history_more (marks_in c.self.inside) (now g c) (pushed g c) (stands g c))
-    ∙ ap (λ seat. replay object (history_of seat ++ asked (pushed g c) ∷ [])) c.self.view_is
+    ∙ ap (λ seat. replay object (history_of seat ++ seat_and_call (pushed g c) ∷ [])) c.self.view_is
     ∙ c.requires.state
 
 pub invariant_of-self-2 : goal.invariant_of-self-2
@@ -48,10 +48,10 @@ invariant_of-self-2 g c =
     let marks = marks_in c.self.inside in
     rw (known g c) (
     record {
-      places = entries_more marks (now g c) (pushed g c) (stands g c) c.self.inside.pass.seen (c.self.inside.pass.seen ++ entry_of (pushed g c) ∷ []) c.self.invariant.places refl;
+      entries_are = entries_more marks (now g c) (pushed g c) (stands g c) c.self.inside.pass.seen (c.self.inside.pass.seen ++ entry_of (pushed g c) ∷ []) c.self.invariant.entries_are refl;
       below = all_more marks (now g c) (pushed g c) (stands g c) (λ mark. mark.seat < c.self.inside.pass.row.seats) c.self.invariant.below (below g c);
-      is_first = next_first g.State.Object.object g.met.State.Object.lawful c.args.self.now.first (begins g c) (map asked (now g c)) c.args.state (leads g c);
-      replays = next_replays g.State.Object.object g.met.State.Object.lawful c.args.self.now.first (begins g c) (map asked (now g c)) c.args.state (leads g c);
+      is_first = next_first g.State.Object.object g.met.State.Object.lawful c.args.self.now.first (begins g c) (map seat_and_call (now g c)) c.args.state (leads g c);
+      replays = next_replays g.State.Object.object g.met.State.Object.lawful c.args.self.now.first (begins g c) (map seat_and_call (now g c)) c.args.state (leads g c);
       begins = bases_begin marks (now g c) (bases_in c.self.inside.bases.items) (begins_more marks (now g c) (pushed g c) (stands g c)) c.self.invariant.begins;
       few = c.self.invariant.few;
     }
@@ -60,7 +60,7 @@ invariant_of-self-2 g c =
 pub returns-clause-ok : goal.returns-clause-ok
 unfolding pushed now
 returns-clause-ok g c =
-    let same = begins_same g.State.Object.object g.met.State.Object.lawful c.args.self.now.first (begins g c) (map asked (now g c)) c.args.state (leads g c) in
+    let same = begins_same g.State.Object.object g.met.State.Object.lawful c.args.self.now.first (begins g c) (map seat_and_call (now g c)) c.args.state (leads g c) in
     let first = same ∙ sym (ap (λ seat. seat.first) c.self.view_is) in
     (λ k. record { first = first k; known = known g c k; marks = stands g c k; bases = bases_in c.self.inside.bases.items })
     ∙ ap (λ seat. with_mark seat (pushed g c)) c.self.view_is

@@ -1,20 +1,20 @@
-use Rattle.camp_row.proofs.Words.{arith, ◌≡◌, ◌+◌, ◌∷◌, [], ◌++◌, sym, ap, ◌∙◌, length, Entry, own, cell_of, Known, Part, known_of, part, known, place_word, Advanced}
+use Rattle.camp_row.proofs.Words.{arith, ◌≡◌, ◌+◌, ◌∷◌, [], ◌++◌, sym, ap, ◌∙◌, length, Entry, own, cell_of, PassState, Part, known_of, part, known, index_word, Advanced}
 use Rattle.camp_row.proofs.Cells.{own_of_next, head_word-push}
 use Rattle.camp_row.proofs.PassOfRow.{is_of, next_of, at_part, known_at, steps_in, next_is, cut_pushed}
 use Rattle.camp_row.proofs.Loading.{advances}
 use Rattle.camp_row.proofs.rows.Row.advance.Goals as goal
 
-pub place_word-requires : goal.place_word-requires
-place_word-requires c = let n = next_of (is_of c.pass.inside c.self.inside c.self.invariant c.pass.view_is c.self.view_is c.requires.row) c.pass.view_is c.pass.invariant.sound c.requires.next in omega arith
+pub index_word-requires : goal.index_word-requires
+index_word-requires c = let n = next_of (is_of c.pass.inside c.self.inside c.self.invariant c.pass.view_is c.self.view_is c.requires.row) c.pass.view_is c.pass.invariant.sound c.requires.next in omega arith
 
 pub load-requires : goal.load-requires
 load-requires c =
     let n = next_of (is_of c.pass.inside c.self.inside c.self.invariant c.pass.view_is c.self.view_is c.requires.row) c.pass.view_is c.pass.invariant.sound c.requires.next in
     let p : Part = part c.pass.inside in
-    let word_is : c.place_word.result ≡ place_word c.args.next.cell = c.place_word.ensures in
-    let cell_is : c.place_word.result ≡ place_word (cell_of p.seats p.seen n.shorter.next) = word_is ∙ ap place_word (n.held.is ∙ ap (λ (e : Entry). cell_of p.seats p.seen e) (sym n.entry)) in
+    let word_is : c.index_word.result ≡ index_word c.args.next.cell = c.index_word.ensures in
+    let cell_is : c.index_word.result ≡ index_word (cell_of p.seats p.seen n.shorter.next) = word_is ∙ ap index_word (n.held.is ∙ ap (λ (e : Entry). cell_of p.seats p.seen e) (sym n.entry)) in
     steps_in c.self.inside c.pass.inside.seat n.held.of.table (λ n. n) Advanced (omega arith) c.pass.invariant.alone
-    (advances c.self.inside.table.shared.key.seats c.self.inside.table.shared.key.per_seat c.pass.inside.seat.id p c.place_word.result n.shorter cell_is)
+    (advances c.self.inside.table.shared.key.seats c.self.inside.table.shared.key.per_seat c.pass.inside.seat.id p c.index_word.result n.shorter cell_is)
 
 pub invariant_of-pass : goal.invariant_of-pass
 invariant_of-pass c =
@@ -30,12 +30,12 @@ invariant_of-pass c =
       alone = step.is;
       no_slot = c.load.ensures.2.0 ∙ was.no_slot;
       number = was.number;
-      turn = was.turn ∙ ap length (sym own_is);
+      published = was.published ∙ ap length (sym own_is);
       last = ap (λ k. k + 1) (n.held.is ∙ ap (cell_of p.seats p.seen) (sym e_is)) ∙ sym (head_word-push p.seats p.seen e);
       head = was.head;
       number_below = was.number_below;
-      turn_within = was.turn_within;
-      sound = record { front = record { rest = step.next.rest; is = cut_pushed p.seen step.next.rest e ∙ step.next.is }; own_seen = was.sound.own_seen ∙ sym own_is; fits = was.sound.fits };
+      published_within = was.published_within;
+      sound = record { prefix = record { rest = step.next.rest; is = cut_pushed p.seen step.next.rest e ∙ step.next.is }; own_seen = was.sound.own_seen ∙ sym own_is; fits = was.sound.fits };
     })
 
 pub returns : goal.returns
@@ -48,5 +48,5 @@ returns c = record {
       let was : known c.pass.inside ≡ c.args.pass.now = c.pass.view_is in
       let table : c.load.new.seat.table_id ≡ c.pass.inside.seat.table_id = c.load.ensures.0 in
       known_at c.load.new.seat.table_id c.load.new.seat.me.0.parts (record p { seen = p.seen ++ step.next.next ∷ [] }) step.is
-      ∙ ((λ k. known_of (table k) (record p { seen = p.seen ++ e_is k ∷ [] })) ∙ ap (λ (x : Known). record x { seen = x.seen ++ c.args.next.entry ∷ [] }) was);
+      ∙ ((λ k. known_of (table k) (record p { seen = p.seen ++ e_is k ∷ [] })) ∙ ap (λ (x : PassState). record x { seen = x.seen ++ c.args.next.entry ∷ [] }) was);
 }

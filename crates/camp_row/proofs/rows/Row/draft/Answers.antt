@@ -1,5 +1,5 @@
-use Rattle.camp_row.proofs.Words.{arith, ◌≡◌, ◌∷◌, [], ap, ◌∙◌, Part, part, parent_word, place_word, StoredParent, StoredPlace}
-use Rattle.camp_row.proofs.Drafting.{drafts_parent, drafts_place}
+use Rattle.camp_row.proofs.Words.{arith, ◌≡◌, ◌∷◌, [], ap, ◌∙◌, Part, part, parent_word, index_word, StoredParent, StoredIndex}
+use Rattle.camp_row.proofs.Drafting.{drafts_parent, drafts_index}
 use Rattle.camp_row.proofs.PassOfRow.{at_own, steps_in}
 use Rattle.camp_row.proofs.rows.Row.draft.Goals as goal
 
@@ -16,6 +16,6 @@ store-requires-2 c =
     let seat = c.store.new.seat in
     let q : Part = record (part c.pass.inside) { parent = c.pass.inside.last } in
     let stored : seat.me.0.parts ≡ q ∷ [] = c.store.ensures.2.1 in
-    let word_is : c.place_word.result ≡ place_word c.own_cell-cell.result = c.place_word.ensures in
-    steps_in c.self.inside seat (c.store.ensures.0 ∙ at.of.table) (λ _. c.args.place) (λ _. StoredPlace c.args.place) (omega arith) stored
-    (drafts_place c.self.inside.table.shared.key.seats c.self.inside.table.shared.key.per_seat seat.id q at.room c.place_word.result c.args.place (word_is ∙ ap place_word at.own))
+    let word_is : c.index_word.result ≡ index_word c.own_cell-cell.result = c.index_word.ensures in
+    steps_in c.self.inside seat (c.store.ensures.0 ∙ at.of.table) (λ _. c.args.index) (λ _. StoredIndex c.args.index) (omega arith) stored
+    (drafts_index c.self.inside.table.shared.key.seats c.self.inside.table.shared.key.per_seat seat.id q at.room c.index_word.result c.args.index (word_is ∙ ap index_word at.own))

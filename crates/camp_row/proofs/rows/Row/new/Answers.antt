@@ -1,5 +1,5 @@
 use Rattle.camp_row.proofs.Words.{◌≡◌, ◌+◌, ◌*◌, ◌∷◌, [], sym, subst, ◌∙◌, replicate, Knowledge, all_fresh, IsRuled}
-use Rattle.camp_row.proofs.Dealing.{opens}
+use Rattle.camp_row.proofs.Splitting.{opens}
 use Rattle.camp_row.proofs.rows.Row.new.Goals as goal
 
 pub of_words-requires : goal.of_words-requires
