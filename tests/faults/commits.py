@@ -76,7 +76,7 @@ def fail_at(report, program, folder, turn):
         return report.expect(f"{what}: answers", len(disk.answers), 1)
     for count, (answer, content, asked) in enumerate(disk.answers, 1):
         if failed_at is not None:
-            report.expect(f"{what}: answer {count}", (answer, asked), (b"the file has failed before", failed_at))
+            report.expect(f"{what}: answer {count}", (answer, asked), (b"an earlier write to the file has failed", failed_at))
         elif answer == b"ok":
             report.expect(f"{what}: the file at ok {count}", content, encode([TITLE, *old, *new[:count]]))
         else:

@@ -7,11 +7,11 @@ from tests.harness.paths import EXAMPLES, read
 
 SECONDS, GATE = 6, "after camp_shell"
 CLIENT = f"{EXAMPLES}/clients/camp_client.py"
-NO_NUMBER = b"camp_shell: the line before a request is no number of 1 to 10 digits\n"
+NO_NUMBER = b"camp_shell: the line before a request is not a number of 1 to 10 digits\n"
 TOO_LARGE = b"camp_shell: a request has more than 268435456 bytes\n"
 CUT = b"camp_shell: the input ends inside a request\n"
 NO_BRANCH = (b"refused 4 BRANCH: there is no such branch\nBRANCH is other.\nThere is no branch other.\nBranches: main\n"
-             b"The command branches tells which there are, and branch makes one.\n")
+             b"branches lists those that exist, and branch makes one.\n")
 # Requests that follow one another, and their answers.
 REQUESTS = [
     (b"", b""),
@@ -27,7 +27,7 @@ REQUESTS = [
     (b"annotate main f\n", b"annotate 1\nb =one\n"),
     (b"x" * 1_048_577, b"fault 1 unknown command\n"),
     (b"names other\nwhy\r\n", b"refused 4 other\nwhy 7\nrefused 4 other\n>names other\n" + NO_BRANCH),
-    (b"why", b"why 1\nNo command had a fault or was refused here.\n"),
+    (b"why", b"why 1\nNo command had a fault or was refused so far.\n"),
 ]
 # What stands where a frame has to begin, and the error.
 GARBAGE = [

@@ -107,7 +107,7 @@ def refused_words(store, path):
     os.link(path, second)
     for words in (("--store", store.folder), ("--check-store", store.folder), ("--store", "/dev/full"), ("--check-store", "/dev/full"), ("--store", second)):
         done = programs.run([store.program, *words], stdin=subprocess.DEVNULL)
-        store.expect(f"{words}", (done.returncode, done.stderr), (3, b"camp_shell: %s: no plain file of one name\n" % words[1].encode()))
+        store.expect(f"{words}", (done.returncode, done.stderr), (3, b"camp_shell: %s: not a regular file, or a file with several hard links\n" % words[1].encode()))
     os.remove(second)
     store.expect("files beside it", sorted(os.listdir(store.folder)), ["store", "text"])
 
@@ -138,9 +138,9 @@ def few_changes(store):
         "record main p2 add f2",
         "BRANCH is main.",
         "The branch has 2 changes, and the patch 1 more: 2 is the most.",
-        "Record in a branch with fewer changes, or take patches out of this one by obliterate.",
+        "Record in a branch with fewer changes, or obliterate patches of this one.",
     )
-    of_branches = why("branch z main", "FROM is main.", "There are 3 branches, and 3 is the most.", "Record in one of the branches that there are.")
+    of_branches = why("branch z main", "FROM is main.", "There are 3 branches, and 3 is the most.", "Record in one of the existing branches.")
     expect("opened again", store.run(path, asked).stdout, b"refused 9\n%sok 5\nok 6\nrefused 9\nrefused 9\n%s" % (of_branch, of_branches))
     expect("opened with the same limits", store.run(path, b"record y p3 add f3\n", allowing(2, 3)).stdout, b"refused 9\n")
     content = encode([title_with(2, 3), *made, *more])
@@ -151,7 +151,7 @@ def few_changes(store):
 
 def why(command, *lines):
     """What `why` says after a command that met a limit."""
-    found = ["refused 9", ">" + command, "refused 9: a limit would be passed", *lines]
+    found = ["refused 9", ">" + command, "refused 9: a limit would be exceeded", *lines]
     return "\n".join([f"why {len(found)}", *found, ""]).encode()
 
 

@@ -69,7 +69,7 @@ class NothingToDo(Refused):
 
 class TooLarge(Refused):
     """A limit of the repository would be passed."""
-    number, message = 9, "a limit would be passed"
+    number, message = 9, "a limit would be exceeded"
 
 
 class DoesNotApply(Refused):

@@ -182,7 +182,7 @@ impl fmt::Display for Refusal {
             Refusal::PatchExists(patch) => write!(f, "some branch has a patch {patch}"),
             Refusal::NoPatch(patch) => write!(f, "the branch has no patch {patch}"),
             Refusal::NothingToDo => f.write_str("the branch has all that would be pulled"),
-            Refusal::TooLarge => f.write_str("a limit would be passed"),
+            Refusal::TooLarge => f.write_str("a limit would be exceeded"),
             Refusal::DoesNotApply => f.write_str("the change does not apply"),
             Refusal::Depends { patch, on } => write!(f, "{patch} depends on {on}"),
             Refusal::Diverged(patch) => write!(f, "the branches have diverged at {patch}"),

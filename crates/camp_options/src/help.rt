@@ -4,12 +4,12 @@
 pub const VERSION: &str = "0.1.0";
 
 pub(crate) const SUMMARY: &str =
-    "A script comes on standard input, and its answers go to standard output. --help has the language.";
+    "Reads a script from standard input and writes its answers to standard output. --help has the language.";
 
 pub(crate) const USAGE: &str = "camp [OPTIONS] < SCRIPT";
 
 pub(crate) const REFERENCE: &str =
-    "A script comes on standard input, and its answers go to standard output. A script is a list of
+    "Reads a script from standard input and writes its answers to standard output. A script is a list of
 commands, each on a line. They work on branches, which are lists of named patches; a patch changes
 files of lines. At first there is one branch, main, without patches. Outside the bodies of edits,
 lines of spaces and tabs alone are skipped, and so are lines whose first word begins with #.
@@ -47,51 +47,51 @@ Commands, each with an example:
   tree BRANCH                   show the files                     tree main
   conflicts BRANCH              show the patches in conflict       conflicts main
   names BRANCH                  show the patches in their order    names main
-  client                        what follows is asked by the next client, in a thread of its own
+  client                        what follows is of the next client, in a thread of its own
 
-LINE counts from 1: the old lines stand there from LINE on. To append, LINE is the number of lines of
-the file plus 1. Below an edit stand the old lines, each behind a -, then the new ones, each behind
-a +, and then end. Nothing stands before the sign, and no blanks before or behind end.
+LINE counts from 1: the old lines begin at LINE. To append, LINE is the number of lines of
+the file plus 1. Below an edit come the old lines, each after a -, then the new ones, each after
+a +, and then end. Nothing comes before the sign, and no blanks before or after end.
 
 A name has 1 to 40 of a-z, 0-9 and -, and does not begin with -. A path has 1 to 200 printing ASCII
 characters without spaces; its parts between / are not empty, not . and not .. .
 
-Limits of a script: 63 clients; 65536 commands that write for each of them, and for what stands
+Limits of a script: 63 clients; 65536 commands that write for each of them, and for what comes
 before the first; 4096 bytes in a line of an edit. A line ends with LF alone. A CR before it is a byte
 of the line: a command with one is refused, with bad name, bad path, bad number, bad edit, bad group,
 wrong number of words or unknown command. Take the CR out.
 
 Answers:
   ok NUMBER                     the call was accepted, as the one of this number
-  tree FILES                    then each file as: file PATH LINES, and its lines behind =
+  tree FILES                    then each file as: file PATH LINES, and its lines after =
   conflicts PAIRS               then each pair of patches that are in conflict
   names COUNT                   then each name
   refused NUMBER ..             the call was not accepted, and nothing has changed; see below. The
-                                commands behind it go on
+                                commands after it go on
   busy LOST                     the call lost LOST times to other clients; ask it again, or run with a
                                 greater --tries, or with --serial
   full                          the client has no room for one more accepted call; a script within its
                                 limits is never answered so
   client NUMBER                 what follows answers the calls of this client
-  history COUNT                 with --history: each accepted call, behind its number and its client
+  history COUNT                 with --history: each accepted call, after its number and its client
 
 Refusals, and what to do:
   4 BRANCH                      there is no such branch: make it with branch
-  5 BRANCH                      there is such a branch: take another name
+  5 BRANCH                      there is a branch of this name: take another name
   6 NAME                        some branch has a patch of this name: take another name
   7 NAME                        the branch has no such patch: see names
   8                             there is nothing to pull: TO has it all
   9                             too large: 65535 lines in a side of an edit, 1000000 lines in a file and,
                                 without --limits, 256 branches and 4096 changes in a branch are the most
-  10                            the change does not fit the files: see tree, and mend path, LINE or lines
-  11 PATCH ON                   PATCH stands on ON: pull ON too, or obliterate PATCH too
-  12 NAME                       both branches have this patch, and in one of them it can't come before
+  10                            the change does not fit the files: see tree; correct path, LINE or lines
+  11 PATCH ON                   PATCH depends on ON: pull ON too, or obliterate PATCH too
+  12 NAME                       both branches have this patch, and in one of them it can't be moved before
                                 what only that one has, or the two have it in forms that do not agree:
-                                obliterate it and what stands on it in one of them, and pull again
+                                obliterate it and what depends on it in one of them, and pull again
   13 LEFT RIGHT                 the two do not merge: pull without RIGHT, or obliterate LEFT first
   14 BRANCH                     the two branches are one: name another
 
-A conflict is no refusal. Patches in conflict have no effect; record a patch that says what the lines
+A conflict is not a refusal. Patches in conflict have no effect; record a patch that says what the lines
 are to be, or obliterate one of the two.
 
 Exit status:
@@ -101,4 +101,4 @@ Exit status:
   3  memory ran out, or input or output failed; standard error says which
 
 More: docs/language.md has the whole language and its faults, and examples/ has scripts to run. A
-conversation (camp_shell) tells the cause of a fault or a refusal: ask it why.";
+conversation (camp_shell) gives the cause of a fault or a refusal: ask it why.";

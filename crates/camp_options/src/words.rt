@@ -49,7 +49,7 @@ fn command<'a>(alloc: Global) -> Result<Command<'a>, AllocError>
         .arg(flag(
             alloc,
             "history",
-            "Write the history of accepted calls behind the answers",
+            "Write the history of accepted calls after the answers",
         ))?
         .arg(limits(alloc))
 }

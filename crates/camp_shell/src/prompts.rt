@@ -7,7 +7,7 @@ use std::io::{self, BufRead, Read, Write};
 
 /// Text before the first prompt.
 const GREETING: &[u8] =
-    b"camp holds branches of named patches. help tells the commands, why what was wrong; end ends a body, done a group, quit all.\n";
+    b"camp keeps branches of named patches. help lists the commands, why explains the last fault or refusal; end ends a body, done a group, quit the session.\n";
 
 /// A conversation with prompts.
 #[derive(Drop)]

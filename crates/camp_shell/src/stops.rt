@@ -64,7 +64,7 @@ impl Stop<'_> {
                 tell_fault(
                     rt,
                     PROGRAM,
-                    &format_args!("{file}: no plain file of one name"),
+                    &format_args!("{file}: not a regular file, or a file with several hard links"),
                     3,
                 )
             }

@@ -123,7 +123,7 @@ fn open_store<'a>(
     remove_empty_log(rt, store)?;
     if kept.left_out() > 0 {
         let _ = eprintln!(rt;
-            "camp_shell: {store}: {} bytes behind the end count for nothing",
+            "camp_shell: {store}: {} bytes after the end are ignored",
             kept.left_out()
         );
     }

@@ -38,54 +38,57 @@ const SUMMARY: &str =
 help lists the commands.";
 
 const REFERENCE: &str =
-    "Commands come on standard input, as in a script of camp. Each is answered on standard output as soon
-as its last line is read, and the answer is flushed: so a program can ask, and read the answer, before
-it asks again. An answer is the text that camp gives. Its first line tells what follows: tree FILES is
-followed by so many files, each file PATH LINES with so many lines, and any other word with a COUNT by
-so many lines. Alone stand ok NUMBER, refused NUMBER .., no file and these:
+    "Reads commands from standard input, in the language of camp's scripts, and answers each on standard
+output as soon as its last line is read. The answer is flushed, so a program can send a command and
+wait for its answer before it sends the next. Answers are those of camp. The first line says what
+follows: after tree FILES come so many files, each file PATH LINES with so many lines; after any
+other word with a COUNT come so many lines. ok NUMBER, refused NUMBER .. and no file are alone, and
+so are these:
 
-  fault LINE KIND               the command has a fault; lines count from the beginning. What follows
-                                is read from the next line on, and behind a fault in a body or in a
-                                group from behind its end or its done
-  memory                        there was no memory for the command or its answer; nothing has changed
+  fault LINE KIND               the command has a fault; lines count from the beginning. Reading goes on
+                                at the next line, and after a fault in a body or a group after its end
+                                or its done
+  memory                        out of memory for the command or its answer; nothing has changed
 
-Lines without words and lines whose first word begins with # are not answered. client is no command
-here, and neither is a line of more than 1048576 bytes. Questions are commands, too: branches, file,
-needs, held, missing, along, show, annotate, open, side, marks, graph, whatif, history and keep. The
-command help tells how all are written, and help COMMAND more about one; why tells the cause of the last
-fault or refusal, and what can be done.
+Lines without words and lines whose first word begins with # are not answered. client is not a
+command here, and neither is a line of more than 1048576 bytes. Questions are commands, too:
+branches, file, needs, held, missing, along, show, annotate, open, side, marks, graph, whatif,
+history and keep. The command help lists them all, help COMMAND shows more about one, and why gives
+the cause of the last fault or refusal, and what can be done.
 
-With --frames a request is a line with its number of bytes, in 1 to 10 digits, and then so many bytes,
-268435456 at most. It is answered so, too: by a line with the number of bytes of its answer, and then
-these. The answer is what a conversation of just these bytes is answered from here on: a body that is not
-ended has its fault, several commands have their answers one behind another, and nothing has none.
+With --frames a request is a line with its number of bytes, in 1 to 10 digits, followed by these
+bytes, at most 268435456. Its answer has the same form. The answer is that of a conversation of just
+these bytes: a body without its end is a fault, several commands have their answers one after
+another, and nothing has none.
 
-With --prompt, and where standard input and output are terminals, camp> stands before each command and
-....> before each line of a body or a group; the command quit ends the conversation.
+With --prompt, and if standard input and output are terminals, camp> is written before each command
+and ....> before each line of a body or a group; the command quit ends the conversation.
 
-With --load the commands of these files are asked first, and their answers are not shown. Where one of
-them is answered by fault, refused or memory, nothing more is read: standard error says the file, the
-line where the command begins, and the answer.
+With --load the commands of these files are executed first, and their answers are not written. If
+one of them is answered by fault, refused or memory, nothing more is read: standard error has the
+file, the line where the command begins, and the answer.
 
-With --export no commands are read. The branch is written on standard output as git fast-import reads it:
-on refs/heads/BRANCH a commit for each patch, with the files of the branch up to it. What git can't hold
-is refused before anything is written: a file that is also a folder, and a part .git of a path.
+With --export no commands are read. The branch is written on standard output for git fast-import: on
+refs/heads/BRANCH a commit for each patch, with the files of the branch up to it. What git can't
+contain is refused before anything is written: a file that is also a folder, and a path with .git
+between its /.
 
-With --store the repository is kept in this file, which is made where it is not there: each accepted call
-is on the disk before it is answered, and the next conversation over the file goes on from there. Files
-that are loaded are kept, too, all or none. Where calls can't be kept, they are not answered, and the
-status is 3. A file keeps the --limits that it was made with, too: it is opened with these or without
-the option, and with others it is refused. With --check-store it is told how many calls a file keeps, its
-bytes, the digest of all, and whether the end is whole; nothing is changed. docs/store.md has more.
+With --store the repository is stored in this file, which is made if it does not exist: each
+accepted call is durable before it is answered, and the next conversation over the file continues
+from there. Files that are loaded are stored, too, all or none. If calls can't be stored, they are
+not answered, and the status is 3. A store keeps the --limits that it was made with: it is opened
+with these or without the option, and refused with others. --check-store reports how many calls a
+store contains, its bytes, the digest of all, and whether its end is whole; it changes nothing.
+docs/store.md has more.
 
 Exit status:
   0  the input has ended, whatever was answered
   1  a command of a file was answered by fault or refused; with --export, there is no such branch, or git
-     can't hold it; with --frames, a line that is no number, a greater number, or an input that ends
+     can't contain it; with --frames, a line that is not a number, a greater number, or an input that ends
      inside a request
   2  the command line is refused
-  3  memory ran out for the lines of a command or for a command of a file, or a file, input or output
-     failed; standard error says which
+  3  out of memory for the lines of a command or for a command of a file, or a file, input or output failed;
+     standard error says which
   4  a line has no number below 2^64: no conversation comes to that
   141  nobody reads the output any more; standard error says nothing
 
@@ -162,7 +165,7 @@ fn frames<'a>(alloc: Global) -> Result<Arg<'a>, AllocError> {
         .long("frames")
         .action(ArgAction::SetTrue)
         .help(
-            "Read requests and write answers in frames: a number of bytes on a line, and then so many",
+            "Read requests and write answers in frames: a line with the number of bytes, then the bytes",
         )
         .conflicts_with("export")
 }
@@ -181,7 +184,7 @@ fn store<'a>(alloc: Global) -> Arg<'a> {
         .long("store")
         .value_name("FILE")
         .help(
-            "Keep the repository in this file; each accepted call is on the disk before it is answered",
+            "Store the repository in this file; each accepted call is durable before it is answered",
         )
 }
 
@@ -200,7 +203,7 @@ fn check<'a>(alloc: Global) -> Result<Arg<'a>, AllocError> {
     Arg::new(alloc, "check-store")
         .long("check-store")
         .value_name("FILE")
-        .help("Tell what a file keeps, and change nothing")
+        .help("Report what a store contains, and change nothing")
         .conflicts_with("store")?
         .conflicts_with("load")?
         .conflicts_with("export")?

@@ -184,7 +184,7 @@ ServesAt from answer to = Serves from.left to.left from.held to.held from.histor
 
 -- the words that report a fault
 abbrev pub frame_words : FrameFault → List ℕ
-frame_words NoNumber = codes "the line before a request is no number of 1 to 10 digits"
+frame_words NoNumber = codes "the line before a request is not a number of 1 to 10 digits"
 frame_words TooLarge = codes "a request has more than 268435456 bytes"
 frame_words Cut = codes "the input ends inside a request"
 frame_words (Talk fault) = fault_words fault

@@ -26,64 +26,64 @@ summary topic.Record = page (
     codes "record BRANCH NAME group: record several changes, which follow, up to done" ∷ [])
 summary topic.Pull = page (
     codes "pull FROM TO: bring to TO all patches of FROM that it lacks" ∷
-    codes "pull FROM TO NAME ..: bring those of these names" ∷ [])
-summary topic.Obliterate = page (codes "obliterate BRANCH NAME ..: take patches out of a branch" ∷ [])
+    codes "pull FROM TO NAME ..: bring the patches of these names" ∷ [])
+summary topic.Obliterate = page (codes "obliterate BRANCH NAME ..: remove patches from a branch" ∷ [])
 summary topic.Tree = page (codes "tree BRANCH: the files of a branch" ∷ [])
 summary topic.Conflicts = page (codes "conflicts BRANCH: the pairs of patches of a branch that are in conflict" ∷ [])
 summary topic.Names = page (codes "names BRANCH: the patches of a branch" ∷ [])
 summary topic.Branches = page (codes "branches: the branches, in order of creation" ∷ [])
 summary topic.File = page (codes "file BRANCH PATH: the lines of a file" ∷ [])
-summary topic.Needs = page (codes "needs BRANCH NAME ..: what these patches of a branch need there" ∷ [])
-summary topic.Held = page (codes "held BRANCH NAME ..: what must go where these patches are taken out" ∷ [])
+summary topic.Needs = page (codes "needs BRANCH NAME ..: the patches that these depend on" ∷ [])
+summary topic.Held = page (codes "held BRANCH NAME ..: the patches that depend on these" ∷ [])
 summary topic.Missing = page (codes "missing FROM TO: the patches that FROM has and TO lacks" ∷ [])
-summary topic.Along = page (codes "along FROM TO NAME ..: what a pull of these patches has to list" ∷ [])
-summary topic.Show = page (codes "show BRANCH NAME: a patch as it stands in a branch" ∷ [])
-summary topic.Annotate = page (codes "annotate BRANCH PATH: the lines of a file, and which patch put each there" ∷ [])
-summary topic.Open = page (codes "open BRANCH: the pairs of patches in conflict that nothing has settled yet" ∷ [])
-summary topic.Side = page (codes "side BRANCH NAME: the changes that a patch in conflict says" ∷ [])
-summary topic.Marks = page (codes "marks BRANCH PATH: a file with the open sides of its conflicts" ∷ [])
-summary topic.Graph = page (codes "graph BRANCH [NAME ..]: how the patches hang together, for Graphviz" ∷ [])
-summary topic.WhatIf = page (codes "whatif COMMAND: what a command would be answered; nothing changes" ∷ [])
+summary topic.Along = page (codes "along FROM TO NAME ..: the patches that a pull of these has to list" ∷ [])
+summary topic.Show = page (codes "show BRANCH NAME: a patch in the form that the branch has" ∷ [])
+summary topic.Annotate = page (codes "annotate BRANCH PATH: the lines of a file, each with the patch that added it" ∷ [])
+summary topic.Open = page (codes "open BRANCH: the pairs of patches whose conflict is unresolved" ∷ [])
+summary topic.Side = page (codes "side BRANCH NAME: the changes that a patch in conflict asks for" ∷ [])
+summary topic.Marks = page (codes "marks BRANCH PATH: a file with the unresolved sides of its conflicts" ∷ [])
+summary topic.Graph = page (codes "graph BRANCH [NAME ..]: dependencies and conflicts of patches, for Graphviz" ∷ [])
+summary topic.WhatIf = page (codes "whatif COMMAND: the answer that a command would get; nothing changes" ∷ [])
 summary topic.Why = page (codes "why: the cause of the last fault or refusal, and what can be done" ∷ [])
 summary topic.History = page (codes "history: the accepted commands" ∷ [])
-summary topic.Keep = page (codes "keep: a script that gives the repository back" ∷ [])
+summary topic.Keep = page (codes "keep: a script that makes the repository again" ∷ [])
 summary topic.Help = page (
     codes "help: all commands" ∷
     codes "help COMMAND: more about one" ∷
-    codes "help refused: what the refusals say" ∷
+    codes "help refused: what each refusal means" ∷
     codes "help refused NUMBER: one of them, and what can be done" ∷ [])
 
 -- more about a command, if there is more to say
 abbrev pub details : Topic → List ℕ
 details topic.Record = page (
-    codes "A body has the old lines, each behind -, and then the new ones, each behind +." ∷
+    codes "A body has the old lines, each after -, and then the new ones, each after +." ∷
     codes "A group has 1 to 64 changes: add PATH, remove PATH, or edit PATH LINE with its body." ∷ [])
-details topic.Obliterate = page (codes "No patch that stays may depend on one that goes: held tells which do." ∷ [])
-details topic.Needs = page (codes "The patches themselves are told, too, all in the order of the branch." ∷ [])
-details topic.Held = page (codes "The patches themselves are told, too, all in the order of the branch." ∷ [])
-details topic.Missing = page (codes "Where nothing refuses it, this is what pull FROM TO brings." ∷ [])
+details topic.Obliterate = page (codes "No patch that stays may depend on a removed one: held lists those that do." ∷ [])
+details topic.Needs = page (codes "It lists these patches, too, all in the order of the branch." ∷ [])
+details topic.Held = page (codes "It lists these patches, too, all in the order of the branch." ∷ [])
+details topic.Missing = page (codes "If it is not refused, pull FROM TO brings these." ∷ [])
 details topic.Along = page (
-    codes "Those that TO lacks, and what they need behind what both have, in the order of FROM." ∷ [])
+    codes "Those that TO lacks, and what they need after the patches that both have, in the order of FROM." ∷ [])
 details topic.Show = page (
     codes "Its catches, a line for each: [PATCH], or (EFFECT, CONFLICTS, IDENTITY) in a conflict." ∷
-    codes "Then what they change, as a script has it." ∷ [])
-details topic.Open = page (codes "A conflict is settled where patches on top change its lines, at each of its places." ∷ [])
+    codes "Then their changes, as in a script." ∷ [])
+details topic.Open = page (codes "A conflict is resolved once later patches change its lines, at each of its places." ∷ [])
 details topic.Side = page (
     codes "1 to 64 of them can be recorded: between record BRANCH NAME group and done." ∷ [])
 details topic.Marks = page (
-    codes "Lines behind =. At each place conflict SIDES LINES, and what stands there; then of each" ∷
-    codes "patch side NAME LINES, and behind + what it would put there." ∷ [])
+    codes "Lines after =. At each conflict a line conflict SIDES LINES, and the lines there; then for each" ∷
+    codes "patch side NAME LINES, and after + the lines that it would put there." ∷ [])
 details topic.Graph = page (
-    codes "Where patches are named: these, what they need, and what needs them." ∷
-    codes "An arrow leads to what a patch needs directly; a line joins two in conflict, which is red" ∷
-    codes "and bold where it is open, and dashed and pale where it is settled." ∷ [])
+    codes "If patches are named: these, what they need, and what needs them." ∷
+    codes "An arrow leads to what a patch needs directly; a line joins two in conflict: red and bold" ∷
+    codes "if it is unresolved, dashed and pale if it is resolved." ∷ [])
 details topic.WhatIf = page (
     codes "If it would be accepted: the conflicts that its branch would have, the pairs that would become" ∷
     codes "unresolved and those that would be resolved, and the files." ∷ [])
 details topic.Why = page (
-    codes "Its answer, and its line behind >. Of a refusal what that says, what stands against the command," ∷
-    codes "and what can be done; of a fault what is to be seen in the line, and the rule." ∷ [])
-details topic.History = page (codes "Of each its number, its seat, which is 0, and its words; of a body and a group the counts." ∷ [])
+    codes "Its answer, and its line after >. For a refusal: what it means, what prevents the command," ∷
+    codes "and what can be done; for a fault: what is wrong in the line, and the rule." ∷ [])
+details topic.History = page (codes "For each its number, its seat (0), and its words; for a body or a group the counts." ∷ [])
 details other = []
 
 -- an example of a command

@@ -183,8 +183,8 @@ nothing_text state other = []
 
 -- the hint if one patch depends on another: pull both, or take both out
 abbrev pub depends_cure : ParsedCommand → List ℕ
-depends_cure (parsed.Call (call.Obliterate branch names)) = page (codes "List PATCH too; held tells all that has to go." ∷ [])
-depends_cure other = page (codes "List ON too; along tells all that a pull has to list." ∷ [])
+depends_cure (parsed.Call (call.Obliterate branch names)) = page (codes "List PATCH too; held lists all that have to go." ∷ [])
+depends_cure other = page (codes "List ON too; along lists all that the pull needs." ∷ [])
 
 -- text: there is no patch of a name, after the word for what lacks it
 abbrev pub no_patch_text : List ℕ → List ℕ

@@ -45,43 +45,43 @@ number_of reason.SameBranch = codes "14"
 
 -- the form of a refusal, and its meaning; the first three are reported as faults
 abbrev pub saying : Reason → List ℕ
-saying reason.BadName = page (codes "1: a word is no name; it is told as the fault bad name" ∷ [])
-saying reason.BadPath = page (codes "2: a word is no path; it is told as the fault bad path" ∷ [])
-saying reason.BadLine = page (codes "3: a line is too long; it is told as the fault bad line" ∷ [])
+saying reason.BadName = page (codes "1: a word is not a name; it is reported as the fault bad name" ∷ [])
+saying reason.BadPath = page (codes "2: a word is not a path; it is reported as the fault bad path" ∷ [])
+saying reason.BadLine = page (codes "3: a line is too long; it is reported as the fault bad line" ∷ [])
 saying reason.NoBranch = page (codes "refused 4 BRANCH: there is no such branch" ∷ [])
-saying reason.BranchExists = page (codes "refused 5 BRANCH: there is such a branch already" ∷ [])
+saying reason.BranchExists = page (codes "refused 5 BRANCH: there is a branch of this name already" ∷ [])
 saying reason.PatchExists = page (codes "refused 6 NAME: some branch has a patch of this name" ∷ [])
 saying reason.NoPatch = page (codes "refused 7 NAME: the branch has no such patch" ∷ [])
 saying reason.NothingToDo = page (codes "refused 8: nothing to do, TO has all that would be pulled" ∷ [])
-saying reason.TooLarge = page (codes "refused 9: a limit would be passed" ∷ [])
+saying reason.TooLarge = page (codes "refused 9: a limit would be exceeded" ∷ [])
 saying reason.DoesNotApply = page (codes "refused 10: a change does not apply to the files as they are" ∷ [])
-saying reason.Depends = page (codes "refused 11 PATCH ON: PATCH stands on ON" ∷ [])
-saying reason.Diverged = page (codes "refused 12 NAME: in one branch NAME can't come before what the other lacks, or its two forms differ" ∷ [])
+saying reason.Depends = page (codes "refused 11 PATCH ON: PATCH depends on ON" ∷ [])
+saying reason.Diverged = page (codes "refused 12 NAME: in one branch NAME can't be moved before what the other lacks, or its two forms differ" ∷ [])
 saying reason.NoMerge = page (codes "refused 13 LEFT RIGHT: LEFT of TO and RIGHT of FROM do not merge" ∷ [])
 saying reason.SameBranch = page (codes "refused 14 BRANCH: a branch does not pull from itself" ∷ [])
 
 -- the hint on it
 abbrev pub cure : Reason → List ℕ
-cure reason.BadName = page (codes "A name has 1 to 40 of a to z, 0 to 9 and -, and begins with no -. Write it so." ∷ [])
+cure reason.BadName = page (codes "A name has 1 to 40 characters of a to z, 0 to 9 and -, and does not begin with -." ∷ [])
 cure reason.BadPath = page (
     codes "A path has 1 to 200 printing ASCII characters and no blank. Between its / no part is" ∷
     codes "empty, . or .. and so it begins and ends with no /." ∷ [])
-cure reason.BadLine = page (codes "A line of a body has 4096 bytes at most behind its sign. Cut it in two." ∷ [])
-cure reason.NoBranch = page (codes "The command branches tells which there are, and branch makes one." ∷ [])
+cure reason.BadLine = page (codes "A line of a body has at most 4096 bytes after its sign. Split it." ∷ [])
+cure reason.NoBranch = page (codes "branches lists those that exist, and branch makes one." ∷ [])
 cure reason.BranchExists = page (codes "Take another name." ∷ [])
 cure reason.PatchExists = page (codes "Take another name. To have that patch here, pull it." ∷ [])
-cure reason.NoPatch = page (codes "The command names tells which it has, and missing what another branch has and it lacks." ∷ [])
-cure reason.NothingToDo = page (codes "There is nothing to mend." ∷ [])
+cure reason.NoPatch = page (codes "names lists the patches of a branch, and missing those that another has and it lacks." ∷ [])
+cure reason.NothingToDo = page (codes "Nothing has to be done." ∷ [])
 cure reason.TooLarge = page (
     codes "The limits: 65535 lines in a side of an edit, 1000000 lines in a file and, unless others were given," ∷
-    codes "256 branches and 4096 changes in a branch. Cut the edit or the patch in parts, or take patches out." ∷ [])
+    codes "256 branches and 4096 changes in a branch. Split the edit or the patch, or obliterate patches." ∷ [])
 cure reason.DoesNotApply = page (
-    codes "add wants no file, remove a file without lines, and an edit a file with its old lines at LINE." ∷
-    codes "Until more is recorded, file BRANCH PATH tells what is there before the first change." ∷ [])
+    codes "add needs a free path, remove a file without lines, and an edit a file with its old lines at LINE." ∷
+    codes "Until more is recorded, file BRANCH PATH shows the file before the first change." ∷ [])
 cure reason.Depends = page (
-    codes "In a pull list ON too; along tells all that it has to list. In an obliterate list PATCH too; held" ∷
-    codes "tells all that has to go." ∷ [])
-cure reason.Diverged = page (codes "Obliterate it in one of them, with what stands on it, and pull again." ∷ [])
+    codes "In a pull list ON too; along lists all that it needs. In an obliterate list PATCH too; held" ∷
+    codes "lists all that have to go." ∷ [])
+cure reason.Diverged = page (codes "Obliterate it in one of them, with what depends on it, and pull again." ∷ [])
 cure reason.NoMerge = page (codes "Pull without RIGHT, or obliterate LEFT in TO first." ∷ [])
 cure reason.SameBranch = page (codes "Name another branch." ∷ [])
 

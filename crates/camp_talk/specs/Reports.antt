@@ -40,7 +40,7 @@ is_failure answer = begins (codes "fault ") answer || begins (codes "refused ") 
 
 -- the report on a diagnostic; if there is none, that there was no failure
 abbrev pub report_or_none : List ℕ → List ℕ
-report_or_none [] = page (codes "No command had a fault or was refused here." ∷ [])
+report_or_none [] = page (codes "No command had a fault or was refused so far." ∷ [])
 report_or_none (byte ∷ bytes) = byte ∷ bytes
 
 -- the same, after `why` and the number of its lines
@@ -52,58 +52,58 @@ why_answer report = counted (codes "why") (report_or_none report)
 -- text: the hint on the line
 abbrev pub hint_text : Hint → List ℕ
 hint_text seen.Nothing = []
-hint_text seen.OfBody = page (codes "It begins with - or +, as a line of a body does, and no body has begun here." ∷ [])
-hint_text seen.OfScript = page (codes "It is a line of scripts alone: a conversation has one client." ∷ [])
+hint_text seen.OfBody = page (codes "It begins with - or +, as a line of a body does, but no body has begun." ∷ [])
+hint_text seen.OfScript = page (codes "Only scripts have this line: a conversation has one client." ∷ [])
 hint_text seen.NoChange = page (
     codes "The fourth word of a record is add, remove, edit or group; a name has no blank." ∷ [])
-hint_text seen.NoCall = page (codes "Behind whatif stands branch, record, pull, obliterate, tree, conflicts or names." ∷ [])
-hint_text seen.NoTopic = page (codes "Behind help stands the first word of a command, or refused." ∷ [])
-hint_text seen.OfInner = page (codes "It is a line of a body or a group, and none has begun here." ∷ [])
-hint_text seen.TooLong = page (codes "It has 4098 bytes, the second is ?: a line of more than 1048576 bytes is read like that." ∷ [])
+hint_text seen.NoCall = page (codes "whatif must be followed by branch, record, pull, obliterate, tree, conflicts or names." ∷ [])
+hint_text seen.NoTopic = page (codes "help may be followed by the first word of a command, or by refused." ∷ [])
+hint_text seen.OfInner = page (codes "It is a line of a body or a group, but none has begun." ∷ [])
+hint_text seen.TooLong = page (codes "It has 4098 bytes, the second is ?: a line of more than 1048576 bytes is read as that." ∷ [])
 hint_text seen.CarriageReturn = page (codes "It ends with a carriage return: end each line with LF alone." ∷ [])
 hint_text seen.Strange = page (
-    codes "It has a byte that is no printing ASCII character: commands, names and paths have none." ∷ [])
+    codes "It has a byte that is not printing ASCII: commands, names and paths have none." ∷ [])
 hint_text seen.Quotes = page (
     codes "It has a quotation mark: quotes do not join words, and no command or name has one." ∷ [])
 hint_text seen.Capitals = page (codes "It has a capital letter: commands, names and end have none." ∷ [])
-hint_text seen.Zero = page (codes "The number is 0, and the least is 1." ∷ [])
-hint_text seen.ZeroInFront = page (codes "The number begins with 0: write it without a zero in front." ∷ [])
+hint_text seen.Zero = page (codes "The number is 0; the least is 1." ∷ [])
+hint_text seen.ZeroInFront = page (codes "The number begins with 0: write it without leading zeros." ∷ [])
 hint_text seen.Empty = page (
     codes "It is empty: for an empty line of the file write - or + alone." ∷
-    codes "If the body was to be over, a line that is just end is missing." ∷ [])
+    codes "To end the body, write a line with just end." ∷ [])
 hint_text seen.Blank = page (
-    codes "It begins with a blank: the sign comes first, and end stands alone." ∷
-    codes "If the body was to be over, a line that is just end is missing." ∷ [])
+    codes "It begins with a blank: the sign comes first, and end is alone on its line." ∷
+    codes "To end the body, write a line with just end." ∷ [])
 hint_text seen.NoLine = page (codes "The body has no line: both sides are empty." ∷ [])
 hint_text seen.TooFar = page (
-    codes "The edit reaches too far: LINE and the numbers of lines of both sides add up to too much." ∷ [])
-hint_text seen.MoreThanEnd = page (codes "It begins with end and is more: just end ends a body." ∷ [])
-hint_text seen.OldAfterNew = page (codes "An old line stands behind a new one: all - come before all +." ∷ [])
+    codes "The edit reaches too far: LINE plus the lines of both sides is too great." ∷ [])
+hint_text seen.MoreThanEnd = page (codes "It begins with end and has more: a line with just end ends a body." ∷ [])
+hint_text seen.OldAfterNew = page (codes "An old line comes after a new one: write all - before all +." ∷ [])
 hint_text seen.NoSign = page (
-    codes "It has no sign, - or +. If the body was to be over, a line that is just end is missing." ∷ [])
+    codes "It has no sign, - or +. To end the body, write a line with just end." ∷ [])
 
 -- text: the broken rule of a body or a group, or of a number of lines, and what to write
 abbrev pub body_rule : FaultKind → List ℕ
 body_rule kind.BadEdit = page (
-    codes "A body has old lines, each behind -, then new ones, each behind +, one at least in" ∷
-    codes "all, and then a line that is just end." ∷ [])
-body_rule kind.EditNotEnded = page (codes "The body of an edit ends with a line that is just end. Write it." ∷ [])
-body_rule kind.TooManyClients = page (codes "A script has 63 lines client at most." ∷ [])
-body_rule kind.TooManyCommands = page (codes "A section has 65536 commands that write at most." ∷ [])
+    codes "A body has old lines, each after -, then new ones, each after +, at least one in" ∷
+    codes "all, and then a line with just end." ∷ [])
+body_rule kind.EditNotEnded = page (codes "The body of an edit ends with a line with just end. Write it." ∷ [])
+body_rule kind.TooManyClients = page (codes "A script has at most 63 lines client." ∷ [])
+body_rule kind.TooManyCommands = page (codes "A section has at most 65536 commands that write." ∷ [])
 body_rule kind.BadGroup = page (
     codes "A group has 1 to 64 changes: add PATH, remove PATH, or edit PATH LINE with its body." ∷
-    codes "Then comes the line done." ∷ [])
-body_rule kind.GroupNotEnded = page (codes "A group ends with the line done. Write it." ∷ [])
+    codes "A line with just done ends it." ∷ [])
+body_rule kind.GroupNotEnded = page (codes "A group ends with a line with just done. Write it." ∷ [])
 body_rule other = []
 
 -- text: the broken rule, and what to write
 abbrev pub rule : FaultKind → List ℕ
 rule kind.UnknownCommand = page (
-    codes "A line begins with a command; a record says BRANCH, NAME, and then add, remove, edit or group:" ∷
-    codes "help tells all. A name has no blank. A line of a body stands only behind an edit whose first" ∷
+    codes "A line begins with a command; a record has BRANCH, NAME, and then add, remove, edit or group:" ∷
+    codes "help lists all. A name has no blank. A line of a body comes only after an edit whose first" ∷
     codes "line has no fault. A line of more than 1048576 bytes is no command." ∷ [])
 rule kind.WrongNumberOfWords = page (
-    codes "There are too few words, or too many; a name or a path has no blank. help COMMAND tells" ∷
+    codes "There are too few words, or too many; a name or a path has no blank. help COMMAND shows" ∷
     codes "how a command is written." ∷ [])
 rule kind.BadName = cure reason.BadName
 rule kind.BadPath = cure reason.BadPath
@@ -124,7 +124,7 @@ most_shown = 200
 -- text: not all bytes of a line are shown
 abbrev pub cut_text : List ℕ → List ℕ
 cut_text line =
-    if nat_lt most_shown (length line) then page (codes "Its first 200 bytes are shown, and it has more." ∷ []) else []
+    if nat_lt most_shown (length line) then page (codes "Only its first 200 bytes are shown." ∷ []) else []
 
 -- a line after `>`, as much of it as is shown, by visible bytes
 abbrev pub shown_line : List ℕ → List ℕ
@@ -148,9 +148,9 @@ word_text other line = []
 abbrev pub recovery_text : Recovery → List ℕ
 recovery_text Nothing = []
 recovery_text Signed = []
-recovery_text Body = page (codes "Behind it lines that begin no command are taken for its body, up to end." ∷ [])
-recovery_text Group = page (codes "Behind it lines that begin no command are taken for its group, up to done." ∷ [])
-recovery_text GroupBody = page (codes "Behind it lines that begin no command are taken for its group, up to done." ∷ [])
+recovery_text Body = page (codes "After it, lines that begin no command are taken for its body, up to end." ∷ [])
+recovery_text Group = page (codes "After it, lines that begin no command are taken for its group, up to done." ∷ [])
+recovery_text GroupBody = page (codes "After it, lines that begin no command are taken for its group, up to done." ∷ [])
 
 -- the answer, the line, the word that has the fault, the hint on it, the rule, what to write, and which lines after
 -- it are taken for its own
@@ -168,7 +168,7 @@ trimmed line = take (length line - suffix_len is_ascii_whitespace line) line
 abbrev pub ends_text : List ℕ → List ℕ → List ℕ
 ends_text actual expected =
     if bytes_eq (trimmed actual) (trimmed expected)
-    then page (codes "They differ in white space at their ends, as a blank or a carriage return is." ∷ []) else []
+    then page (codes "They differ in white space at their ends, such as a blank or a carriage return." ∷ []) else []
 
 -- a text with the line of a file, and another one that an edit removes
 abbrev pub met_lines : ℕ → List ℕ → List ℕ → List ℕ
@@ -195,9 +195,9 @@ lacks_text at (Some line) =
 abbrev pub misfit_text : Misfit → List ℕ
 misfit_text misfit.FileIsThere = codes ": it is there already.\n"
 misfit_text misfit.NoFile = codes ": there is none.\n"
-misfit_text (misfit.HasLines count) = codes ": its number of lines is " ++ decimal count ++ codes ", and remove wants a file without lines.\n"
+misfit_text (misfit.HasLines count) = codes ": its number of lines is " ++ decimal count ++ codes ", and remove needs a file without lines.\n"
 misfit_text (misfit.EndsBefore has wants at lacks) =
-    two_numbers (codes ": its number of lines is ") has (codes ", and the edit wants ") wants (codes " or more.\n")
+    two_numbers (codes ": its number of lines is ") has (codes ", and the edit needs ") wants (codes " or more.\n")
     ++ lacks_text at lacks
 misfit_text (misfit.OtherLine at actual expected) = met_text at actual expected ++ ends_text actual expected
 
@@ -261,11 +261,11 @@ against_text state parsed found reason = sides_text (about parsed) (target parse
 
 -- the hint if a limit would be exceeded
 abbrev pub limit_cure : Cause → List ℕ
-limit_cure (cause.FullRepository count most) = page (codes "Record in one of the branches that there are." ∷ [])
+limit_cure (cause.FullRepository count most) = page (codes "Record in one of the existing branches." ∷ [])
 limit_cure (cause.FullBranch has more most) = page (
-    codes "Record in a branch with fewer changes, or take patches out of this one by obliterate." ∷ [])
-limit_cure (cause.FullWithPull has more most) = page (codes "Pull fewer patches, or take patches out of TO by obliterate." ∷ [])
-limit_cure (cause.LongSide change path old new) = page (codes "Cut the edit in parts." ∷ [])
+    codes "Record in a branch with fewer changes, or obliterate patches of this one." ∷ [])
+limit_cure (cause.FullWithPull has more most) = page (codes "Pull fewer patches, or obliterate patches of TO." ∷ [])
+limit_cure (cause.LongSide change path old new) = page (codes "Split the edit." ∷ [])
 limit_cure (cause.Stops stop) = page (codes "Put some of the lines into another file." ∷ [])
 
 -- the hint on the refusal of a command, by the cause that was found

@@ -120,10 +120,10 @@ fn recovery_text(recovery: Recovery) -> &'static str
     match recovery {
         Recovery::Nothing | Recovery::Signed => "",
         Recovery::Body => {
-            "Behind it lines that begin no command are taken for its body, up to end.\n"
+            "After it, lines that begin no command are taken for its body, up to end.\n"
         }
         Recovery::Group | Recovery::GroupBody => {
-            "Behind it lines that begin no command are taken for its group, up to done.\n"
+            "After it, lines that begin no command are taken for its group, up to done.\n"
         }
     }
 }
@@ -151,7 +151,7 @@ fn shown_end(line: &[u8]) -> &str
     ensures { result.now ≡ codes "\n" ++ cut_text line.now }
 {
     if line.len() > SHOWN {
-        return "\nIts first 200 bytes are shown, and it has more.\n";
+        return "\nOnly its first 200 bytes are shown.\n";
     }
     "\n"
 }
@@ -178,19 +178,19 @@ fn misnamed_text(alloc: Global, word: &[u8]) -> Result<Vec<u8>, AllocError>
 
 // Renders that a line of a body is empty.
 const EMPTY: &str = "It is empty: for an empty line of the file write - or + alone.\n\
-    If the body was to be over, a line that is just end is missing.\n";
+    To end the body, write a line with just end.\n";
 
 // Renders that a line of a body begins with a blank.
-const BLANK: &str = "It begins with a blank: the sign comes first, and end stands alone.\n\
-    If the body was to be over, a line that is just end is missing.\n";
+const BLANK: &str = "It begins with a blank: the sign comes first, and end is alone on its line.\n\
+    To end the body, write a line with just end.\n";
 
 // Renders that an edit reaches too far.
 const TOO_FAR: &str =
-    "The edit reaches too far: LINE and the numbers of lines of both sides add up to too much.\n";
+    "The edit reaches too far: LINE plus the lines of both sides is too great.\n";
 
 // Renders that a line of a body has no sign.
 const NO_SIGN: &str =
-    "It has no sign, - or +. If the body was to be over, a line that is just end is missing.\n";
+    "It has no sign, - or +. To end the body, write a line with just end.\n";
 
 // Renders the hint on the line.
 fn hint_text(hint: Hint) -> &'static str
@@ -199,36 +199,36 @@ fn hint_text(hint: Hint) -> &'static str
     match hint {
         Hint::Nothing => "",
         Hint::OfBody => {
-            "It begins with - or +, as a line of a body does, and no body has begun here.\n"
+            "It begins with - or +, as a line of a body does, but no body has begun.\n"
         }
-        Hint::OfScript => "It is a line of scripts alone: a conversation has one client.\n",
+        Hint::OfScript => "Only scripts have this line: a conversation has one client.\n",
         Hint::NoChange => {
             "The fourth word of a record is add, remove, edit or group; a name has no blank.\n"
         }
         Hint::NoCall => {
-            "Behind whatif stands branch, record, pull, obliterate, tree, conflicts or names.\n"
+            "whatif must be followed by branch, record, pull, obliterate, tree, conflicts or names.\n"
         }
-        Hint::NoTopic => "Behind help stands the first word of a command, or refused.\n",
-        Hint::OfInner => "It is a line of a body or a group, and none has begun here.\n",
+        Hint::NoTopic => "help may be followed by the first word of a command, or by refused.\n",
+        Hint::OfInner => "It is a line of a body or a group, but none has begun.\n",
         Hint::TooLong => {
-            "It has 4098 bytes, the second is ?: a line of more than 1048576 bytes is read like that.\n"
+            "It has 4098 bytes, the second is ?: a line of more than 1048576 bytes is read as that.\n"
         }
         Hint::CarriageReturn => "It ends with a carriage return: end each line with LF alone.\n",
         Hint::Strange => {
-            "It has a byte that is no printing ASCII character: commands, names and paths have none.\n"
+            "It has a byte that is not printing ASCII: commands, names and paths have none.\n"
         }
         Hint::Quotes => {
             "It has a quotation mark: quotes do not join words, and no command or name has one.\n"
         }
         Hint::Capitals => "It has a capital letter: commands, names and end have none.\n",
-        Hint::Zero => "The number is 0, and the least is 1.\n",
-        Hint::ZeroInFront => "The number begins with 0: write it without a zero in front.\n",
+        Hint::Zero => "The number is 0; the least is 1.\n",
+        Hint::ZeroInFront => "The number begins with 0: write it without leading zeros.\n",
         Hint::Empty => EMPTY,
         Hint::Blank => BLANK,
         Hint::NoLine => "The body has no line: both sides are empty.\n",
         Hint::TooFar => TOO_FAR,
-        Hint::MoreThanEnd => "It begins with end and is more: just end ends a body.\n",
-        Hint::OldAfterNew => "An old line stands behind a new one: all - come before all +.\n",
+        Hint::MoreThanEnd => "It begins with end and has more: a line with just end ends a body.\n",
+        Hint::OldAfterNew => "An old line comes after a new one: write all - before all +.\n",
         Hint::NoSign => NO_SIGN,
     }
 }
@@ -239,12 +239,12 @@ fn rule(kind: FaultKind) -> &'static str
 {
     match kind {
         FaultKind::UnknownCommand => {
-            "A line begins with a command; a record says BRANCH, NAME, and then add, remove, edit or group:\n\
-            help tells all. A name has no blank. A line of a body stands only behind an edit whose first\n\
+            "A line begins with a command; a record has BRANCH, NAME, and then add, remove, edit or group:\n\
+            help lists all. A name has no blank. A line of a body comes only after an edit whose first\n\
             line has no fault. A line of more than 1048576 bytes is no command.\n"
         }
         FaultKind::WrongNumberOfWords => {
-            "There are too few words, or too many; a name or a path has no blank. help COMMAND tells\n\
+            "There are too few words, or too many; a name or a path has no blank. help COMMAND shows\n\
             how a command is written.\n"
         }
         FaultKind::BadName => cure(Reason::BadName),
@@ -264,19 +264,19 @@ fn body_rule(kind: FaultKind) -> &'static str
 {
     match kind {
         FaultKind::BadEdit => {
-            "A body has old lines, each behind -, then new ones, each behind +, one at least in\n\
-            all, and then a line that is just end.\n"
+            "A body has old lines, each after -, then new ones, each after +, at least one in\n\
+            all, and then a line with just end.\n"
         }
         FaultKind::EditNotEnded => {
-            "The body of an edit ends with a line that is just end. Write it.\n"
+            "The body of an edit ends with a line with just end. Write it.\n"
         }
-        FaultKind::TooManyClients => "A script has 63 lines client at most.\n",
-        FaultKind::TooManyCommands => "A section has 65536 commands that write at most.\n",
+        FaultKind::TooManyClients => "A script has at most 63 lines client.\n",
+        FaultKind::TooManyCommands => "A section has at most 65536 commands that write.\n",
         FaultKind::BadGroup => {
             "A group has 1 to 64 changes: add PATH, remove PATH, or edit PATH LINE with its body.\n\
-            Then comes the line done.\n"
+            A line with just done ends it.\n"
         }
-        FaultKind::GroupNotEnded => "A group ends with the line done. Write it.\n",
+        FaultKind::GroupNotEnded => "A group ends with a line with just done. Write it.\n",
         _ => "",
     }
 }

@@ -43,7 +43,7 @@ impl fmt::Display for FrameFault {
     fn fmt<W: fmt::Write>(&self, f: &mut fmt::Formatter<W>) -> fmt::Result {
         match self {
             FrameFault::NoNumber => {
-                f.write_str("the line before a request is no number of 1 to 10 digits")
+                f.write_str("the line before a request is not a number of 1 to 10 digits")
             }
             FrameFault::TooLarge => f.write_str("a request has more than 268435456 bytes"),
             FrameFault::Cut => f.write_str("the input ends inside a request"),

@@ -88,7 +88,7 @@ const RECORD_FORMS: &str = "record BRANCH NAME add PATH: record a patch that add
 // How to ask for help.
 const HELP_FORMS: &str = "help: all commands\n\
     help COMMAND: more about one\n\
-    help refused: what the refusals say\n\
+    help refused: what each refusal means\n\
     help refused NUMBER: one of them, and what can be done\n";
 
 // Returns the form of a command, and what it does, in a line for each of its forms.
@@ -101,9 +101,9 @@ fn summary(topic: Topic) -> &'static str
         Topic::Record => RECORD_FORMS,
         Topic::Pull => {
             "pull FROM TO: bring to TO all patches of FROM that it lacks\n\
-            pull FROM TO NAME ..: bring those of these names\n"
+            pull FROM TO NAME ..: bring the patches of these names\n"
         }
-        Topic::Obliterate => "obliterate BRANCH NAME ..: take patches out of a branch\n",
+        Topic::Obliterate => "obliterate BRANCH NAME ..: remove patches from a branch\n",
         Topic::Tree => "tree BRANCH: the files of a branch\n",
         Topic::Conflicts => {
             "conflicts BRANCH: the pairs of patches of a branch that are in conflict\n"
@@ -111,42 +111,42 @@ fn summary(topic: Topic) -> &'static str
         Topic::Names => "names BRANCH: the patches of a branch\n",
         Topic::Branches => "branches: the branches, in order of creation\n",
         Topic::File => "file BRANCH PATH: the lines of a file\n",
-        Topic::Needs => "needs BRANCH NAME ..: what these patches of a branch need there\n",
-        Topic::Held => "held BRANCH NAME ..: what must go where these patches are taken out\n",
+        Topic::Needs => "needs BRANCH NAME ..: the patches that these depend on\n",
+        Topic::Held => "held BRANCH NAME ..: the patches that depend on these\n",
         Topic::Missing => "missing FROM TO: the patches that FROM has and TO lacks\n",
-        Topic::Along => "along FROM TO NAME ..: what a pull of these patches has to list\n",
-        Topic::Show => "show BRANCH NAME: a patch as it stands in a branch\n",
+        Topic::Along => "along FROM TO NAME ..: the patches that a pull of these has to list\n",
+        Topic::Show => "show BRANCH NAME: a patch in the form that the branch has\n",
         Topic::Annotate => {
-            "annotate BRANCH PATH: the lines of a file, and which patch put each there\n"
+            "annotate BRANCH PATH: the lines of a file, each with the patch that added it\n"
         }
         Topic::Open => {
-            "open BRANCH: the pairs of patches in conflict that nothing has settled yet\n"
+            "open BRANCH: the pairs of patches whose conflict is unresolved\n"
         }
-        Topic::Side => "side BRANCH NAME: the changes that a patch in conflict says\n",
-        Topic::Marks => "marks BRANCH PATH: a file with the open sides of its conflicts\n",
-        Topic::Graph => "graph BRANCH [NAME ..]: how the patches hang together, for Graphviz\n",
-        Topic::WhatIf => "whatif COMMAND: what a command would be answered; nothing changes\n",
+        Topic::Side => "side BRANCH NAME: the changes that a patch in conflict asks for\n",
+        Topic::Marks => "marks BRANCH PATH: a file with the unresolved sides of its conflicts\n",
+        Topic::Graph => "graph BRANCH [NAME ..]: dependencies and conflicts of patches, for Graphviz\n",
+        Topic::WhatIf => "whatif COMMAND: the answer that a command would get; nothing changes\n",
         Topic::Why => "why: the cause of the last fault or refusal, and what can be done\n",
         Topic::History => "history: the accepted commands\n",
-        Topic::Keep => "keep: a script that gives the repository back\n",
+        Topic::Keep => "keep: a script that makes the repository again\n",
         Topic::Help => HELP_FORMS,
     }
 }
 
 // The answer of `marks`.
 const MARKS: &str =
-    "Lines behind =. At each place conflict SIDES LINES, and what stands there; then of each\n\
-    patch side NAME LINES, and behind + what it would put there.\n";
+    "Lines after =. At each conflict a line conflict SIDES LINES, and the lines there; then for each\n\
+    patch side NAME LINES, and after + the lines that it would put there.\n";
 
 // The output of `graph`.
-const GRAPH: &str = "Where patches are named: these, what they need, and what needs them.\n\
-    An arrow leads to what a patch needs directly; a line joins two in conflict, which is red\n\
-    and bold where it is open, and dashed and pale where it is settled.\n";
+const GRAPH: &str = "If patches are named: these, what they need, and what needs them.\n\
+    An arrow leads to what a patch needs directly; a line joins two in conflict: red and bold\n\
+    if it is unresolved, dashed and pale if it is resolved.\n";
 
 // The answer of `why`.
 const WHY: &str =
-    "Its answer, and its line behind >. Of a refusal what that says, what stands against the command,\n\
-    and what can be done; of a fault what is to be seen in the line, and the rule.\n";
+    "Its answer, and its line after >. For a refusal: what it means, what prevents the command,\n\
+    and what can be done; for a fault: what is wrong in the line, and the rule.\n";
 
 // Returns more about a command, if there is more to say.
 fn details(topic: Topic) -> &'static str
@@ -154,25 +154,25 @@ fn details(topic: Topic) -> &'static str
 {
     match topic {
         Topic::Record => {
-            "A body has the old lines, each behind -, and then the new ones, each behind +.\n\
+            "A body has the old lines, each after -, and then the new ones, each after +.\n\
             A group has 1 to 64 changes: add PATH, remove PATH, or edit PATH LINE with its body.\n"
         }
         Topic::Obliterate => {
-            "No patch that stays may depend on one that goes: held tells which do.\n"
+            "No patch that stays may depend on a removed one: held lists those that do.\n"
         }
         Topic::Needs | Topic::Held => {
-            "The patches themselves are told, too, all in the order of the branch.\n"
+            "It lists these patches, too, all in the order of the branch.\n"
         }
         Topic::Along => {
-            "Those that TO lacks, and what they need behind what both have, in the order of FROM.\n"
+            "Those that TO lacks, and what they need after the patches that both have, in the order of FROM.\n"
         }
-        Topic::Missing => "Where nothing refuses it, this is what pull FROM TO brings.\n",
+        Topic::Missing => "If it is not refused, pull FROM TO brings these.\n",
         Topic::Show => {
             "Its catches, a line for each: [PATCH], or (EFFECT, CONFLICTS, IDENTITY) in a conflict.\n\
-            Then what they change, as a script has it.\n"
+            Then their changes, as in a script.\n"
         }
         Topic::Open =>
-            "A conflict is settled where patches on top change its lines, at each of its places.\n",
+            "A conflict is resolved once later patches change its lines, at each of its places.\n",
         Topic::Side =>
             "1 to 64 of them can be recorded: between record BRANCH NAME group and done.\n",
         Topic::Marks => MARKS,
@@ -183,7 +183,7 @@ fn details(topic: Topic) -> &'static str
         }
         Topic::Why => WHY,
         Topic::History =>
-            "Of each its number, its seat, which is 0, and its words; of a body and a group the counts.\n",
+            "For each its number, its seat (0), and its words; for a body or a group the counts.\n",
         _ => "",
     }
 }

@@ -165,9 +165,9 @@ pub(crate) fn depends_cure(parsed: &ParsedCommand) -> &'static str
 {
     match parsed {
         ParsedCommand::Call(Call::Obliterate { .. }) => {
-            "List PATCH too; held tells all that has to go.\n"
+            "List PATCH too; held lists all that have to go.\n"
         }
-        _ => "List ON too; along tells all that a pull has to list.\n",
+        _ => "List ON too; along lists all that the pull needs.\n",
     }
 }
 

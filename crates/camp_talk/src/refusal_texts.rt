@@ -75,19 +75,19 @@ pub(crate) fn saying(reason: Reason) -> &'static str
     ensures { result.now ≡ saying reason }
 {
     match reason {
-        Reason::BadName => "1: a word is no name; it is told as the fault bad name\n",
-        Reason::BadPath => "2: a word is no path; it is told as the fault bad path\n",
-        Reason::BadLine => "3: a line is too long; it is told as the fault bad line\n",
+        Reason::BadName => "1: a word is not a name; it is reported as the fault bad name\n",
+        Reason::BadPath => "2: a word is not a path; it is reported as the fault bad path\n",
+        Reason::BadLine => "3: a line is too long; it is reported as the fault bad line\n",
         Reason::NoBranch => "refused 4 BRANCH: there is no such branch\n",
-        Reason::BranchExists => "refused 5 BRANCH: there is such a branch already\n",
+        Reason::BranchExists => "refused 5 BRANCH: there is a branch of this name already\n",
         Reason::PatchExists => "refused 6 NAME: some branch has a patch of this name\n",
         Reason::NoPatch => "refused 7 NAME: the branch has no such patch\n",
         Reason::NothingToDo => "refused 8: nothing to do, TO has all that would be pulled\n",
-        Reason::TooLarge => "refused 9: a limit would be passed\n",
+        Reason::TooLarge => "refused 9: a limit would be exceeded\n",
         Reason::DoesNotApply => "refused 10: a change does not apply to the files as they are\n",
-        Reason::Depends => "refused 11 PATCH ON: PATCH stands on ON\n",
+        Reason::Depends => "refused 11 PATCH ON: PATCH depends on ON\n",
         Reason::Diverged => {
-            "refused 12 NAME: in one branch NAME can't come before what the other lacks, or its two forms differ\n"
+            "refused 12 NAME: in one branch NAME can't be moved before what the other lacks, or its two forms differ\n"
         }
         Reason::NoMerge => "refused 13 LEFT RIGHT: LEFT of TO and RIGHT of FROM do not merge\n",
         Reason::SameBranch => "refused 14 BRANCH: a branch does not pull from itself\n",
@@ -100,34 +100,34 @@ pub(crate) fn cure(reason: Reason) -> &'static str
 {
     match reason {
         Reason::BadName => {
-            "A name has 1 to 40 of a to z, 0 to 9 and -, and begins with no -. Write it so.\n"
+            "A name has 1 to 40 characters of a to z, 0 to 9 and -, and does not begin with -.\n"
         }
         Reason::BadPath => {
             "A path has 1 to 200 printing ASCII characters and no blank. Between its / no part is\n\
             empty, . or .. and so it begins and ends with no /.\n"
         }
         Reason::BadLine =>
-            "A line of a body has 4096 bytes at most behind its sign. Cut it in two.\n",
-        Reason::NoBranch => "The command branches tells which there are, and branch makes one.\n",
+            "A line of a body has at most 4096 bytes after its sign. Split it.\n",
+        Reason::NoBranch => "branches lists those that exist, and branch makes one.\n",
         Reason::BranchExists => "Take another name.\n",
         Reason::PatchExists => "Take another name. To have that patch here, pull it.\n",
         Reason::NoPatch =>
-            "The command names tells which it has, and missing what another branch has and it lacks.\n",
-        Reason::NothingToDo => "There is nothing to mend.\n",
+            "names lists the patches of a branch, and missing those that another has and it lacks.\n",
+        Reason::NothingToDo => "Nothing has to be done.\n",
         Reason::TooLarge => {
             "The limits: 65535 lines in a side of an edit, 1000000 lines in a file and, unless others were given,\n\
-            256 branches and 4096 changes in a branch. Cut the edit or the patch in parts, or take patches out.\n"
+            256 branches and 4096 changes in a branch. Split the edit or the patch, or obliterate patches.\n"
         }
         Reason::DoesNotApply => {
-            "add wants no file, remove a file without lines, and an edit a file with its old lines at LINE.\n\
-            Until more is recorded, file BRANCH PATH tells what is there before the first change.\n"
+            "add needs a free path, remove a file without lines, and an edit a file with its old lines at LINE.\n\
+            Until more is recorded, file BRANCH PATH shows the file before the first change.\n"
         }
         Reason::Depends => {
-            "In a pull list ON too; along tells all that it has to list. In an obliterate list PATCH too; held\n\
-            tells all that has to go.\n"
+            "In a pull list ON too; along lists all that it needs. In an obliterate list PATCH too; held\n\
+            lists all that have to go.\n"
         }
         Reason::Diverged => {
-            "Obliterate it in one of them, with what stands on it, and pull again.\n"
+            "Obliterate it in one of them, with what depends on it, and pull again.\n"
         }
         Reason::NoMerge => "Pull without RIGHT, or obliterate LEFT in TO first.\n",
         Reason::SameBranch => "Name another branch.\n",

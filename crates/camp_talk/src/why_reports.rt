@@ -39,7 +39,7 @@ fn report_or_none(report: &[u8]) -> &[u8]
     ensures { result.now ≡ report_or_none report.now }
 {
     if report.is_empty() {
-        return b"No command had a fault or was refused here.\n";
+        return b"No command had a fault or was refused so far.\n";
     }
     report
 }
@@ -183,14 +183,14 @@ fn limit_cure(cause: &Cause) -> &'static str
     ensures { result.now ≡ limit_cure cause.now }
 {
     match cause {
-        Cause::FullRepository { .. } => "Record in one of the branches that there are.\n",
+        Cause::FullRepository { .. } => "Record in one of the existing branches.\n",
         Cause::FullBranch { .. } => {
-            "Record in a branch with fewer changes, or take patches out of this one by obliterate.\n"
+            "Record in a branch with fewer changes, or obliterate patches of this one.\n"
         }
         Cause::FullWithPull { .. } => {
-            "Pull fewer patches, or take patches out of TO by obliterate.\n"
+            "Pull fewer patches, or obliterate patches of TO.\n"
         }
-        Cause::LongSide { .. } => "Cut the edit in parts.\n",
+        Cause::LongSide { .. } => "Split the edit.\n",
         Cause::Stops(_) => "Put some of the lines into another file.\n",
     }
 }
@@ -342,7 +342,7 @@ fn misfit_text(alloc: Global, misfit: &Misfit) -> Result<Vec<u8>, AllocError>
         Misfit::FileIsThere => Vec::from_slice(alloc, b": it is there already.\n"),
         Misfit::NoFile => Vec::from_slice(alloc, b": there is none.\n"),
         Misfit::HasLines(count) => made(format!(in alloc;
-            ": its number of lines is {count}, and remove wants a file without lines.\n"
+            ": its number of lines is {count}, and remove needs a file without lines.\n"
         )),
         Misfit::EndsBefore {
             has,
@@ -375,7 +375,7 @@ fn ends_before_text(
         alloc,
         ": its number of lines is ",
         has,
-        ", and the edit wants ",
+        ", and the edit needs ",
         wants,
         " or more.\n",
     );
@@ -431,7 +431,7 @@ fn ends_text(actual: &[u8], expected: &[u8]) -> &'static str
     ensures { result.now ≡ ends_text actual.now expected.now }
 {
     if trimmed(actual) == trimmed(expected) {
-        return "They differ in white space at their ends, as a blank or a carriage return is.\n";
+        return "They differ in white space at their ends, such as a blank or a carriage return.\n";
     }
     ""
 }

@@ -17,7 +17,7 @@ pub enum Misfit {
     NoFile,
     /// A file is to be removed, and it has this number of lines.
     HasLines(usize),
-    /// An edit reaches past the last line of the file: the file has `has` lines, and the edit wants at least
+    /// An edit reaches past the last line of the file: the file has `has` lines, and the edit needs at least
     /// `wants`. `lacks` is the first old line past its end, and would be line `at`, counted from 1.
     EndsBefore {
         has: usize,
