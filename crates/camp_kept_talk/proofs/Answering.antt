@@ -19,10 +19,10 @@ pub appends_some : (old new : Option (List ℕ)) (text : List ℕ) → Appends o
 appends_some old new text writes = (text, [], sym (append-nil text), writes)
 
 -- buffered bytes are written, and no others
-pub keeps_after : (now after : Option (List ℕ)) (held more : List ℕ) → more ≡ held → Appends now after more → Keeps (append_known now held) after
-keeps_after None after held more is writes = tt
-keeps_after (Some x) None held more is writes = absurd writes
-keeps_after (Some x) (Some y) held more is writes = writes ∙ ap (λ (l : List ℕ). x ++ l) is
+pub keeps_after : (now after : Option (List ℕ)) (buffered more : List ℕ) → more ≡ buffered → Appends now after more → Keeps (append_known now buffered) after
+keeps_after None after buffered more is writes = tt
+keeps_after (Some x) None buffered more is writes = absurd writes
+keeps_after (Some x) (Some y) buffered more is writes = writes ∙ ap (λ (l : List ℕ). x ++ l) is
 
 -- a reader that is at its end now is at its end for any earlier observer
 ended_too : (a b c : Option (List ℕ)) (bytes : List ℕ) → Consumes a b bytes → OnSome b (IsAtEnd c) → OnSome a (IsAtEnd c)
@@ -48,9 +48,9 @@ last_read b c true command reads = inl reads.1
 last_read b c false command reads = inr (reads.1, reads.2)
 
 -- successive conversations, the second of which is written later
-pub holds_trans : (a b c old now after : Option (List ℕ)) (held : List ℕ) (first middle last : SessionState) → HasAnswered a b old now first middle
-    → HasAnswered b c (Some []) (Some held) middle last → Appends now after held → HasAnswered a c old after first last
-holds_trans a b c old now after held first middle last one two grows = record {
+pub holds_trans : (a b c old now after : Option (List ℕ)) (buffered : List ℕ) (first middle last : SessionState) → HasAnswered a b old now first middle
+    → HasAnswered b c (Some []) (Some buffered) middle last → Appends now after buffered → HasAnswered a c old after first last
+holds_trans a b c old now after buffered first middle last one two grows = record {
   exchanges = one.exchanges ++ two.exchanges;
   follow = follow-append first middle last one.exchanges two.exchanges one.follow two.follow;
   reads = subst (Consumes a c) (sym (flat_map-append (λ (e : Exchange). e.command) one.exchanges two.exchanges)) (Consumes-trans a b c _ _ one.reads two.reads);
@@ -110,8 +110,8 @@ written_unknown a b old now first last written = record {
   writes = (written.writes.0, written.writes.1, written.writes.2, tt);
 }
 
-some_of_both : (old now after : Option (List ℕ)) (one two held done rest : List ℕ) → Appends old now one → two ≡ done ++ rest → held ≡ done → AppendsSome now after held → AppendsSome old after (one ++ two)
-some_of_both old now after one two held done rest writes parts is (front, others, splits, grows) = (
+some_of_both : (old now after : Option (List ℕ)) (one two buffered done rest : List ℕ) → Appends old now one → two ≡ done ++ rest → buffered ≡ done → AppendsSome now after buffered → AppendsSome old after (one ++ two)
+some_of_both old now after one two buffered done rest writes parts is (front, others, splits, grows) = (
   one ++ front,
   others ++ rest,
   ap (λ (l : List ℕ). one ++ l) (parts ∙ ap (λ (l : List ℕ). l ++ rest) (sym is ∙ splits) ∙ append_assoc front others rest)
@@ -120,9 +120,9 @@ some_of_both old now after one two held done rest writes parts is (front, others
 )
 
 -- and a prefix of the buffered bytes is written
-pub written_trans : (a b c old now after : Option (List ℕ)) (held : List ℕ) (first middle last : SessionState) → HasAnswered a b old now first middle
-    → AnswersWritten b c (Some []) (Some held) middle last → AppendsSome now after held → AnswersWritten a c old after first last
-written_trans a b c old now after held first middle last one two grows = record {
+pub written_trans : (a b c old now after : Option (List ℕ)) (buffered : List ℕ) (first middle last : SessionState) → HasAnswered a b old now first middle
+    → AnswersWritten b c (Some []) (Some buffered) middle last → AppendsSome now after buffered → AnswersWritten a c old after first last
+written_trans a b c old now after buffered first middle last one two grows = record {
   exchanges = one.exchanges ++ two.exchanges;
   middle = two.middle;
   follow = follow-append first middle two.middle one.exchanges two.exchanges one.follow two.follow;
@@ -130,7 +130,7 @@ written_trans a b c old now after held first middle last one two grows = record 
   ends = last_too (OnSome b (IsAtEnd c)) (OnSome a (IsAtEnd c)) (ended_too a b c (flat_map (λ (e : Exchange). e.command) one.exchanges) one.reads) two.middle two.more last two.ends;
   reads = subst (Consumes a c) (joined (λ e. e.command)) (Consumes-trans a b c _ _ one.reads two.reads);
   writes = subst (AppendsSome old after) (joined (λ e. e.answer))
-      (some_of_both old now after (flat_map (λ (e : Exchange). e.answer) one.exchanges) (flat_map (λ (e : Exchange). e.answer) (two.exchanges ++ two.more)) held two.writes.0 two.writes.1 one.writes two.writes.2 two.writes.3 grows);
+      (some_of_both old now after (flat_map (λ (e : Exchange). e.answer) one.exchanges) (flat_map (λ (e : Exchange). e.answer) (two.exchanges ++ two.more)) buffered two.writes.0 two.writes.1 one.writes two.writes.2 two.writes.3 grows);
 }
   where
     joined : (part : Exchange → List ℕ) → flat_map part one.exchanges ++ flat_map part (two.exchanges ++ two.more) ≡ flat_map part ((one.exchanges ++ two.exchanges) ++ two.more)
@@ -139,10 +139,10 @@ written_trans a b c old now after held first middle last one two grows = record 
         ∙ ap (λ (l : List Exchange). flat_map part l) (sym (append_assoc one.exchanges two.exchanges two.more))
 
 -- one more command, whose answer is buffered, perhaps in part
-pub written_more : (b c d : Option (List ℕ)) (held more : List ℕ) (middle last next : SessionState) (exchange : Exchange) → HasAnswered b c (Some []) (Some held) middle last
+pub written_more : (b c d : Option (List ℕ)) (buffered more : List ℕ) (middle last next : SessionState) (exchange : Exchange) → HasAnswered b c (Some []) (Some buffered) middle last
     → IsLast (OnSome c (IsAtEnd d)) exchange.command → Answers last exchange.command exchange.answer next → Consumes c d exchange.command
-    → AppendsSome (Some held) (Some more) exchange.answer → AnswersWritten b d (Some []) (Some more) middle next
-written_more b c d held more middle last next exchange holds kind answers reads (done, rest, parts, writes) = record {
+    → AppendsSome (Some buffered) (Some more) exchange.answer → AnswersWritten b d (Some []) (Some more) middle next
+written_more b c d buffered more middle last next exchange holds kind answers reads (done, rest, parts, writes) = record {
   exchanges = holds.exchanges;
   middle = last;
   follow = holds.follow;
@@ -164,11 +164,11 @@ written_more b c d held more middle last next exchange holds kind answers reads 
         ∙ sym (flat_map-append part holds.exchanges (exchange ∷ []))
 
 -- buffered bytes, as if they were written
-pub appends_known : (now : Option (List ℕ)) (held : List ℕ) → Appends now (append_known now held) held
-appends_known None held = tt
-appends_known (Some x) held = refl
+pub appends_known : (now : Option (List ℕ)) (buffered : List ℕ) → Appends now (append_known now buffered) buffered
+appends_known None buffered = tt
+appends_known (Some x) buffered = refl
 
-pub appends_after : (now after : Option (List ℕ)) (held more text : List ℕ) → more ≡ held ++ text → Appends now after more → Appends (append_known now held) after text
-appends_after None after held more text is writes = tt
-appends_after (Some x) None held more text is writes = absurd writes
-appends_after (Some x) (Some y) held more text is writes = writes ∙ ap (λ (l : List ℕ). x ++ l) is ∙ sym (append_assoc x held text)
+pub appends_after : (now after : Option (List ℕ)) (buffered more text : List ℕ) → more ≡ buffered ++ text → Appends now after more → Appends (append_known now buffered) after text
+appends_after None after buffered more text is writes = tt
+appends_after (Some x) None buffered more text is writes = absurd writes
+appends_after (Some x) (Some y) buffered more text is writes = writes ∙ ap (λ (l : List ℕ). x ++ l) is ∙ sym (append_assoc x buffered text)

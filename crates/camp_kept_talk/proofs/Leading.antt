@@ -50,15 +50,15 @@ module _ {D : Type 0} (seen : D → List ℕ) (may_leave : D → List ℕ → Ty
     within = front;
   }
 
-  module _ (b : Option (List ℕ)) (held : List ℕ) (lines : ℕ) (diagnostic : Diagnostic) (buffers : BuffersAnswers seen may_leave durable a b old now held first (at kept.book lines diagnostic) kept) where
-    pub stays : FailsBuffered seen may_leave durable a b old now held first kept
+  module _ (b : Option (List ℕ)) (buffered : List ℕ) (lines : ℕ) (diagnostic : Diagnostic) (buffers : BuffersAnswers seen may_leave durable a b old now buffered first (at kept.book lines diagnostic) kept) where
+    pub stays : FailsBuffered seen may_leave durable a b old now buffered first kept
     stays = record {
       middle = buffers.middle;
       last = at kept.book lines diagnostic;
       left = buffers.left;
       right = b;
       written = buffers.written;
-      pending = answers_written buffers.left b (Some []) (Some held) buffers.middle (at kept.book lines diagnostic) buffers.pending;
+      pending = answers_written buffers.left b (Some []) (Some buffered) buffers.middle (at kept.book lines diagnostic) buffers.pending;
       reads = reads_none b;
       calls = buffers.calls;
       holds = buffers.holds;
@@ -69,7 +69,7 @@ module _ {D : Type 0} (seen : D → List ℕ) (may_leave : D → List ℕ → Ty
     }
 
     -- everything is persisted and written, and the conversation continues
-    pub flushed_answers : (new : Kept D) (after : Option (List ℕ)) (rest : List ℕ) → AllAreDurable seen may_leave kept new → rest ≡ [] → Appends now after held → new.book ≡ kept.book
+    pub flushed_answers : (new : Kept D) (after : Option (List ℕ)) (rest : List ℕ) → AllAreDurable seen may_leave kept new → rest ≡ [] → Appends now after buffered → new.book ≡ kept.book
         → BuffersAnswers seen may_leave durable a b old after rest first (at new.book lines diagnostic) new
     flushed_answers new after rest keeps none grows same = record {
       middle = at new.book lines diagnostic;
@@ -86,7 +86,7 @@ module _ {D : Type 0} (seen : D → List ℕ) (may_leave : D → List ℕ → Ty
       where
         written_now : HasAnswered a b old after first (at new.book lines diagnostic)
         written_now = subst (λ (h : Entries). HasAnswered a b old after first (at h lines diagnostic)) (sym same)
-            (holds_trans a buffers.left b old now after held first buffers.middle (at kept.book lines diagnostic) buffers.written buffers.pending grows)
+            (holds_trans a buffers.left b old now after buffered first buffers.middle (at kept.book lines diagnostic) buffers.written buffers.pending grows)
 
     module _ (c : Option (List ℕ)) (more : List ℕ) (new : Kept D) (same_log : new.log ≡ kept.log) (same_count : new.count ≡ kept.count) where
       holds_still : Holds seen may_leave buffers.calls new
@@ -97,13 +97,13 @@ module _ {D : Type 0} (seen : D → List ℕ) (may_leave : D → List ℕ → Ty
       }
 
       -- a command was answered into the buffer
-      pub stepped : (after : ℕ) (learnt : Diagnostic) → TakesStep b c (Some held) (Some more) (at kept.book lines diagnostic) (Ok true) (at new.book after learnt)
+      pub stepped : (after : ℕ) (learnt : Diagnostic) → TakesStep b c (Some buffered) (Some more) (at kept.book lines diagnostic) (Ok true) (at new.book after learnt)
           → BuffersAnswers seen may_leave durable a c old now more first (at new.book after learnt) new
       stepped after learnt takes_step = record {
         middle = buffers.middle;
         left = buffers.left;
         written = buffers.written;
-        pending = holds_on buffers.left b c (Some []) (Some held) (Some more) buffers.middle (at kept.book lines diagnostic) (at new.book after learnt) buffers.pending takes_step;
+        pending = holds_on buffers.left b c (Some []) (Some buffered) (Some more) buffers.middle (at kept.book lines diagnostic) (at new.book after learnt) buffers.pending takes_step;
         calls = buffers.calls;
         holds = holds_still;
         still = buffers.still;
@@ -113,14 +113,14 @@ module _ {D : Type 0} (seen : D → List ℕ) (may_leave : D → List ℕ → Ty
 
       -- one was answered, perhaps in part
       one_more : (exchange : Exchange) (next : SessionState) → IsLast (OnSome b (IsAtEnd c)) exchange.command → Answers (at kept.book lines diagnostic) exchange.command exchange.answer next
-          → Consumes b c exchange.command → AppendsSome (Some held) (Some more) exchange.answer → next.history ≡ new.book → FailsBuffered seen may_leave durable a c old now more first new
+          → Consumes b c exchange.command → AppendsSome (Some buffered) (Some more) exchange.answer → next.history ≡ new.book → FailsBuffered seen may_leave durable a c old now more first new
       one_more exchange next kind answers reads writes is = record {
         middle = buffers.middle;
         last = next;
         left = buffers.left;
         right = c;
         written = buffers.written;
-        pending = written_more buffers.left b c held more buffers.middle (at kept.book lines diagnostic) next exchange buffers.pending kind answers reads writes;
+        pending = written_more buffers.left b c buffered more buffers.middle (at kept.book lines diagnostic) next exchange buffers.pending kind answers reads writes;
         reads = reads_none c;
         calls = buffers.calls;
         holds = holds_still;
@@ -131,14 +131,14 @@ module _ {D : Type 0} (seen : D → List ℕ) (may_leave : D → List ℕ → Ty
       }
 
       -- none could be read
-      none_more : ReadsWithin b c → Keeps (Some held) (Some more) → new.book ≡ kept.book → FailsBuffered seen may_leave durable a c old now more first new
+      none_more : ReadsWithin b c → Keeps (Some buffered) (Some more) → new.book ≡ kept.book → FailsBuffered seen may_leave durable a c old now more first new
       none_more reads keeps same = record {
         middle = buffers.middle;
         last = at kept.book lines diagnostic;
         left = buffers.left;
         right = b;
         written = buffers.written;
-        pending = answers_written buffers.left b (Some []) (Some more) buffers.middle (at kept.book lines diagnostic) (holds_kept buffers.left b (Some []) (Some held) (Some more) buffers.middle (at kept.book lines diagnostic) buffers.pending keeps);
+        pending = answers_written buffers.left b (Some []) (Some more) buffers.middle (at kept.book lines diagnostic) (holds_kept buffers.left b (Some []) (Some buffered) (Some more) buffers.middle (at kept.book lines diagnostic) buffers.pending keeps);
         reads = reads;
         calls = buffers.calls;
         holds = holds_still;
@@ -148,47 +148,47 @@ module _ {D : Type 0} (seen : D → List ℕ) (may_leave : D → List ℕ → Ty
         is = sym same;
       }
 
-      pub stopped : (after : ℕ) (learnt : Diagnostic) (why : TalkFault) → TakesStep b c (Some held) (Some more) (at kept.book lines diagnostic) (Err why) (at new.book after learnt) → FailsBuffered seen may_leave durable a c old now more first new
+      pub stopped : (after : ℕ) (learnt : Diagnostic) (why : TalkFault) → TakesStep b c (Some buffered) (Some more) (at kept.book lines diagnostic) (Err why) (at new.book after learnt) → FailsBuffered seen may_leave durable a c old now more first new
       stopped after learnt talk.Memory takes_step = none_more takes_step.none takes_step.keeps (ap (λ (s : SessionState). s.history) takes_step.same)
       stopped after learnt (talk.Read error) takes_step = none_more takes_step.none takes_step.keeps (ap (λ (s : SessionState). s.history) takes_step.same)
       stopped after learnt talk.Internal takes_step = none_more (record { some = takes_step.none.some; reads = takes_step.none.reads; is = takes_step.none.is }) takes_step.keeps (ap (λ (s : SessionState). s.history) takes_step.same)
       stopped after learnt (talk.Write error) takes_step =
           one_more takes_step.exchange takes_step.reached (last_read b c takes_step.whole takes_step.exchange.command takes_step.reads) takes_step.answers (command_read b c takes_step.whole takes_step.exchange.command takes_step.reads) takes_step.writes (sym (ap (λ (s : SessionState). s.history) takes_step.same))
 
-      pub ended : (after : ℕ) (learnt : Diagnostic) → TakesStep b c (Some held) (Some more) (at kept.book lines diagnostic) (Ok false) (at new.book after learnt) → FailsBuffered seen may_leave durable a c old now more first new
+      pub ended : (after : ℕ) (learnt : Diagnostic) → TakesStep b c (Some buffered) (Some more) (at kept.book lines diagnostic) (Ok false) (at new.book after learnt) → FailsBuffered seen may_leave durable a c old now more first new
       ended after learnt takes_step =
-          one_more takes_step.exchange (at new.book after learnt) (last_read b c false takes_step.exchange.command takes_step.reads) takes_step.answers takes_step.reads.0 (appends_some (Some held) (Some more) takes_step.exchange.answer takes_step.writes) refl
+          one_more takes_step.exchange (at new.book after learnt) (last_read b c false takes_step.exchange.command takes_step.reads) takes_step.answers takes_step.reads.0 (appends_some (Some buffered) (Some more) takes_step.exchange.answer takes_step.writes) refl
 
       -- and once everything is written, the conversation is one without buffering
-      ends_as : (after : ℕ) (learnt : Diagnostic) (then : Option (List ℕ)) (take_step : Result Bool TalkFault) → TakesStep b c (append_known now held) then (at kept.book lines diagnostic) take_step (at new.book after learnt)
+      ends_as : (after : ℕ) (learnt : Diagnostic) (then : Option (List ℕ)) (take_step : Result Bool TalkFault) → TakesStep b c (append_known now buffered) then (at kept.book lines diagnostic) take_step (at new.book after learnt)
           → EndsWithStep a c old then first take_step new.book
       ends_as after learnt then take_step takes_step = record {
         left = b;
-        held = append_known now held;
+        buffered = append_known now buffered;
         middle = at kept.book lines diagnostic;
         last = at new.book after learnt;
-        holds = holds_trans a buffers.left b old now (append_known now held) held first buffers.middle (at kept.book lines diagnostic) buffers.written buffers.pending (appends_known now held);
+        holds = holds_trans a buffers.left b old now (append_known now buffered) buffered first buffers.middle (at kept.book lines diagnostic) buffers.written buffers.pending (appends_known now buffered);
         takes_step = takes_step;
         leaves = refl;
       }
 
-      pub ends_so : (after : ℕ) (learnt : Diagnostic) (then : Option (List ℕ)) → TakesStep b c (Some held) (Some more) (at kept.book lines diagnostic) (Ok false) (at new.book after learnt) → Appends now then more
+      pub ends_so : (after : ℕ) (learnt : Diagnostic) (then : Option (List ℕ)) → TakesStep b c (Some buffered) (Some more) (at kept.book lines diagnostic) (Ok false) (at new.book after learnt) → Appends now then more
           → EndsWithStep a c old then first (Ok false) new.book
       ends_so after learnt then takes_step grows = ends_as after learnt then (Ok false) (record {
         exchange = takes_step.exchange;
         reads = takes_step.reads;
         answers = takes_step.answers;
-        writes = appends_after now then held more takes_step.exchange.answer takes_step.writes grows;
+        writes = appends_after now then buffered more takes_step.exchange.answer takes_step.writes grows;
       })
 
-      pub breaks_so : (after : ℕ) (learnt : Diagnostic) (then : Option (List ℕ)) (why : TalkFault) → TakesStep b c (Some held) (Some more) (at kept.book lines diagnostic) (Err why) (at new.book after learnt) → Appends now then more
+      pub breaks_so : (after : ℕ) (learnt : Diagnostic) (then : Option (List ℕ)) (why : TalkFault) → TakesStep b c (Some buffered) (Some more) (at kept.book lines diagnostic) (Err why) (at new.book after learnt) → Appends now then more
           → EndsWithStep a c old then first (Err why) new.book
       breaks_so after learnt then talk.Memory takes_step grows =
-          ends_as after learnt then (Err talk.Memory) (record { none = takes_step.none; keeps = keeps_after now then held more takes_step.keeps grows; same = takes_step.same })
+          ends_as after learnt then (Err talk.Memory) (record { none = takes_step.none; keeps = keeps_after now then buffered more takes_step.keeps grows; same = takes_step.same })
       breaks_so after learnt then (talk.Read error) takes_step grows =
-          ends_as after learnt then (Err (talk.Read error)) (record { none = takes_step.none; keeps = keeps_after now then held more takes_step.keeps grows; same = takes_step.same })
+          ends_as after learnt then (Err (talk.Read error)) (record { none = takes_step.none; keeps = keeps_after now then buffered more takes_step.keeps grows; same = takes_step.same })
       breaks_so after learnt then talk.Internal takes_step grows =
-          ends_as after learnt then (Err talk.Internal) (record { none = takes_step.none; keeps = keeps_after now then held more takes_step.keeps grows; same = takes_step.same })
+          ends_as after learnt then (Err talk.Internal) (record { none = takes_step.none; keeps = keeps_after now then buffered more takes_step.keeps grows; same = takes_step.same })
       breaks_so after learnt then (talk.Write error) takes_step grows = ends_as after learnt then (Err (talk.Write error)) (record {
         whole = takes_step.whole;
         exchange = takes_step.exchange;
@@ -196,10 +196,10 @@ module _ {D : Type 0} (seen : D → List ℕ) (may_leave : D → List ℕ → Ty
         reached = takes_step.reached;
         answers = takes_step.answers;
         same = takes_step.same;
-        writes = (takes_step.writes.0, takes_step.writes.1, takes_step.writes.2, appends_after now then held more takes_step.writes.0 takes_step.writes.3 grows);
+        writes = (takes_step.writes.0, takes_step.writes.1, takes_step.writes.2, appends_after now then buffered more takes_step.writes.0 takes_step.writes.3 grows);
       })
 
-  module _ (come : Option (List ℕ)) (held : List ℕ) (stays : FailsBuffered seen may_leave durable a come old now held first kept) where
+  module _ (come : Option (List ℕ)) (buffered : List ℕ) (stays : FailsBuffered seen may_leave durable a come old now buffered first kept) where
     within_book : IsFrontOf stays.calls (stored_in kept)
     within_book = subst (λ (h : Entries). IsFrontOf stays.calls (stored_of h)) stays.is stays.within
 
@@ -210,7 +210,7 @@ module _ {D : Type 0} (seen : D → List ℕ) (may_leave : D → List ℕ → Ty
 
     module _ (new : Kept D) (after : Option (List ℕ)) (same : new.book ≡ kept.book) where
       -- all calls are persisted, and a prefix of the buffered answers is written
-      promised_all : AllAreDurable seen may_leave kept new → AppendsSome now after held → Promises seen may_leave durable a old after first new
+      promised_all : AllAreDurable seen may_leave kept new → AppendsSome now after buffered → Promises seen may_leave durable a old after first new
       promised_all keeps grows =
           let all : Holds seen may_leave (stored_in kept) new = keeps stays.calls within_book stays.holds in
           record {
@@ -227,7 +227,7 @@ module _ {D : Type 0} (seen : D → List ℕ) (may_leave : D → List ℕ → Ty
           }
         where
           written_now : AnswersWritten a stays.right old after first stays.last
-          written_now = written_trans a stays.left stays.right old now after held first stays.middle stays.last stays.written stays.pending grows
+          written_now = written_trans a stays.left stays.right old now after buffered first stays.middle stays.last stays.written stays.pending grows
 
       -- it is not known whether they are persisted
       left_some : (answered : List Exchange) → IsFrontOf (durable_at_least answered durable (stored_of stays.middle.history)) stays.calls
@@ -265,11 +265,11 @@ module _ {D : Type 0} (seen : D → List ℕ) (may_leave : D → List ℕ → Ty
       last_is = stays.is ∙ sym same
 
       -- if the writer fails
-      unwritten : AllAreDurable seen may_leave kept new → AppendsSome now after held → StopsUnwritten seen may_leave a come old after first new
+      unwritten : AllAreDurable seen may_leave kept new → AppendsSome now after buffered → StopsUnwritten seen may_leave a come old after first new
       unwritten keeps grows = record {
         last = stays.last;
         right = stays.right;
-        written = written_trans a stays.left stays.right old now after held first stays.middle stays.last stays.written stays.pending grows;
+        written = written_trans a stays.left stays.right old now after buffered first stays.middle stays.last stays.written stays.pending grows;
         reads = stays.reads;
         is = last_is;
         holds = holds_all new same keeps;
@@ -284,7 +284,7 @@ module _ {D : Type 0} (seen : D → List ℕ) (may_leave : D → List ℕ → Ty
         left = stays.left;
         right = stays.right;
         written = holds_kept a stays.left old now after first stays.middle stays.written keeps;
-        pending = written_unknown stays.left stays.right (Some []) (Some held) stays.middle stays.last stays.pending;
+        pending = written_unknown stays.left stays.right (Some []) (Some buffered) stays.middle stays.last stays.pending;
         reads = stays.reads;
         is = last_is;
         calls = stays.calls;
@@ -297,12 +297,12 @@ module _ {D : Type 0} (seen : D → List ℕ) (may_leave : D → List ℕ → Ty
       }
 
       -- if everything is flushed
-      pub promised : (done : Unit {0}) (rest : List ℕ) → FlushesAnswers seen may_leave kept held now (Ok done) new rest after
+      pub promised : (done : Unit {0}) (rest : List ℕ) → FlushesAnswers seen may_leave kept buffered now (Ok done) new rest after
           → Promises seen may_leave durable a old after first new × Holds seen may_leave (stored_in new) new
-      promised done rest flushes = (promised_all flushes.0 (appends_some now after held flushes.2), holds_all new same flushes.0)
+      promised done rest flushes = (promised_all flushes.0 (appends_some now after buffered flushes.2), holds_all new same flushes.0)
 
       -- if flushing fails
-      pub stops_so : (why : StoredFault) (rest : List ℕ) → FlushesAnswers seen may_leave kept held now (Err why) new rest after
+      pub stops_so : (why : StoredFault) (rest : List ℕ) → FlushesAnswers seen may_leave kept buffered now (Err why) new rest after
           → StopsWithFault seen may_leave durable a come old after first why new
       stops_so (fault.Kept why) rest flushes = (promised_some flushes.0 flushes.1, unkept why flushes.0 flushes.1 flushes.2)
       stops_so (fault.Talk why) rest flushes = absurd flushes
@@ -310,21 +310,21 @@ module _ {D : Type 0} (seen : D → List ℕ) (may_leave : D → List ℕ → Ty
       stops_so (fault.Write error) rest flushes = (promised_all flushes.0 flushes.1, unwritten flushes.0 flushes.1)
 
 -- whatever the result of flushing
-pub flushed_first : {D : Type 0} (seen : D → List ℕ) (may_leave : D → List ℕ → Type 0) (durable : Stored) (a b old now after : Option (List ℕ)) (first : SessionState) (kept new : Kept D) (held rest : List ℕ) (lines : ℕ) (diagnostic : Diagnostic)
-    (result : Result (Unit {0}) StoredFault) → BuffersAnswers seen may_leave durable a b old now held first (at kept.book lines diagnostic) kept → FlushesAnswers seen may_leave kept held now result new rest after
+pub flushed_first : {D : Type 0} (seen : D → List ℕ) (may_leave : D → List ℕ → Type 0) (durable : Stored) (a b old now after : Option (List ℕ)) (first : SessionState) (kept new : Kept D) (buffered rest : List ℕ) (lines : ℕ) (diagnostic : Diagnostic)
+    (result : Result (Unit {0}) StoredFault) → BuffersAnswers seen may_leave durable a b old now buffered first (at kept.book lines diagnostic) kept → FlushesAnswers seen may_leave kept buffered now result new rest after
     → new.book ≡ kept.book → AfterFlush seen may_leave durable a b old after rest first (at new.book lines diagnostic) result new
-flushed_first seen may_leave durable a b old now after first kept new held rest lines diagnostic (Ok done) buffers flushes same =
-    flushed_answers seen may_leave durable a old now first kept b held lines diagnostic buffers new after rest flushes.0 flushes.1 flushes.2 same
-flushed_first seen may_leave durable a b old now after first kept new held rest lines diagnostic (Err why) buffers flushes same =
-    stops_so seen may_leave durable a old now first kept b held (stays seen may_leave durable a old now first kept b held lines diagnostic buffers) new after same why rest flushes
+flushed_first seen may_leave durable a b old now after first kept new buffered rest lines diagnostic (Ok done) buffers flushes same =
+    flushed_answers seen may_leave durable a old now first kept b buffered lines diagnostic buffers new after rest flushes.0 flushes.1 flushes.2 same
+flushed_first seen may_leave durable a b old now after first kept new buffered rest lines diagnostic (Err why) buffers flushes same =
+    stops_so seen may_leave durable a old now first kept b buffered (stays seen may_leave durable a old now first kept b buffered lines diagnostic buffers) new after same why rest flushes
 
 -- whatever the result of a step after which everything is flushed
-module _ {D : Type 0} (seen : D → List ℕ) (may_leave : D → List ℕ → Type 0) (durable : Stored) (a b d old now : Option (List ℕ)) (first : SessionState) (kept executed : Kept D) (held more : List ℕ) (lines after : ℕ) (diagnostic learnt : Diagnostic)
-    (buffers : BuffersAnswers seen may_leave durable a b old now held first (at kept.book lines diagnostic) kept) (same_log : executed.log ≡ kept.log) (same_count : executed.count ≡ kept.count)
+module _ {D : Type 0} (seen : D → List ℕ) (may_leave : D → List ℕ → Type 0) (durable : Stored) (a b d old now : Option (List ℕ)) (first : SessionState) (kept executed : Kept D) (buffered more : List ℕ) (lines after : ℕ) (diagnostic learnt : Diagnostic)
+    (buffers : BuffersAnswers seen may_leave durable a b old now buffered first (at kept.book lines diagnostic) kept) (same_log : executed.log ≡ kept.log) (same_count : executed.count ≡ kept.count)
     (new : Kept D) (same : new.book ≡ executed.book) (rest : List ℕ) (then : Option (List ℕ)) where
-  module _ (takes_step : TakesStep b d (Some held) (Some more) (at kept.book lines diagnostic) (Ok false) (at executed.book after learnt)) where
+  module _ (takes_step : TakesStep b d (Some buffered) (Some more) (at kept.book lines diagnostic) (Ok false) (at executed.book after learnt)) where
     ended_with_buffer : FailsBuffered seen may_leave durable a d old now more first executed
-    ended_with_buffer = ended seen may_leave durable a old now first kept b held lines diagnostic buffers d more executed same_log same_count after learnt takes_step
+    ended_with_buffer = ended seen may_leave durable a old now first kept b buffered lines diagnostic buffers d more executed same_log same_count after learnt takes_step
 
     -- at the end of the input
     pub ends_step : (done : Unit {0}) → FlushesAnswers seen may_leave executed more now (Ok done) new rest then
@@ -333,16 +333,16 @@ module _ {D : Type 0} (seen : D → List ℕ) (may_leave : D → List ℕ → Ty
         let both = promised seen may_leave durable a old now first executed d more ended_with_buffer new then same done rest flushes in (
           both.0,
           subst (λ (h : Entries). EndsWithStep a d old then first (Ok false) h) (sym same)
-              (ends_so seen may_leave durable a old now first kept b held lines diagnostic buffers d more executed same_log same_count after learnt then takes_step flushes.2),
+              (ends_so seen may_leave durable a old now first kept b buffered lines diagnostic buffers d more executed same_log same_count after learnt then takes_step flushes.2),
           both.1,
         )
 
     pub ends_unflushed : (why : StoredFault) → FlushesAnswers seen may_leave executed more now (Err why) new rest then → StopsWithFault seen may_leave durable a d old then first why new
     ends_unflushed why flushes = stops_so seen may_leave durable a old now first executed d more ended_with_buffer new then same why rest flushes
 
-  module _ (wrong : TalkFault) (takes_step : TakesStep b d (Some held) (Some more) (at kept.book lines diagnostic) (Err wrong) (at executed.book after learnt)) where
+  module _ (wrong : TalkFault) (takes_step : TakesStep b d (Some buffered) (Some more) (at kept.book lines diagnostic) (Err wrong) (at executed.book after learnt)) where
     stopped_with_buffer : FailsBuffered seen may_leave durable a d old now more first executed
-    stopped_with_buffer = stopped seen may_leave durable a old now first kept b held lines diagnostic buffers d more executed same_log same_count after learnt wrong takes_step
+    stopped_with_buffer = stopped seen may_leave durable a old now first kept b buffered lines diagnostic buffers d more executed same_log same_count after learnt wrong takes_step
 
     -- at a fault
     pub fails_step : (reported : TalkFault) → reported ≡ write_as_memory wrong → (done : Unit {0}) → FlushesAnswers seen may_leave executed more now (Ok done) new rest then
@@ -354,7 +354,7 @@ module _ {D : Type 0} (seen : D → List ℕ) (may_leave : D → List ℕ → Ty
             why = wrong;
             reported_is = reported_is;
             ends = subst (λ (h : Entries). EndsWithStep a d old then first (Err wrong) h) (sym same)
-                (breaks_so seen may_leave durable a old now first kept b held lines diagnostic buffers d more executed same_log same_count after learnt then wrong takes_step flushes.2);
+                (breaks_so seen may_leave durable a old now first kept b buffered lines diagnostic buffers d more executed same_log same_count after learnt then wrong takes_step flushes.2);
           },
           both.1,
         )
@@ -363,15 +363,15 @@ module _ {D : Type 0} (seen : D → List ℕ) (may_leave : D → List ℕ → Ty
     fails_unflushed why flushes = stops_so seen may_leave durable a old now first executed d more stopped_with_buffer new then same why rest flushes
 
 -- the rest of a commit
-pub flushes_so : {D : Type 0} (seen : D → List ℕ) (may_leave : D → List ℕ → Type 0) (old new : Kept D) (held now : List ℕ) (before after : Option (List ℕ)) (result : Result (Unit {0}) StoredFault)
+pub flushes_so : {D : Type 0} (seen : D → List ℕ) (may_leave : D → List ℕ → Type 0) (old new : Kept D) (buffered now : List ℕ) (before after : Option (List ℕ)) (result : Result (Unit {0}) StoredFault)
     → AllAreDurable seen may_leave old new
-    → MatchResult result (λ done. (now ≡ []) × Appends before after held) (λ why. IsUnwritten why × AppendsSome before after held)
-    → FlushesAnswers seen may_leave old held before result new now after
-flushes_so seen may_leave old new held now before after (Ok done) keeps buffers = (keeps, buffers.0, buffers.1)
-flushes_so seen may_leave old new held now before after (Err (fault.Kept why)) keeps buffers = absurd buffers.0
-flushes_so seen may_leave old new held now before after (Err (fault.Talk why)) keeps buffers = absurd buffers.0
-flushes_so seen may_leave old new held now before after (Err (fault.Frame why)) keeps buffers = absurd buffers.0
-flushes_so seen may_leave old new held now before after (Err (fault.Write error)) keeps buffers = (keeps, buffers.1)
+    → MatchResult result (λ done. (now ≡ []) × Appends before after buffered) (λ why. IsUnwritten why × AppendsSome before after buffered)
+    → FlushesAnswers seen may_leave old buffered before result new now after
+flushes_so seen may_leave old new buffered now before after (Ok done) keeps buffers = (keeps, buffers.0, buffers.1)
+flushes_so seen may_leave old new buffered now before after (Err (fault.Kept why)) keeps buffers = absurd buffers.0
+flushes_so seen may_leave old new buffered now before after (Err (fault.Talk why)) keeps buffers = absurd buffers.0
+flushes_so seen may_leave old new buffered now before after (Err (fault.Frame why)) keeps buffers = absurd buffers.0
+flushes_so seen may_leave old new buffered now before after (Err (fault.Write error)) keeps buffers = (keeps, buffers.1)
 
 -- the fault of a turn is the fault of the conversation
 pub talk_stops : {D : Type 0} (seen : D → List ℕ) (may_leave : D → List ℕ → Type 0) (durable : Stored) (a d old now : Option (List ℕ)) (first : SessionState) (kept : Kept D)

@@ -33,10 +33,10 @@ write_as_memory Internal = Internal
 
 -- what a step writes that can't persist the calls: all answers buffered before it, or nothing
 abbrev pub WritesAllOrNone : List ℕ → Option (List ℕ) → Option (List ℕ) → StoredFault → Type 0
-WritesAllOrNone held before after (fault.Kept why) = Appends before after held ⊎ Keeps before after
-WritesAllOrNone held before after (fault.Talk why) = Unit {0}
-WritesAllOrNone held before after (fault.Frame why) = Unit {0}
-WritesAllOrNone held before after (fault.Write error) = Unit {0}
+WritesAllOrNone buffered before after (fault.Kept why) = Appends before after buffered ⊎ Keeps before after
+WritesAllOrNone buffered before after (fault.Talk why) = Unit {0}
+WritesAllOrNone buffered before after (fault.Frame why) = Unit {0}
+WritesAllOrNone buffered before after (fault.Write error) = Unit {0}
 
 -- if the calls can't be persisted nothing is written
 abbrev pub WritesNone : Option (List ℕ) → Option (List ℕ) → StoredFault → Type 0
@@ -65,13 +65,13 @@ module _ {D : Type 0} (seen : D → List ℕ) (may_leave : D → List ℕ → Ty
   -- Kept: nothing was written, and the repository is as the commit left it. Write: all calls are persisted, and a
   -- prefix of the answers was written.
   abbrev pub FlushesAnswers : Kept D → List ℕ → Option (List ℕ) → Result (Unit {0}) StoredFault → Kept D → List ℕ → Option (List ℕ) → Type 0
-  FlushesAnswers old held before (Ok done) new now after = AllAreDurable old new × (now ≡ []) × Appends before after held
-  FlushesAnswers old held before (Err (fault.Kept why)) new now after = MayBeDurable old new × Keeps before after × LeavesKept why old new
-  FlushesAnswers old held before (Err (fault.Talk why)) new now after = ⊥
-  FlushesAnswers old held before (Err (fault.Frame why)) new now after = ⊥
-  FlushesAnswers old held before (Err (fault.Write error)) new now after = AllAreDurable old new × AppendsSome before after held
+  FlushesAnswers old buffered before (Ok done) new now after = AllAreDurable old new × (now ≡ []) × Appends before after buffered
+  FlushesAnswers old buffered before (Err (fault.Kept why)) new now after = MayBeDurable old new × Keeps before after × LeavesKept why old new
+  FlushesAnswers old buffered before (Err (fault.Talk why)) new now after = ⊥
+  FlushesAnswers old buffered before (Err (fault.Frame why)) new now after = ⊥
+  FlushesAnswers old buffered before (Err (fault.Write error)) new now after = AllAreDurable old new × AppendsSome before after buffered
 
-  module _ (durable : Stored) (remaining rest old now : Option (List ℕ)) (held : List ℕ) (first last : SessionState) (kept : Kept D) where
+  module _ (durable : Stored) (remaining rest old now : Option (List ℕ)) (buffered : List ℕ) (first last : SessionState) (kept : Kept D) where
     -- where these first calls were durable: commands were answered up to a place, and all calls that were accepted
     -- until then are durable; before the first answer the same calls are, at least. The answers to the commands after
     -- the place are buffered.
@@ -79,7 +79,7 @@ module _ {D : Type 0} (seen : D → List ℕ) (may_leave : D → List ℕ → Ty
       pub middle : SessionState
       pub left : Option (List ℕ)
       pub written : HasAnswered remaining left old now first middle
-      pub pending : HasAnswered left rest (Some []) (Some held) middle last
+      pub pending : HasAnswered left rest (Some []) (Some buffered) middle last
       pub calls : Stored
       pub holds : Holds seen may_leave calls kept
       pub still : IsFrontOf durable calls
@@ -88,13 +88,13 @@ module _ {D : Type 0} (seen : D → List ℕ) (may_leave : D → List ℕ → Ty
 
   -- a step has failed: the answers to the commands after the place are buffered, perhaps in part; and no more was
   -- read after them than a command has
-  pub record FailsBuffered (durable : Stored) (remaining rest old now : Option (List ℕ)) (held : List ℕ) (first : SessionState) (kept : Kept D) : Type 0 where
+  pub record FailsBuffered (durable : Stored) (remaining rest old now : Option (List ℕ)) (buffered : List ℕ) (first : SessionState) (kept : Kept D) : Type 0 where
     pub middle : SessionState
     pub last : SessionState
     pub left : Option (List ℕ)
     pub right : Option (List ℕ)
     pub written : HasAnswered remaining left old now first middle
-    pub pending : AnswersWritten left right (Some []) (Some held) middle last
+    pub pending : AnswersWritten left right (Some []) (Some buffered) middle last
     pub reads : ReadsWithin right rest
     pub calls : Stored
     pub holds : Holds seen may_leave calls kept
@@ -149,16 +149,16 @@ module _ {D : Type 0} (seen : D → List ℕ) (may_leave : D → List ℕ → Ty
 
   -- the result of a step
   abbrev pub AfterStep : Stored → (remaining rest old now : Option (List ℕ)) → List ℕ → SessionState → SessionState → Result Bool StoredFault → Kept D → Type 0
-  AfterStep durable remaining rest old now held first last (Ok true) kept = BuffersAnswers durable remaining rest old now held first last kept
-  AfterStep durable remaining rest old now held first last (Ok false) kept =
+  AfterStep durable remaining rest old now buffered first last (Ok true) kept = BuffersAnswers durable remaining rest old now buffered first last kept
+  AfterStep durable remaining rest old now buffered first last (Ok false) kept =
       Promises seen may_leave durable remaining old now first kept × EndsWithStep remaining rest old now first (Ok false) last.history
       × Holds seen may_leave (stored_in kept) kept
-  AfterStep durable remaining rest old now held first last (Err why) kept = StopsWithFault durable remaining rest old now first why kept
+  AfterStep durable remaining rest old now buffered first last (Err why) kept = StopsWithFault durable remaining rest old now first why kept
 
   -- the result of flushing
   abbrev pub AfterFlush : Stored → (remaining rest old now : Option (List ℕ)) → List ℕ → SessionState → SessionState → Result (Unit {0}) StoredFault → Kept D → Type 0
-  AfterFlush durable remaining rest old now held first last (Ok done) kept = BuffersAnswers durable remaining rest old now held first last kept
-  AfterFlush durable remaining rest old now held first last (Err why) kept = StopsWithFault durable remaining rest old now first why kept
+  AfterFlush durable remaining rest old now buffered first last (Ok done) kept = BuffersAnswers durable remaining rest old now buffered first last kept
+  AfterFlush durable remaining rest old now buffered first last (Err why) kept = StopsWithFault durable remaining rest old now first why kept
 
   -- a conversation over a repository of which these first calls are durable, from its start: the promise holds. After
   -- Ok it was held to its end, and all accepted calls are durable.

@@ -18,28 +18,28 @@ use std::io::Write;
 pub(crate) fn commit_and_flush<D: Disk, W: Write>(
     alloc: Global,
     kept: &mut Kept<D>,
-    held: &mut Vec<u8>,
+    buffered: &mut Vec<u8>,
     writer: &mut W,
 ) -> Result<(), StoredFault>
-    ensures flushes { FlushesAnswers D.Disk.seen D.Disk.may_leave kept.old held.old.items (W.contents writer.old) result kept.new held.new.items (W.contents writer.new) }
+    ensures flushes { FlushesAnswers D.Disk.seen D.Disk.may_leave kept.old buffered.old.items (W.contents writer.old) result kept.new buffered.new.items (W.contents writer.new) }
     ensures stopped { may_commit kept.old ≡ false → (result ≡ Err stopped_fault) × (kept.new ≡ kept.old) × (writer.new ≡ writer.old) }
     ensures faults { CountsStored result (D.Disk.faults (disk_in kept.old)) (D.Disk.faults (disk_in kept.new)) }
     ensures book { kept.new.book ≡ kept.old.book }
     ensures clean { D.Disk.is_clean (disk_in kept.new) ≡ D.Disk.is_clean (disk_in kept.old) }
 {
     kept.commit(alloc)?;
-    write_buffered(held, writer)
+    write_buffered(buffered, writer)
 }
 
 // Writes the buffered answers, and flushes them.
-fn write_buffered<W: Write>(held: &mut Vec<u8>, writer: &mut W) -> Result<(), StoredFault>
+fn write_buffered<W: Write>(buffered: &mut Vec<u8>, writer: &mut W) -> Result<(), StoredFault>
     ensures { MatchResult result
-        (λ _. (held.new.items ≡ []) × Appends (W.contents writer.old) (W.contents writer.new) held.old.items)
-        (λ why. IsUnwritten why × AppendsSome (W.contents writer.old) (W.contents writer.new) held.old.items) }
+        (λ _. (buffered.new.items ≡ []) × Appends (W.contents writer.old) (W.contents writer.new) buffered.old.items)
+        (λ why. IsUnwritten why × AppendsSome (W.contents writer.old) (W.contents writer.new) buffered.old.items) }
 {
-    match write_answer(writer, held) {
+    match write_answer(writer, buffered) {
         Ok(()) => {
-            held.clear();
+            buffered.clear();
             Ok(())
         }
         Err(error) => Err(StoredFault::Write(error)),

@@ -40,7 +40,7 @@ pub fn serve_kept<D: Disk, R: BufRead, W: Write>(
         },
         Ok(false) => Ok(false),
         Err(why) => match kept.commit(alloc) {
-            Ok(()) => Err(StoredFault::Frame(without_room(why))),
+            Ok(()) => Err(StoredFault::Frame(frame_write_as_memory(why))),
             Err(fault) => Err(StoredFault::Kept(fault)),
         },
     }
@@ -48,7 +48,7 @@ pub fn serve_kept<D: Disk, R: BufRead, W: Write>(
 
 // Returns why a request could not be served whose answer goes to memory: if it can't be stored, out of
 // memory.
-fn without_room(why: FrameFault) -> FrameFault
+fn frame_write_as_memory(why: FrameFault) -> FrameFault
     ensures { result ≡ frame_write_as_memory why }
 {
     match why {

@@ -53,66 +53,66 @@ impl AnswerBuffer {
 pub fn take_stored_step<D: Disk, R: BufRead, W: Write>(
     alloc: Global,
     kept: &mut Kept<D>,
-    held: &mut AnswerBuffer,
+    buffered: &mut AnswerBuffer,
     is_ready: bool,
     reader: &mut R,
     writer: &mut W,
 ) -> Result<bool, StoredFault>
     ensures buffers { (durable : Stored) (remaining old : Option (List ℕ)) (first : SessionState)
-        → BuffersAnswers D.Disk.seen D.Disk.may_leave durable remaining (R.remaining reader.old) old (W.contents writer.old) held.old.answers.items first
-        (record { history = kept.old.book; lines = held.old.lines; diagnostic = held.old.diagnostic }) kept.old
-        → AfterStep D.Disk.seen D.Disk.may_leave durable remaining (R.remaining reader.new) old (W.contents writer.new) held.new.answers.items first
-        (record { history = kept.new.book; lines = held.new.lines; diagnostic = held.new.diagnostic }) result kept.new }
-    ensures counts { IfOk result (λ more. more ≡ true → HasGrown held.old.lines held.new.lines) }
+        → BuffersAnswers D.Disk.seen D.Disk.may_leave durable remaining (R.remaining reader.old) old (W.contents writer.old) buffered.old.answers.items first
+        (record { history = kept.old.book; lines = buffered.old.lines; diagnostic = buffered.old.diagnostic }) kept.old
+        → AfterStep D.Disk.seen D.Disk.may_leave durable remaining (R.remaining reader.new) old (W.contents writer.new) buffered.new.answers.items first
+        (record { history = kept.new.book; lines = buffered.new.lines; diagnostic = buffered.new.diagnostic }) result kept.new }
+    ensures counts { IfOk result (λ more. more ≡ true → HasGrown buffered.old.lines buffered.new.lines) }
     // It reads no more than a command has; and if the calls can't be persisted, it writes all buffered
     // answers, or nothing.
     ensures within { ReadsWithin (R.remaining reader.old) (R.remaining reader.new) }
-    ensures whole { IfErr result (WritesAllOrNone held.old.answers.items (W.contents writer.old) (W.contents writer.new)) }
+    ensures whole { IfErr result (WritesAllOrNone buffered.old.answers.items (W.contents writer.old) (W.contents writer.new)) }
     // If no command is ready, the buffered answers are written.
-    ensures flushes { is_ready ≡ false → IfOk result (λ more. more ≡ true → Appends (W.contents writer.old) (W.contents writer.new) held.old.answers.items) }
+    ensures flushes { is_ready ≡ false → IfOk result (λ more. more ≡ true → Appends (W.contents writer.old) (W.contents writer.new) buffered.old.answers.items) }
     // If a commit has failed at the disk before, nothing is written.
     ensures stopped { may_commit kept.old ≡ false → StaysStopped kept.old kept.new writer.old writer.new
         × MatchResult result (λ more. more ≡ true) (λ why. why ≡ stopped_fault) }
     ensures faults { CountsStored result (D.Disk.faults (disk_in kept.old)) (D.Disk.faults (disk_in kept.new)) }
     ensures clean { D.Disk.is_clean (disk_in kept.new) ≡ D.Disk.is_clean (disk_in kept.old) }
 {
-    flush_first(alloc, kept, held, is_ready, writer)?;
-    read_and_buffer(alloc, kept, held, reader, writer)
+    flush_first(alloc, kept, buffered, is_ready, writer)?;
+    read_and_buffer(alloc, kept, buffered, reader, writer)
 }
 
 // Flushes the buffered answers, if no command is ready or many are pending.
 fn flush_first<D: Disk, W: Write>(
     alloc: Global,
     kept: &mut Kept<D>,
-    held: &mut AnswerBuffer,
+    buffered: &mut AnswerBuffer,
     is_ready: bool,
     writer: &mut W,
 ) -> Result<(), StoredFault>
     ensures buffers { (durable : Stored) (remaining rest old : Option (List ℕ)) (first : SessionState)
-        → BuffersAnswers D.Disk.seen D.Disk.may_leave durable remaining rest old (W.contents writer.old) held.old.answers.items first
-        (record { history = kept.old.book; lines = held.old.lines; diagnostic = held.old.diagnostic }) kept.old
-        → AfterFlush D.Disk.seen D.Disk.may_leave durable remaining rest old (W.contents writer.new) held.new.answers.items first
-        (record { history = kept.new.book; lines = held.new.lines; diagnostic = held.new.diagnostic }) result kept.new }
-    ensures lines { held.new.lines ≡ held.old.lines }
+        → BuffersAnswers D.Disk.seen D.Disk.may_leave durable remaining rest old (W.contents writer.old) buffered.old.answers.items first
+        (record { history = kept.old.book; lines = buffered.old.lines; diagnostic = buffered.old.diagnostic }) kept.old
+        → AfterFlush D.Disk.seen D.Disk.may_leave durable remaining rest old (W.contents writer.new) buffered.new.answers.items first
+        (record { history = kept.new.book; lines = buffered.new.lines; diagnostic = buffered.new.diagnostic }) result kept.new }
+    ensures lines { buffered.new.lines ≡ buffered.old.lines }
     ensures whole { MatchResult result
-        (λ _. Appends (W.contents writer.old) (W.contents writer.new) held.old.answers.items ⊎ Keeps (W.contents writer.old) (W.contents writer.new))
-        (WritesAllOrNone held.old.answers.items (W.contents writer.old) (W.contents writer.new)) }
-    ensures flushes { is_ready ≡ false → OnOk result (Appends (W.contents writer.old) (W.contents writer.new) held.old.answers.items) }
+        (λ _. Appends (W.contents writer.old) (W.contents writer.new) buffered.old.answers.items ⊎ Keeps (W.contents writer.old) (W.contents writer.new))
+        (WritesAllOrNone buffered.old.answers.items (W.contents writer.old) (W.contents writer.new)) }
+    ensures flushes { is_ready ≡ false → OnOk result (Appends (W.contents writer.old) (W.contents writer.new) buffered.old.answers.items) }
     ensures stopped { may_commit kept.old ≡ false → (kept.new ≡ kept.old) × (writer.new ≡ writer.old) × IfErr result (λ why. why ≡ stopped_fault) }
     ensures faults { CountsStored result (D.Disk.faults (disk_in kept.old)) (D.Disk.faults (disk_in kept.new)) }
     ensures clean { D.Disk.is_clean (disk_in kept.new) ≡ D.Disk.is_clean (disk_in kept.old) }
 {
-    if may_wait(kept, held, is_ready) {
+    if may_wait(kept, buffered, is_ready) {
         return Ok(());
     }
-    commit_and_flush(alloc, kept, &mut held.answers, writer)
+    commit_and_flush(alloc, kept, &mut buffered.answers, writer)
 }
 
 // True if the buffered answers may wait: a command is ready, and not many are pending.
-fn may_wait<D: Disk>(kept: &Kept<D>, held: &AnswerBuffer, is_ready: bool) -> bool
+fn may_wait<D: Disk>(kept: &Kept<D>, buffered: &AnswerBuffer, is_ready: bool) -> bool
     ensures { is_ready ≡ false → result ≡ false }
 {
-    is_ready && kept.waiting() < MAX_CALLS && held.answers.len() < MAX_ANSWERS
+    is_ready && kept.waiting() < MAX_CALLS && buffered.answers.len() < MAX_ANSWERS
 }
 
 // Reads a command and executes it. At the end of the input everything is flushed.
@@ -120,16 +120,16 @@ fn may_wait<D: Disk>(kept: &Kept<D>, held: &AnswerBuffer, is_ready: bool) -> boo
 fn read_and_buffer<D: Disk, R: BufRead, W: Write>(
     alloc: Global,
     kept: &mut Kept<D>,
-    held: &mut AnswerBuffer,
+    buffered: &mut AnswerBuffer,
     reader: &mut R,
     writer: &mut W,
 ) -> Result<bool, StoredFault>
     ensures buffers { (durable : Stored) (remaining old : Option (List ℕ)) (first : SessionState)
-        → BuffersAnswers D.Disk.seen D.Disk.may_leave durable remaining (R.remaining reader.old) old (W.contents writer.old) held.old.answers.items first
-        (record { history = kept.old.book; lines = held.old.lines; diagnostic = held.old.diagnostic }) kept.old
-        → AfterStep D.Disk.seen D.Disk.may_leave durable remaining (R.remaining reader.new) old (W.contents writer.new) held.new.answers.items first
-        (record { history = kept.new.book; lines = held.new.lines; diagnostic = held.new.diagnostic }) result kept.new }
-    ensures counts { IfOk result (λ more. more ≡ true → HasGrown held.old.lines held.new.lines) }
+        → BuffersAnswers D.Disk.seen D.Disk.may_leave durable remaining (R.remaining reader.old) old (W.contents writer.old) buffered.old.answers.items first
+        (record { history = kept.old.book; lines = buffered.old.lines; diagnostic = buffered.old.diagnostic }) kept.old
+        → AfterStep D.Disk.seen D.Disk.may_leave durable remaining (R.remaining reader.new) old (W.contents writer.new) buffered.new.answers.items first
+        (record { history = kept.new.book; lines = buffered.new.lines; diagnostic = buffered.new.diagnostic }) result kept.new }
+    ensures counts { IfOk result (λ more. more ≡ true → HasGrown buffered.old.lines buffered.new.lines) }
     ensures within { ReadsWithin (R.remaining reader.old) (R.remaining reader.new) }
     ensures none { IfErr result (WritesNone (W.contents writer.old) (W.contents writer.new)) }
     ensures unwritten { IfOk result (λ more. more ≡ true → W.contents writer.new ≡ W.contents writer.old) }
@@ -141,26 +141,26 @@ fn read_and_buffer<D: Disk, R: BufRead, W: Write>(
     let stepped = take_step(
         alloc,
         &mut kept.book,
-        &mut held.lines,
-        &mut held.diagnostic,
+        &mut buffered.lines,
+        &mut buffered.diagnostic,
         reader,
-        &mut held.answers,
+        &mut buffered.answers,
     );
     match stepped {
         Ok(true) => Ok(true),
-        Ok(false) => match commit_and_flush(alloc, kept, &mut held.answers, writer) {
+        Ok(false) => match commit_and_flush(alloc, kept, &mut buffered.answers, writer) {
             Ok(()) => Ok(false),
             Err(fault) => Err(fault),
         },
-        Err(why) => match commit_and_flush(alloc, kept, &mut held.answers, writer) {
-            Ok(()) => Err(StoredFault::Talk(without_room(why))),
+        Err(why) => match commit_and_flush(alloc, kept, &mut buffered.answers, writer) {
+            Ok(()) => Err(StoredFault::Talk(write_as_memory(why))),
             Err(fault) => Err(fault),
         },
     }
 }
 
 // Returns why a step failed whose answer is buffered: if it can't be buffered, out of memory.
-fn without_room(why: TalkFault) -> TalkFault
+fn write_as_memory(why: TalkFault) -> TalkFault
     ensures { result ≡ write_as_memory why }
 {
     match why {

@@ -32,11 +32,11 @@ pub fn talk_kept<D: Disk, R: Read, W: Write>(
     ensures faults { CountsStored result (D.Disk.faults (disk_in kept.old)) (D.Disk.faults (disk_in kept.new)) }
     ensures clean { D.Disk.is_clean (disk_in kept.new) ≡ D.Disk.is_clean (disk_in kept.old) }
 {
-    let mut held = AnswerBuffer::new(alloc);
+    let mut buffered = AnswerBuffer::new(alloc);
     while take_stored_step(
         alloc,
         kept,
-        &mut held,
+        &mut buffered,
         begin_with_command(reader.buffer()),
         reader,
         writer,

@@ -62,7 +62,7 @@ fn talk_at_prompts(rt: &HostRuntime, kept: Kept<File>) -> Result<(), StoredFault
     talk(&mut PromptedStore {
         alloc: rt.alloc(),
         kept,
-        held: AnswerBuffer::new(rt.alloc()),
+        buffered: AnswerBuffer::new(rt.alloc()),
         reader: Prompting::new(rt.alloc(), reader, rt.stdout()),
         writer: rt.stdout(),
     })
@@ -78,7 +78,7 @@ fn talk_in_frames(rt: &HostRuntime, kept: Kept<File>) -> Result<(), StoredFault>
 struct PromptedStore<D: Disk, R, W> {
     alloc: Global,
     kept: Kept<D>,
-    held: AnswerBuffer,
+    buffered: AnswerBuffer,
     reader: Prompting<R, W>,
     writer: W,
 }
@@ -88,14 +88,14 @@ impl<D: Disk, R: BufRead, W: Write> Dialogue for PromptedStore<D, R, W> {
 
     ghost step_relation = { λ _ _ _. Unit {0} };
 
-    ghost left = { λ it. 2 ^ 64 - it.held.lines };
+    ghost left = { λ it. 2 ^ 64 - it.buffered.lines };
 
     fn take_step(&mut self) -> Result<bool, StoredFault> {
         self.reader.begin();
         take_stored_step(
             self.alloc,
             &mut self.kept,
-            &mut self.held,
+            &mut self.buffered,
             false,
             &mut self.reader,
             &mut self.writer,

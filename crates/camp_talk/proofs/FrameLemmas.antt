@@ -293,9 +293,9 @@ module _ (a b c : Option (List ℕ)) (count : ℕ) (old new : List ℕ) where
   }
 
   -- there are no more
-  pub none_more : (room : ℕ) → Consumes a b old → length old < count → ReadsMore b c room false old new
+  pub none_more : (capacity : ℕ) → Consumes a b old → length old < count → ReadsMore b c capacity false old new
       → ReadsBytes a c count false new
-  none_more room first few (reads, same, ends) = (
+  none_more capacity first few (reads, same, ends) = (
     subst (Consumes a c) (append-nil old ∙ sym same) (Consumes-trans a b c old [] first reads),
     omega (arith, few, ap (λ (bytes : List ℕ). length bytes) same),
     ends_after a b c old first ends,

@@ -9,30 +9,30 @@ use Rattle.camp_talk.specs.declared.lines.Seen.TheVariants as seen
 -- ---- prefixes
 
 -- a prefix, followed by as much as fits
-pub take_behind : (room : ℕ) (done more : List ℕ)
-    → take room done ++ take (room - length (take room done)) more ≡ take room (done ++ more)
+pub take_behind : (capacity : ℕ) (done more : List ℕ)
+    → take capacity done ++ take (capacity - length (take capacity done)) more ≡ take capacity (done ++ more)
 take_behind zero done more = refl
-take_behind (suc room) [] more =
-    let all : suc room - 0 ≡ suc room = omega arith in
+take_behind (suc capacity) [] more =
+    let all : suc capacity - 0 ≡ suc capacity = omega arith in
     ap (λ n. take n more) all
-take_behind (suc room) (byte ∷ done) more =
-    let front = take room done in
-    let left : suc room - suc (length front) ≡ room - length front = omega arith in
-    ap (λ n. byte ∷ (front ++ take n more)) left ∙ ap (λ bytes. byte ∷ bytes) (take_behind room done more)
+take_behind (suc capacity) (byte ∷ done) more =
+    let front = take capacity done in
+    let left : suc capacity - suc (length front) ≡ capacity - length front = omega arith in
+    ap (λ n. byte ∷ (front ++ take n more)) left ∙ ap (λ bytes. byte ∷ bytes) (take_behind capacity done more)
 
 -- a prefix of a prefix
-pub take_least : (len room : ℕ) (bytes : List ℕ) (n : ℕ) → n ≡ min len room → take n bytes ≡ take room (take len bytes)
-take_least zero room bytes n is =
+pub take_least : (len capacity : ℕ) (bytes : List ℕ) (n : ℕ) → n ≡ min len capacity → take n bytes ≡ take capacity (take len bytes)
+take_least zero capacity bytes n is =
     let none : n ≡ 0 = omega arith in
-    ap (λ k. take k bytes) none ∙ sym (take_all room [] zero-le)
+    ap (λ k. take k bytes) none ∙ sym (take_all capacity [] zero-le)
 take_least (suc len) zero bytes n is =
     let none : n ≡ 0 = omega arith in
     ap (λ k. take k bytes) none
-take_least (suc len) (suc room) [] n is = take_all n [] zero-le
-take_least (suc len) (suc room) (byte ∷ bytes) n is =
-    let m = min len room in
+take_least (suc len) (suc capacity) [] n is = take_all n [] zero-le
+take_least (suc len) (suc capacity) (byte ∷ bytes) n is =
+    let m = min len capacity in
     let next : n ≡ suc m = omega arith in
-    ap (λ k. take k (byte ∷ bytes)) next ∙ ap (λ front. byte ∷ front) (take_least len room bytes m refl)
+    ap (λ k. take k (byte ∷ bytes)) next ∙ ap (λ front. byte ∷ front) (take_least len capacity bytes m refl)
 
 -- ---- what a reader shows
 
@@ -97,44 +97,44 @@ module _ (a b : Option (List ℕ)) where
       at false false is = tt
 
   -- nothing is taken
-  pub none_taken : (room : ℕ) (old : List ℕ) → Consumes a b [] → Takes a b room seen.Part old old
-  none_taken room old consumes = record {
+  pub none_taken : (capacity : ℕ) (old : List ℕ) → Consumes a b [] → Takes a b capacity seen.Part old old
+  none_taken capacity old consumes = record {
     line = [];
     is_line = All-nil (λ byte. byte ≢ 10);
-    grows = sym (ap (λ bytes. old ++ bytes) (take_all room [] zero-le) ∙ append-nil old);
+    grows = sym (ap (λ bytes. old ++ bytes) (take_all capacity [] zero-le) ∙ append-nil old);
     consumes = consumes;
     ends = tt;
   }
 
   -- what is shown is taken
-  pub shown_taken : (room : ℕ) (shown old new : List ℕ)
-      → new ≡ old ++ take (min (position_or_len feed shown) room) shown
+  pub shown_taken : (capacity : ℕ) (shown old new : List ℕ)
+      → new ≡ old ++ take (min (position_or_len feed shown) capacity) shown
       → Consumes a b (take (position_or_len feed shown + length (feed_of (seen_of (length shown) (position_or_len feed shown)))) shown)
-      → (length shown ≡ 0 → Ends a b) → Takes a b room (seen_of (length shown) (position_or_len feed shown)) old new
-  shown_taken room shown old new grows consumes ends = record {
+      → (length shown ≡ 0 → Ends a b) → Takes a b capacity (seen_of (length shown) (position_or_len feed shown)) old new
+  shown_taken capacity shown old new grows consumes ends = record {
     line = take (position_or_len feed shown) shown;
     is_line = before_feed shown;
-    grows = grows ∙ ap (λ bytes. old ++ bytes) (take_least (position_or_len feed shown) room shown (min (position_or_len feed shown) room) refl);
+    grows = grows ∙ ap (λ bytes. old ++ bytes) (take_least (position_or_len feed shown) capacity shown (min (position_or_len feed shown) capacity) refl);
     consumes = subst (Consumes a b) (taken_of shown) consumes;
     ends = ends_at (length shown) (position_or_len feed shown) ends;
   }
 
-module _ (a b c : Option (List ℕ)) (room : ℕ) (old mid new : List ℕ) where
+module _ (a b c : Option (List ℕ)) (capacity : ℕ) (old mid new : List ℕ) where
   -- a part of a line after a part
-  taken_behind : (left : ℕ) (met : Seen) → Takes a b room seen.Part old mid → left ≡ room - (length mid - length old)
-      → Takes b c left met mid new → Takes a c room met old new
+  taken_behind : (left : ℕ) (met : Seen) → Takes a b capacity seen.Part old mid → left ≡ capacity - (length mid - length old)
+      → Takes b c left met mid new → Takes a c capacity met old new
   taken_behind left met first is then = record {
     line = first.line ++ then.line;
     is_line = All-append (λ byte. byte ≢ 10) first.line then.line first.is_line then.is_line;
     grows = then.grows ∙ ap (λ bytes. bytes ++ take left then.line) first.grows
-        ∙ append_assoc old (take room first.line) (take left then.line)
-        ∙ ap (λ bytes. old ++ bytes) (ap (λ n. take room first.line ++ take n then.line) same ∙ take_behind room first.line then.line);
+        ∙ append_assoc old (take capacity first.line) (take left then.line)
+        ∙ ap (λ bytes. old ++ bytes) (ap (λ n. take capacity first.line ++ take n then.line) same ∙ take_behind capacity first.line then.line);
     consumes = subst (Consumes a c) joined (Consumes-trans a b c (first.line ++ []) (then.line ++ feed_of met) first.consumes then.consumes);
     ends = at met then.ends;
   }
     where
-      same : left ≡ room - length (take room first.line)
-      same = omega (arith, is, ap length first.grows, length-append old (take room first.line))
+      same : left ≡ capacity - length (take capacity first.line)
+      same = omega (arith, is, ap length first.grows, length-append old (take capacity first.line))
 
       joined : (first.line ++ []) ++ (then.line ++ feed_of met) ≡ (first.line ++ then.line) ++ feed_of met
       joined = ap (λ bytes. bytes ++ (then.line ++ feed_of met)) (append-nil first.line)
@@ -146,10 +146,10 @@ module _ (a b c : Option (List ℕ)) (room : ℕ) (old mid new : List ℕ) where
       at seen.End ends = ends_after a b c (first.line ++ []) first.consumes ends
 
   -- given the remaining capacity
-  pub taken_on : (start len : ℕ) {shown met : Seen} → start ≡ length old → len ≡ length mid → Takes a b room seen.Part old mid → shown ≡ met
-      → Takes b c (room - (len - start)) shown mid new → Takes a c room met old new
+  pub taken_on : (start len : ℕ) {shown met : Seen} → start ≡ length old → len ≡ length mid → Takes a b capacity seen.Part old mid → shown ≡ met
+      → Takes b c (capacity - (len - start)) shown mid new → Takes a c capacity met old new
   taken_on start len {shown} {met} starts ends first is then =
-      taken_behind (room - (len - start)) met first (omega arith) (subst (λ (seen : Seen). Takes b c (room - (len - start)) seen mid new) is then)
+      taken_behind (capacity - (len - start)) met first (omega arith) (subst (λ (seen : Seen). Takes b c (capacity - (len - start)) seen mid new) is then)
 
 -- ---- a line that is too long is shortened
 

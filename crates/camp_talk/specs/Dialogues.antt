@@ -1,9 +1,9 @@
 -- Steps that are taken one after the other, whatever a step is.
 use Rattle.std.specs.Prelude.{◌≡◌, Bool, true, false, List, [], ◌∷◌, Result, Ok, Err}
 
--- given the relation of a step: the place before it, its result, and the place after it
+-- given the relation of a step: the state before it, its result, and the state after it
 module _ {State Fault : Type 0} (StepRelation : State → Result Bool Fault → State → Type 0) where
-  -- steps lead from one place over others to a last one, and after each there may be more
+  -- steps lead from one state over others to a last one, and after each there may be more
   abbrev pub Leads : State → List State → State → Type 0
   Leads first [] last = first ≡ last
   Leads first (next ∷ others) last = StepRelation first (Ok true) next × Leads next others last

@@ -15,7 +15,7 @@ pub trait Dialogue {
     /// Why it can't continue.
     type Fault;
 
-    // The relation of a step: the place before it, its result, and the place after it.
+    // The relation of a step: the state before it, its result, and the state after it.
     ghost step_relation: { Self → Result Bool Self.Fault → Self → Type 0 };
 
     // The most steps that may still come.

@@ -60,8 +60,8 @@ pub(crate) fn read_front<R: BufRead>(reader: &mut R, text: &mut Vec<u8>) -> Resu
 {
     let start = text.len();
     for _ in 0..u64::MAX {
-        let room = TOO_LONG - (text.len() - start);
-        match read_some(reader, text, room)? {
+        let capacity = TOO_LONG - (text.len() - start);
+        match read_some(reader, text, capacity)? {
             Seen::Part => {}
             Seen::Line => return Ok(true),
             Seen::End => return Ok(false),
@@ -72,9 +72,13 @@ pub(crate) fn read_front<R: BufRead>(reader: &mut R, text: &mut Vec<u8>) -> Resu
 
 // Reads what the reader shows of a line, with its line feed if it shows that. Appends as much of the line as
 // fits.
-fn read_some<R: BufRead>(reader: &mut R, text: &mut Vec<u8>, room: usize) -> Result<Seen, TalkFault>
+fn read_some<R: BufRead>(
+    reader: &mut R,
+    text: &mut Vec<u8>,
+    capacity: usize,
+) -> Result<Seen, TalkFault>
     ensures some { IfOk result (λ seen.
-        Takes (R.remaining reader.old) (R.remaining reader.new) room seen text.old.items text.new.items) }
+        Takes (R.remaining reader.old) (R.remaining reader.new) capacity seen text.old.items text.new.items) }
     ensures fault { IfErr result IsReading }
     ensures none { IfErr result (λ why. Consumes (R.remaining reader.old) (R.remaining reader.new) []) }
 {
@@ -87,7 +91,7 @@ fn read_some<R: BufRead>(reader: &mut R, text: &mut Vec<u8>, room: usize) -> Res
     };
     let len = line_len(shown);
     let seen = seen_of(shown.len(), len);
-    let held = len.min(room);
+    let held = len.min(capacity);
     hold(text, &shown[..held])?;
     let taken = taken_len(len, seen);
     reader.consume(taken);

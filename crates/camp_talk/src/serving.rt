@@ -110,8 +110,12 @@ fn read_bytes<R: BufRead>(
 }
 
 // Reads what the reader shows, up to the capacity. True if there may be more; else the input has ended.
-fn read_more<R: BufRead>(reader: &mut R, bytes: &mut Vec<u8>, room: u64) -> Result<bool, TalkFault>
-    ensures reads { IfOk result (λ more. ReadsMore (R.remaining reader.old) (R.remaining reader.new) room more bytes.old.items bytes.new.items) }
+fn read_more<R: BufRead>(
+    reader: &mut R,
+    bytes: &mut Vec<u8>,
+    capacity: u64,
+) -> Result<bool, TalkFault>
+    ensures reads { IfOk result (λ more. ReadsMore (R.remaining reader.old) (R.remaining reader.new) capacity more bytes.old.items bytes.new.items) }
     ensures fault { IfErr result IsReading }
     ensures none { OnErr result (Consumes (R.remaining reader.old) (R.remaining reader.new) []) }
 {
@@ -125,7 +129,7 @@ fn read_more<R: BufRead>(reader: &mut R, bytes: &mut Vec<u8>, room: u64) -> Resu
     if shown.is_empty() {
         return Ok(false);
     }
-    let taken = shown.len().min(room as usize);
+    let taken = shown.len().min(capacity as usize);
     hold(bytes, &shown[..taken])?;
     reader.consume(taken);
     Ok(true)

@@ -47,9 +47,9 @@ record LongBehind (at : ℕ) (changes : List Primitive) (cause : Cause) : Type 0
   found : slice_get changes before ≡ Some (Hunk hunk)
   long : has_long_side (Hunk hunk) ≡ true
 
-long_behind : (at : ℕ) (change : Primitive) (changes : List Primitive) (cause : Cause) → LongBehind (suc at) changes cause
+long_after : (at : ℕ) (change : Primitive) (changes : List Primitive) (cause : Cause) → LongBehind (suc at) changes cause
     → LongBehind at (change ∷ changes) cause
-long_behind at change changes cause rest =
+long_after at change changes cause rest =
     let place : suc (suc at + rest.before) ≡ suc (at + suc rest.before) = omega arith in
     record {
       before = suc rest.before;
@@ -65,25 +65,25 @@ Finds at changes None = list_any has_long_side changes ≡ false
 Finds at changes (Some cause) = LongBehind at changes cause × (list_any has_long_side changes ≡ true)
 
 -- the search continues after a change whose sides are not too long
-found_behind : (at : ℕ) (change : Primitive) (changes : List Primitive) (found : Option Cause) → has_long_side change ≡ false → Finds (suc at) changes found
+found_after : (at : ℕ) (change : Primitive) (changes : List Primitive) (found : Option Cause) → has_long_side change ≡ false → Finds (suc at) changes found
     → Finds at (change ∷ changes) found
-found_behind at change changes None short none = (λ j. short j || none j)
-found_behind at change changes (Some cause) short (behind, some) = (long_behind at change changes cause behind, (λ j. short j || some j))
+found_after at change changes None short none = (λ j. short j || none j)
+found_after at change changes (Some cause) short (later, some) = (long_after at change changes cause later, (λ j. short j || some j))
 
 finds : (at : ℕ) (changes : List Primitive) → Finds at changes (first_long (suc at) changes)
 finds at [] = refl
-finds at (Add path ∷ changes) = found_behind at (Add path) changes (first_long (suc (suc at)) changes) refl (finds (suc at) changes)
-finds at (Remove path ∷ changes) = found_behind at (Remove path) changes (first_long (suc (suc at)) changes) refl (finds (suc at) changes)
+finds at (Add path ∷ changes) = found_after at (Add path) changes (first_long (suc (suc at)) changes) refl (finds (suc at) changes)
+finds at (Remove path ∷ changes) = found_after at (Remove path) changes (first_long (suc (suc at)) changes) refl (finds (suc at) changes)
 finds at (Hunk hunk ∷ changes) = by (has_long_side (Hunk hunk)) refl (finds (suc at) changes)
   where
     by : (b : Bool) → has_long_side (Hunk hunk) ≡ b → Finds (suc at) changes (first_long (suc (suc at)) changes)
         → Finds at (Hunk hunk ∷ changes) (cause_or (cond b (Some (long_at (suc at) hunk)) None) (first_long (suc (suc at)) changes))
-    by true is behind =
+    by true is later =
         let place : suc at ≡ suc (at + 0) = omega arith in (
           record { before = 0; hunk = hunk; is = ap (λ n. long_at n hunk) place; found = refl; long = is },
           ap (λ b. b || list_any has_long_side changes) is,
         )
-    by false is behind = found_behind at (Hunk hunk) changes (first_long (suc (suc at)) changes) is behind
+    by false is later = found_after at (Hunk hunk) changes (first_long (suc (suc at)) changes) is later
 
 none_found : (changes : List Primitive) (found : Option Cause) → Finds 0 changes found → list_any has_long_side changes ≡ false → found ≡ None
 none_found changes None found none = refl

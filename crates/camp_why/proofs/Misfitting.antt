@@ -34,10 +34,10 @@ AlikeUpTo count old lines =
 -- one more line before them
 alike_more : (count : ℕ) (first : List ℕ) (other : List ℕ) (old lines : Lines) → other ≡ first → AlikeUpTo count old lines
     → AlikeUpTo (suc count) (first ∷ old) (other ∷ lines)
-alike_more count first other old lines same behind zero actual expected within is_expected is_there =
+alike_more count first other old lines same later zero actual expected within is_expected is_there =
     same_Some _ _ (sym is_there) ∙ same ∙ same_Some _ _ is_expected
-alike_more count first other old lines same behind (suc at) actual expected within is_expected is_there =
-    behind at actual expected (omega (arith, within)) is_expected is_there
+alike_more count first other old lines same later (suc at) actual expected within is_expected is_there =
+    later at actual expected (omega (arith, within)) is_expected is_there
 
 -- the first line that differs comes after this many that do not
 record FindsOther (at : ℕ) (old lines : Lines) (why : Misfit) : Type 0 where
@@ -77,7 +77,7 @@ first_by at expected actual old lines true is (Some why) rest =
 first_by at expected actual old lines true is None rest =
     let same = (bytes_eq-Decides actual expected).0 is in (
       alike_more (length old) expected actual old lines same rest.0,
-      (λ within. let behind = rest.1 (omega (arith, within)) in (λ j. same j ∷ behind j)),
+      (λ within. let later = rest.1 (omega (arith, within)) in (λ j. same j ∷ later j)),
     )
 first_by at expected actual old lines false is found rest =
     let place : at ≡ at + 0 = omega arith in
@@ -111,14 +111,14 @@ can_splice : (hunk : Edit) (lines : Lines) → 1 ≤ hunk.line → hunk.line - 1
 can_splice hunk lines positive within same =
     let start = hunk.line - 1 in
     let size : length (take start lines) ≡ start = length-take-le start lines (omega (arith, within)) in
-    let behind : drop start lines ≡ hunk.old ++ drop (start + length hunk.old) lines =
+    let later : drop start lines ≡ hunk.old ++ drop (start + length hunk.old) lines =
     sym (take-append-drop (length hunk.old) (drop start lines)) ∙ (λ j. same j ++ drop-drop (length hunk.old) start lines j) in (
       take start lines ++ hunk.new ++ drop (start + length hunk.old) lines,
       record {
         before = take start lines;
         after = drop (start + length hunk.old) lines;
         at = omega (arith, size, positive);
-        was = sym (take-append-drop start lines) ∙ ap (λ (ls : Lines). take start lines ++ ls) behind
+        was = sym (take-append-drop start lines) ∙ ap (λ (ls : Lines). take start lines ++ ls) later
             ∙ sym (append_assoc (take start lines) hunk.old (drop (start + length hunk.old) lines));
         becomes = refl;
       },
@@ -164,7 +164,7 @@ module _ (hunk : Edit) (tree : Files) (lines : Lines) (found : get tree hunk.pat
     edits = edits;
     counts = refl;
     reaches = refl;
-    behind = ltb-true (length lines) (hunk.line - 1 + length hunk.old) is;
+    later = ltb-true (length lines) (hunk.line - 1 + length hunk.old) is;
     alike = in_file (length hunk.old) none.0;
     is_lacked = refl;
     is_at = refl;
@@ -218,21 +218,21 @@ module _ (hunk : Edit) (lines other changed : Lines) (same : lines ≡ other) (s
   is : lines ≡ splices.before ++ (hunk.old ++ splices.after)
   is = same ∙ splices.was ∙ append_assoc splices.before hunk.old splices.after
 
-  not_behind : (has wants : ℕ) → has ≡ length lines → wants ≡ hunk.line - 1 + length hunk.old → ¬ (has < wants)
-  not_behind has wants counts reaches behind =
+  not_past_end : (has wants : ℕ) → has ≡ length lines → wants ≡ hunk.line - 1 + length hunk.old → ¬ (has < wants)
+  not_past_end has wants counts reaches later =
       let long : length lines ≡ length splices.before + (length hunk.old + length splices.after) =
       ap length is ∙ length-append splices.before (hunk.old ++ splices.after)
       ∙ ap (λ n. length splices.before + n) (length-append hunk.old splices.after) in
-      omega (arith, long, splices.at, counts, reaches, behind)
+      omega (arith, long, splices.at, counts, reaches, later)
 
   not_other : (before : ℕ) (actual expected : List ℕ) → slice_get hunk.old before ≡ Some expected
       → slice_get lines (hunk.line - 1 + before) ≡ Some actual → ¬ (actual ≢ expected)
   not_other before actual expected is_expected is_there differs =
       let start : length splices.before ≡ hunk.line - 1 = omega (arith, splices.at) in
-      let behind : drop (hunk.line - 1) lines ≡ hunk.old ++ splices.after =
+      let later : drop (hunk.line - 1) lines ≡ hunk.old ++ splices.after =
       ap (drop (hunk.line - 1)) is ∙ drop_at splices.before (hunk.old ++ splices.after) (hunk.line - 1) start in
       let expects : slice_get lines (hunk.line - 1 + before) ≡ Some expected =
-      sym (get_drop lines (hunk.line - 1) before) ∙ ap (λ (ls : Lines). slice_get ls before) behind
+      sym (get_drop lines (hunk.line - 1) before) ∙ ap (λ (ls : Lines). slice_get ls before) later
       ∙ get_in_front hunk.old splices.after before expected is_expected in
       differs (same_Some _ _ (sym is_there ∙ expects))
 
@@ -248,7 +248,7 @@ not_applied change tree next (HasLines count) m applies =
     m.some (m.counts ∙ ap length (same_Some _ _ (sym m.found ∙ removes.empty)))
 not_applied change tree next (EndsBefore has wants at lacks) m applies =
     let splices = subst (λ c. Applies c tree next) m.edits.edits applies in
-    not_behind m.hunk m.lines splices.lines splices.changed (same_Some _ _ (sym m.edits.found ∙ splices.found)) splices.splices has wants m.counts m.reaches m.behind
+    not_past_end m.hunk m.lines splices.lines splices.changed (same_Some _ _ (sym m.edits.found ∙ splices.found)) splices.splices has wants m.counts m.reaches m.later
 not_applied change tree next (OtherLine at actual expected) m applies =
     let splices = subst (λ c. Applies c tree next) m.edits.edits applies in
     not_other m.hunk m.lines splices.lines splices.changed (same_Some _ _ (sym m.edits.found ∙ splices.found)) splices.splices m.before actual expected m.is_expected m.is_there m.other

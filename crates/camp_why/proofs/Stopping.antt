@@ -45,7 +45,7 @@ module _ (change : Primitive) (tree : Files) where
   is_hindrance why e = subst Hinders e (by_reason (find_misfit change tree) refl)
 
 -- changes stop after this many others
-record StopsBehind (at : ℕ) (changes : List Primitive) (tree : Files) (stop : Stop) : Type 0 where
+record StopsAfter (at : ℕ) (changes : List Primitive) (tree : Files) (stop : Stop) : Type 0 where
   before : ℕ
   numbered : stop.change ≡ suc (at + before)
   met : Files
@@ -57,7 +57,7 @@ record StopsBehind (at : ℕ) (changes : List Primitive) (tree : Files) (stop : 
 
 abbrev StopsIn : ℕ → List Primitive → Files → Option Stop → Type 0
 StopsIn at changes tree None = Unit {0}
-StopsIn at changes tree (Some stop) = StopsBehind at changes tree stop
+StopsIn at changes tree (Some stop) = StopsAfter at changes tree stop
 
 module _ (at : ℕ) (change : Primitive) (changes : List Primitive) (tree : Files) where
   stop_later : (next : Files) → applied change tree ≡ Some next → (found : Option Stop) → StopsIn (suc at) changes next found → StopsIn at (change ∷ changes) tree found
@@ -79,11 +79,11 @@ module _ (at : ℕ) (change : Primitive) (changes : List Primitive) (tree : File
   stop_by : ((next : Files) → StopsIn (suc at) changes next (first_stop (suc (suc at)) changes next))
       → (h : Option Hindrance) → hindrance change tree ≡ h → (made : Option Files) → applied change tree ≡ made
       → StopsIn at (change ∷ changes) tree (stop_or (suc at) change h made (first_stop (suc (suc at)) changes))
-  stop_by behind (Some why) is made led =
+  stop_by later (Some why) is made led =
       let number : suc at ≡ suc (at + 0) = omega arith in
       record { before = 0; numbered = number; met = tree; leads = refl; change = change; is = refl; of_file = refl; hinders = is_hindrance change tree why is }
-  stop_by behind None is None led = tt
-  stop_by behind None is (Some next) led = stop_later next led (first_stop (suc (suc at)) changes next) (behind next)
+  stop_by later None is None led = tt
+  stop_by later None is (Some next) led = stop_later next led (first_stop (suc (suc at)) changes next) (later next)
 
 is_stop_of : (at : ℕ) (changes : List Primitive) (tree : Files) → StopsIn at changes tree (first_stop (suc at) changes tree)
 is_stop_of at [] tree = tt
@@ -92,17 +92,17 @@ is_stop_of at (change ∷ changes) tree =
 
 pub is_stop : (changes : List Primitive) (tree : Files) (stop : Stop) → first_stop 1 changes tree ≡ Some stop → IsStop changes tree stop
 is_stop changes tree stop e =
-    let behind : StopsBehind 0 changes tree stop = subst (StopsIn 0 changes tree) e (is_stop_of 0 changes tree) in
-    let number : suc (0 + behind.before) ≡ suc behind.before = omega arith in
+    let later : StopsAfter 0 changes tree stop = subst (StopsIn 0 changes tree) e (is_stop_of 0 changes tree) in
+    let number : suc (0 + later.before) ≡ suc later.before = omega arith in
     record {
-      before = behind.before;
-      numbered = behind.numbered ∙ number;
-      met = behind.met;
-      leads = behind.leads;
-      change = behind.change;
-      is = behind.is;
-      of_file = behind.of_file;
-      hinders = behind.hinders;
+      before = later.before;
+      numbered = later.numbered ∙ number;
+      met = later.met;
+      leads = later.leads;
+      change = later.change;
+      is = later.is;
+      of_file = later.of_file;
+      hinders = later.hinders;
     }
 
 -- ---- if changes are refused, they stop with this refusal
@@ -133,7 +133,7 @@ applies_free change tree next made (Some why) is =
     absurd (not_applied change tree next why (is_misfit change tree why is) (Applies-from_applied change tree next made))
 
 module _ (at : ℕ) (change : Primitive) (changes : List Primitive) (tree : Files) (refusal : Refusal) (range : InRange change)
-    (behind : (next : Files) → changed changes next ≡ Err refusal → StopsWith (suc at) changes next refusal) where
+    (later : (next : Files) → changed changes next ≡ Err refusal → StopsWith (suc at) changes next refusal) where
   misfits : applied change tree ≡ None → (reason : Option Misfit) → find_misfit change tree ≡ reason → DoesNotApply ≡ refusal
       → StopsWith at (change ∷ changes) tree refusal
   misfits nowhere None is of =
@@ -151,7 +151,7 @@ module _ (at : ℕ) (change : Primitive) (changes : List Primitive) (tree : File
 
     goes_on : hindrance change tree ≡ None → changed changes next ≡ Err refusal → StopsWith at (change ∷ changes) tree refusal
     goes_on none e =
-        let rest = behind next e in
+        let rest = later next e in
         record {
           stop = rest.stop;
           first = (λ j. stop_or at change (none j) (made j) (first_stop (suc at) changes)) ∙ rest.first;

@@ -112,7 +112,7 @@ pub record ReachesBehind (change : Primitive) (tree : Files) (has wants at : ℕ
   pub edits : Edits change tree hunk lines
   pub counts : has ≡ length lines
   pub reaches : wants ≡ hunk.line - 1 + length hunk.old
-  pub behind : has < wants
+  pub later : has < wants
   pub alike : AreInFile hunk lines (length hunk.old)
   pub is_lacked : lacks ≡ slice_get hunk.old (length lines - (hunk.line - 1))
   pub is_at : at ≡ suc (hunk.line - 1 + (length lines - (hunk.line - 1)))

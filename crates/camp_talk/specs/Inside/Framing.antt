@@ -21,9 +21,9 @@ IsNotCounted line (Talk fault) = ⊥
 module _ (remaining rest : Option (List ℕ)) where
   -- some bytes were read after others, up to the capacity; or the input has ended
   abbrev pub ReadsMore : ℕ → Bool → List ℕ → List ℕ → Type 0
-  ReadsMore room true old new =
-      (more : List ℕ) × Consumes remaining rest more × (new ≡ old ++ more) × (length more ≤ room)
-  ReadsMore room false old new = Consumes remaining rest [] × (new ≡ old) × Ends remaining rest
+  ReadsMore capacity true old new =
+      (more : List ℕ) × Consumes remaining rest more × (new ≡ old ++ more) × (length more ≤ capacity)
+  ReadsMore capacity false old new = Consumes remaining rest [] × (new ≡ old) × Ends remaining rest
 
   -- as many bytes were read as were wanted; or fewer, and the input has ended
   abbrev pub ReadsBytes : ℕ → Bool → List ℕ → Type 0

@@ -64,10 +64,10 @@ module _ (remaining rest : Option (List ℕ)) where
   EndsAt other = Unit {0}
 
   -- bytes of a line were read, and its line feed if that was shown; as much of the line as fits was appended
-  pub record Takes (room : ℕ) (met : Seen) (old new : List ℕ) : Type 0 where
+  pub record Takes (capacity : ℕ) (met : Seen) (old new : List ℕ) : Type 0 where
     pub line : List ℕ
     pub is_line : IsLine line
-    pub grows : new ≡ old ++ take room line
+    pub grows : new ≡ old ++ take capacity line
     pub consumes : Consumes remaining rest (line ++ feed_of met)
     pub ends : EndsAt met
 

@@ -8,14 +8,14 @@ returns-in-Ok-clause-serves g c durable front holds =
     let old = c.args.kept.now in
     let serves = rw (c.in-Ok-true.field-0-test, c.new-frame.ensures.items) at c.in-Ok-true.ensures.serves in
     serves_so g.D.Disk.seen g.D.Disk.may_leave durable _ _ (g.W.Write.contents c.args.writer.now) old (record old { book = c.serve.new.book }) _ refl refl front holds
-    serves c.commit_and_flush.new.kept c.commit_and_flush.ensures.book c.commit_and_flush.new.held.items (g.W.Write.contents c.commit_and_flush.new.writer) c.in-Ok.field-0 c.in-Ok.ensures.flushes
+    serves c.commit_and_flush.new.kept c.commit_and_flush.ensures.book c.commit_and_flush.new.buffered.items (g.W.Write.contents c.commit_and_flush.new.writer) c.in-Ok.field-0 c.in-Ok.ensures.flushes
 
 pub returns-in-Ok-true-clause-serves : goal.returns-in-Ok-true-clause-serves
 returns-in-Ok-true-clause-serves g c durable front holds =
     let old = c.args.kept.now in
     let serves = rw (c.in-Ok-true.field-0-test, c.new-frame.ensures.items) at c.in-Ok-true.ensures.serves in
     serves_not g.D.Disk.seen g.D.Disk.may_leave durable _ _ (g.W.Write.contents c.args.writer.now) old (record old { book = c.serve.new.book }) _ refl refl front holds
-    serves c.commit_and_flush.new.kept c.commit_and_flush.ensures.book c.commit_and_flush.new.held.items (g.W.Write.contents c.commit_and_flush.new.writer) c.in-Err-commit_and_flush.fault c.in-Err-commit_and_flush.ensures.flushes
+    serves c.commit_and_flush.new.kept c.commit_and_flush.ensures.book c.commit_and_flush.new.buffered.items (g.W.Write.contents c.commit_and_flush.new.writer) c.in-Err-commit_and_flush.fault c.in-Err-commit_and_flush.ensures.flushes
 
 pub returns-in-Ok-false-clause-serves : goal.returns-in-Ok-false-clause-serves
 returns-in-Ok-false-clause-serves g c durable front holds =
@@ -30,7 +30,7 @@ returns-in-Ok-commit-clause-serves g c durable front holds =
     let serves = subst (λ (frame : List ℕ). Serves (g.R.Read.remaining c.args.reader.now) (g.R.Read.remaining c.serve.new.reader) (Some frame) (Some c.serve.new.writer.items) old.book
     (Err c.in-Err.why) c.serve.new.book) c.new-frame.ensures.items c.in-Err.ensures.serves in
     serves_none g.D.Disk.seen g.D.Disk.may_leave durable _ _ (g.W.Write.contents c.args.writer.now) old (record old { book = c.serve.new.book }) c.serve.new.writer.items refl refl front holds
-    c.in-Err.why serves c.commit.new.self c.commit.ensures.book c.without_room.result c.without_room.ensures c.in-Ok-commit.ensures.acknowledged
+    c.in-Err.why serves c.commit.new.self c.commit.ensures.book c.frame_write_as_memory.result c.frame_write_as_memory.ensures c.in-Ok-commit.ensures.acknowledged
 
 pub returns-clause-serves : goal.returns-clause-serves
 returns-clause-serves g c durable front holds =

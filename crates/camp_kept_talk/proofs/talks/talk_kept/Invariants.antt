@@ -7,15 +7,15 @@ use Rattle.camp_kept_talk.specs.Buffering.{BuffersAnswers}
 use Rattle.camp_kept_talk.specs.Stopping.{StaysStopped}
 use Rattle.camp_kept_talk.proofs.talks.talk_kept.Given as goal
 
-abbrev pub invariant-loop-held : goal.invariant-loop-held
-invariant-loop-held g l =
+abbrev pub invariant-loop-buffered : goal.invariant-loop-buffered
+invariant-loop-buffered g l =
     ((durable : Stored) → AreFirst durable l.initial.kept → Holds g.D.Disk.seen g.D.Disk.may_leave durable l.initial.kept
     → BuffersAnswers g.D.Disk.seen g.D.Disk.may_leave durable (reader_remaining g.R.Read.remaining l.initial.reader) (reader_remaining g.R.Read.remaining l.reader)
-    (g.W.Write.contents l.initial.writer) (g.W.Write.contents l.writer) l.held.answers.items (record { history = l.initial.kept.book; lines = 0; diagnostic = no_diagnostic })
-    (record { history = l.kept.book; lines = l.held.lines; diagnostic = l.held.diagnostic }) l.kept)
+    (g.W.Write.contents l.initial.writer) (g.W.Write.contents l.writer) l.buffered.answers.items (record { history = l.initial.kept.book; lines = 0; diagnostic = no_diagnostic })
+    (record { history = l.kept.book; lines = l.buffered.lines; diagnostic = l.buffered.diagnostic }) l.kept)
     × (g.D.Disk.is_clean (disk_in l.kept) ≡ g.D.Disk.is_clean (disk_in l.initial.kept))
     × (may_commit l.initial.kept ≡ false → StaysStopped l.initial.kept l.kept l.initial.writer l.writer)
     × (g.D.Disk.faults (disk_in l.kept) ≡ g.D.Disk.faults (disk_in l.initial.kept))
 
-abbrev pub decreases-loop-held : goal.decreases-loop-held
-decreases-loop-held g l = 2 ^ 64 - l.held.lines
+abbrev pub decreases-loop-buffered : goal.decreases-loop-buffered
+decreases-loop-buffered g l = 2 ^ 64 - l.buffered.lines

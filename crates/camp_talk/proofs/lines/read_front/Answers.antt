@@ -5,8 +5,8 @@ use Rattle.camp_talk.proofs.lines.read_front.Goals as goal
 pub loop-init : goal.loop-init
 loop-init g c = none_taken _ _ 1_048_577 c.args.text.now.items (Consumes-nil (g.R.Read.remaining c.args.reader.now))
 
-pub overflow_sub-room-in-loop : goal.overflow_sub-room-in-loop
-overflow_sub-room-in-loop g c =
+pub overflow_sub-capacity-in-loop : goal.overflow_sub-capacity-in-loop
+overflow_sub-capacity-in-loop g c =
     let old = c.args.text.now.items in
     let line = c.loop.invariant.line in
     let start : c.len-start.result ≡ length old = search rules in

@@ -6,7 +6,7 @@ use Rattle.camp_talk.proofs.lines.read_some.Goals as goal
 
 pub returns-in-Err-clause-some : goal.returns-in-Err-clause-some
 returns-in-Err-clause-some g c =
-    none_taken _ _ c.args.room c.args.text.now.items
+    none_taken _ _ c.args.capacity c.args.text.now.items
     (Consumes-kept _ _ _ [] (Consumes-nil _) c.fill_buf.follows.holds-at-none.0)
 
 pub returns-clause-some : goal.returns-clause-some
@@ -30,8 +30,8 @@ returns-clause-some g c =
     c.fill_buf.follows.holds-at-none in
     let moved = Consumes_shown _ _ _ _ shown c.taken_len-taken.result within c.in-Ok.ensures.front c.in-Ok.ensures.end filled.0
     filled.1 c.consume.ensures.bytes in
-    let held : c.min-held.result ≡ min before c.args.room = omega (arith, place, c.min-held.ensures) in
-    let grows : new ≡ old ++ take (min before c.args.room) shown =
+    let held : c.min-held.result ≡ min before c.args.capacity = omega (arith, place, c.min-held.ensures) in
+    let grows : new ≡ old ++ take (min before c.args.capacity) shown =
     c.in_ok-hold.ensures.items ∙ ap (λ n. old ++ take n shown) held in
-    subst (λ (seen : Seen). Takes a b c.args.room seen old new) (sym met)
-    (shown_taken a b c.args.room shown old new grows (subst (λ n. Consumes a b (take n shown)) taken moved.0) moved.1)
+    subst (λ (seen : Seen). Takes a b c.args.capacity seen old new) (sym met)
+    (shown_taken a b c.args.capacity shown old new grows (subst (λ n. Consumes a b (take n shown)) taken moved.0) moved.1)
