@@ -2,19 +2,19 @@
 use Rattle.std.proofs.Common.{◌≡◌, ◌⊎◌, inl, inr, ℕ, Bool, true, false, List, [], ◌++◌, IsErrAnd, Option, Some, OnSome, Result, Ok, Err, MatchResult, refl, sym, ◌∙◌, ap, subst}
 use Rattle.std.proofs.KnownBytes.{Appends-nil, Consumes-nil}
 use Rattle.std.specs.Io.KnownBytes.{Appends, Consumes, IsAtEnd, Keeps, append_known}
-use Rattle.camp_kept.specs.Accepting.{IsFrontOf, Stored, stored_of}
-use Rattle.camp_kept.specs.Keeping.{AreFirst, Holds, IsStoreOf, LeavesKept, stored_in, store_texts}
-use Rattle.camp_kept.specs.declared.faults.KeptFault.{KeptFault}
-use Rattle.camp_kept.specs.declared.kept.Kept.{Kept}
-use Rattle.camp_kept.proofs.Committing.{holds_leave}
+use Rattle.camp_kept.specs.Accepting.{IsPrefixOf, StoreContents, accepted_of}
+use Rattle.camp_kept.specs.Persisting.{AreFirstCalls, PersistsCalls, IsStoreOf, LeavesRepository, accepted_by, store_texts}
+use Rattle.camp_kept.specs.declared.faults.PersistenceFault.{PersistenceFault}
+use Rattle.camp_kept.specs.declared.repositories.DurableRepository.{DurableRepository}
+use Rattle.camp_kept.proofs.Committing.{crash_leaves_store}
 use Rattle.camp_kept_talk.specs.Buffering.{AfterFlush, AfterStep, AllAreDurable, BuffersAnswers, FailsBuffered, FlushesAnswers, IsUnwritten, MayBeDurable, StopsNotDurable, StopsUnwritten, StopsWithFault, TalksKept, write_as_memory}
 use Rattle.camp_kept_talk.specs.Promises.{AnswersWritten, Promises, durable_at_least}
 use Rattle.camp_kept_talk.specs.declared.faults.StoredFault.{StoredFault}
 use Rattle.camp_kept_talk.specs.declared.faults.StoredFault.TheVariants as fault
 use Rattle.camp_kept_talk.proofs.Answering.{IsLast, all_answers_written, answers_written, appends_after, appends_known, appends_some, at_least_front, holds_kept, holds_kept_all, holds_trans, keeps_after, last_read, written_more, written_trans, written_unknown}
 use Rattle.camp_kept_talk.proofs.Stopping.{leaves_durable}
-use Rattle.camp_kept.proofs.Parts.{part_grows, part_self, part_through}
-use Rattle.camp_store.specs.Logs.{KeepsTexts}
+use Rattle.camp_kept.proofs.Prefixes.{prefix_grows, prefix_self, prefix_through}
+use Rattle.camp_store.specs.Logs.{PersistsTexts}
 use Rattle.camp_talk.specs.Diagnostics.{Diagnostic}
 use Rattle.camp_talk.specs.Answers.{Answers, SessionState}
 use Rattle.camp_talk.specs.Entries.{Entries}
@@ -34,9 +34,9 @@ at history lines diagnostic = record { history = history; lines = lines; diagnos
 reads_none : (b : Option (List ℕ)) → ReadsWithin b b
 reads_none b = record { some = []; reads = Consumes-nil b; is = tt }
 
-module _ {D : Type 0} (seen : D → List ℕ) (may_leave : D → List ℕ → Type 0) (durable : Stored) (a old now : Option (List ℕ)) (first : SessionState) (kept : Kept D) where
+module _ {D : Type 0} (seen : D → List ℕ) (may_leave : D → List ℕ → Type 0) (durable : StoreContents) (a old now : Option (List ℕ)) (first : SessionState) (kept : DurableRepository D) where
   -- at first
-  pub begins : (lines : ℕ) (diagnostic : Diagnostic) → AreFirst durable kept → Holds seen may_leave durable kept
+  pub begins : (lines : ℕ) (diagnostic : Diagnostic) → AreFirstCalls durable kept → PersistsCalls seen may_leave durable kept
       → BuffersAnswers seen may_leave durable a a now now [] (at kept.book lines diagnostic) (at kept.book lines diagnostic) kept
   begins lines diagnostic front holds = record {
     middle = at kept.book lines diagnostic;
@@ -45,8 +45,8 @@ module _ {D : Type 0} (seen : D → List ℕ) (may_leave : D → List ℕ → Ty
     pending = begins_so a (Some []) (at kept.book lines diagnostic);
     calls = durable;
     holds = holds;
-    still = part_self durable;
-    since = part_self durable;
+    still = prefix_self durable;
+    since = prefix_self durable;
     within = front;
   }
 
@@ -69,30 +69,30 @@ module _ {D : Type 0} (seen : D → List ℕ) (may_leave : D → List ℕ → Ty
     }
 
     -- everything is persisted and written, and the conversation continues
-    pub flushed_answers : (new : Kept D) (after : Option (List ℕ)) (rest : List ℕ) → AllAreDurable seen may_leave kept new → rest ≡ [] → Appends now after buffered → new.book ≡ kept.book
+    pub flushed_answers : (new : DurableRepository D) (after : Option (List ℕ)) (rest : List ℕ) → AllAreDurable seen may_leave kept new → rest ≡ [] → Appends now after buffered → new.book ≡ kept.book
         → BuffersAnswers seen may_leave durable a b old after rest first (at new.book lines diagnostic) new
     flushed_answers new after rest keeps none grows same = record {
       middle = at new.book lines diagnostic;
       left = b;
       written = written_now;
       pending = subst (λ (l : List ℕ). HasAnswered b b (Some []) (Some l) (at new.book lines diagnostic) (at new.book lines diagnostic)) (sym none) (begins_so b (Some []) (at new.book lines diagnostic));
-      calls = stored_in kept;
+      calls = accepted_by kept;
       holds = keeps buffers.calls buffers.within buffers.holds;
-      still = part_through buffers.still buffers.within;
-      since = at_least_front written_now.exchanges durable (stored_in new) (stored_in kept) (part_through buffers.still buffers.within)
-          (subst (λ (h : Entries). IsFrontOf (stored_of h) (stored_in kept)) (sym same) (part_self (stored_in kept)));
-      within = subst (λ (h : Entries). IsFrontOf (stored_in kept) (stored_of h)) (sym same) (part_self (stored_in kept));
+      still = prefix_through buffers.still buffers.within;
+      since = at_least_front written_now.exchanges durable (accepted_by new) (accepted_by kept) (prefix_through buffers.still buffers.within)
+          (subst (λ (h : Entries). IsPrefixOf (accepted_of h) (accepted_by kept)) (sym same) (prefix_self (accepted_by kept)));
+      within = subst (λ (h : Entries). IsPrefixOf (accepted_by kept) (accepted_of h)) (sym same) (prefix_self (accepted_by kept));
     }
       where
         written_now : HasAnswered a b old after first (at new.book lines diagnostic)
         written_now = subst (λ (h : Entries). HasAnswered a b old after first (at h lines diagnostic)) (sym same)
             (holds_trans a buffers.left b old now after buffered first buffers.middle (at kept.book lines diagnostic) buffers.written buffers.pending grows)
 
-    module _ (c : Option (List ℕ)) (more : List ℕ) (new : Kept D) (same_log : new.log ≡ kept.log) (same_count : new.count ≡ kept.count) where
-      holds_still : Holds seen may_leave buffers.calls new
+    module _ (c : Option (List ℕ)) (more : List ℕ) (new : DurableRepository D) (same_log : new.log ≡ kept.log) (same_count : new.count ≡ kept.count) where
+      holds_still : PersistsCalls seen may_leave buffers.calls new
       holds_still = record {
         accepted = buffers.holds.accepted;
-        keeps = subst (λ log. KeepsTexts seen may_leave (store_texts buffers.calls) log) (sym same_log) buffers.holds.keeps;
+        keeps = subst (λ log. PersistsTexts seen may_leave (store_texts buffers.calls) log) (sym same_log) buffers.holds.keeps;
         count_is = same_count ∙ buffers.holds.count_is;
       }
 
@@ -108,7 +108,7 @@ module _ {D : Type 0} (seen : D → List ℕ) (may_leave : D → List ℕ → Ty
         holds = holds_still;
         still = buffers.still;
         since = buffers.since;
-        within = part_through buffers.within (part_grows kept.book new.book (answers_grow (at kept.book lines diagnostic) _ _ (at new.book after learnt) takes_step.answers));
+        within = prefix_through buffers.within (prefix_grows kept.book new.book (answers_grow (at kept.book lines diagnostic) _ _ (at new.book after learnt) takes_step.answers));
       }
 
       -- one was answered, perhaps in part
@@ -126,7 +126,7 @@ module _ {D : Type 0} (seen : D → List ℕ) (may_leave : D → List ℕ → Ty
         holds = holds_still;
         still = buffers.still;
         since = buffers.since;
-        within = part_through buffers.within (part_grows kept.book next.history (answers_grow (at kept.book lines diagnostic) exchange.command exchange.answer next answers));
+        within = prefix_through buffers.within (prefix_grows kept.book next.history (answers_grow (at kept.book lines diagnostic) exchange.command exchange.answer next answers));
         is = is;
       }
 
@@ -200,29 +200,29 @@ module _ {D : Type 0} (seen : D → List ℕ) (may_leave : D → List ℕ → Ty
       })
 
   module _ (come : Option (List ℕ)) (buffered : List ℕ) (stays : FailsBuffered seen may_leave durable a come old now buffered first kept) where
-    within_book : IsFrontOf stays.calls (stored_in kept)
-    within_book = subst (λ (h : Entries). IsFrontOf stays.calls (stored_of h)) stays.is stays.within
+    within_book : IsPrefixOf stays.calls (accepted_by kept)
+    within_book = subst (λ (h : Entries). IsPrefixOf stays.calls (accepted_of h)) stays.is stays.within
 
     -- all accepted calls are durable
-    pub holds_all : (new : Kept D) → new.book ≡ kept.book → AllAreDurable seen may_leave kept new → Holds seen may_leave (stored_in new) new
+    pub holds_all : (new : DurableRepository D) → new.book ≡ kept.book → AllAreDurable seen may_leave kept new → PersistsCalls seen may_leave (accepted_by new) new
     holds_all new same keeps =
-        subst (λ (h : Entries). Holds seen may_leave (stored_of h) new) (sym same) (keeps stays.calls within_book stays.holds)
+        subst (λ (h : Entries). PersistsCalls seen may_leave (accepted_of h) new) (sym same) (keeps stays.calls within_book stays.holds)
 
-    module _ (new : Kept D) (after : Option (List ℕ)) (same : new.book ≡ kept.book) where
+    module _ (new : DurableRepository D) (after : Option (List ℕ)) (same : new.book ≡ kept.book) where
       -- all calls are persisted, and a prefix of the buffered answers is written
       promised_all : AllAreDurable seen may_leave kept new → AppendsSome now after buffered → Promises seen may_leave durable a old after first new
       promised_all keeps grows =
-          let all : Holds seen may_leave (stored_in kept) new = keeps stays.calls within_book stays.holds in
+          let all : PersistsCalls seen may_leave (accepted_by kept) new = keeps stays.calls within_book stays.holds in
           record {
             left = stays.right;
             last = stays.last;
             written = written_now;
             crash = λ c left. (
-              stored_in kept,
-              holds_leave seen may_leave (stored_in kept) new all c left,
-              at_least_front (written_now.exchanges ++ written_now.more) durable (stored_of stays.last.history) (stored_in kept) (part_through stays.still within_book)
-                  (subst (λ (h : Entries). IsFrontOf (stored_of h) (stored_in kept)) (sym stays.is) (part_self (stored_in kept))),
-              subst (λ (h : Entries). IsFrontOf (stored_in kept) (stored_of h)) (sym same) (part_self (stored_in kept)),
+              accepted_by kept,
+              crash_leaves_store seen may_leave (accepted_by kept) new all c left,
+              at_least_front (written_now.exchanges ++ written_now.more) durable (accepted_of stays.last.history) (accepted_by kept) (prefix_through stays.still within_book)
+                  (subst (λ (h : Entries). IsPrefixOf (accepted_of h) (accepted_by kept)) (sym stays.is) (prefix_self (accepted_by kept))),
+              subst (λ (h : Entries). IsPrefixOf (accepted_by kept) (accepted_of h)) (sym same) (prefix_self (accepted_by kept)),
             );
           }
         where
@@ -230,20 +230,20 @@ module _ {D : Type 0} (seen : D → List ℕ) (may_leave : D → List ℕ → Ty
           written_now = written_trans a stays.left stays.right old now after buffered first stays.middle stays.last stays.written stays.pending grows
 
       -- it is not known whether they are persisted
-      left_some : (answered : List Exchange) → IsFrontOf (durable_at_least answered durable (stored_of stays.middle.history)) stays.calls
-          → (c : List ℕ) → IsStoreOf stays.calls c ⊎ IsStoreOf (stored_in kept) c
-          → (calls : Stored) × IsStoreOf calls c × IsFrontOf (durable_at_least answered durable (stored_of stays.middle.history)) calls × IsFrontOf calls (stored_in new)
+      left_some : (answered : List Exchange) → IsPrefixOf (durable_at_least answered durable (accepted_of stays.middle.history)) stays.calls
+          → (c : List ℕ) → IsStoreOf stays.calls c ⊎ IsStoreOf (accepted_by kept) c
+          → (calls : StoreContents) × IsStoreOf calls c × IsPrefixOf (durable_at_least answered durable (accepted_of stays.middle.history)) calls × IsPrefixOf calls (accepted_by new)
       left_some answered since c (inl some) = (
         stays.calls,
         some,
         since,
-        subst (λ (h : Entries). IsFrontOf stays.calls (stored_of h)) (sym same) within_book,
+        subst (λ (h : Entries). IsPrefixOf stays.calls (accepted_of h)) (sym same) within_book,
       )
       left_some answered since c (inr all) = (
-        stored_in kept,
+        accepted_by kept,
         all,
-        part_through since within_book,
-        subst (λ (h : Entries). IsFrontOf (stored_in kept) (stored_of h)) (sym same) (part_self (stored_in kept)),
+        prefix_through since within_book,
+        subst (λ (h : Entries). IsPrefixOf (accepted_by kept) (accepted_of h)) (sym same) (prefix_self (accepted_by kept)),
       )
 
       -- and nothing is written
@@ -256,7 +256,7 @@ module _ {D : Type 0} (seen : D → List ℕ) (may_leave : D → List ℕ → Ty
             last = stays.middle;
             written = written_now;
             crash = λ c left. left_some (written_now.exchanges ++ written_now.more)
-                (subst (λ (l : List Exchange). IsFrontOf (durable_at_least l durable (stored_of stays.middle.history)) stays.calls)
+                (subst (λ (l : List Exchange). IsPrefixOf (durable_at_least l durable (accepted_of stays.middle.history)) stays.calls)
                 (sym (all_answers_written a stays.left old after first stays.middle written_so ∙ holds_kept_all a stays.left old now after first stays.middle stays.written keeps)) stays.since)
                 c (may stays.calls within_book stays.holds c left);
           }
@@ -276,7 +276,7 @@ module _ {D : Type 0} (seen : D → List ℕ) (may_leave : D → List ℕ → Ty
       }
 
       -- if the calls can't be persisted
-      unkept : (why : KeptFault) → MayBeDurable seen may_leave kept new → Keeps now after → LeavesKept why kept new
+      unkept : (why : PersistenceFault) → MayBeDurable seen may_leave kept new → Keeps now after → LeavesRepository why kept new
           → StopsNotDurable seen may_leave durable a come old after first why new
       unkept why may keeps leaves = record {
         middle = stays.middle;
@@ -289,28 +289,28 @@ module _ {D : Type 0} (seen : D → List ℕ) (may_leave : D → List ℕ → Ty
         is = last_is;
         calls = stays.calls;
         still = stays.still;
-        since = subst (λ (l : List Exchange). IsFrontOf (durable_at_least l durable (stored_of stays.middle.history)) stays.calls)
+        since = subst (λ (l : List Exchange). IsPrefixOf (durable_at_least l durable (accepted_of stays.middle.history)) stays.calls)
             (sym (holds_kept_all a stays.left old now after first stays.middle stays.written keeps)) stays.since;
-        within = subst (λ (h : Entries). IsFrontOf stays.calls (stored_of h)) (sym same) within_book;
-        crash = λ c left. subst (λ (h : Entries). IsStoreOf stays.calls c ⊎ IsStoreOf (stored_of h) c) (sym same) (may stays.calls within_book stays.holds c left);
+        within = subst (λ (h : Entries). IsPrefixOf stays.calls (accepted_of h)) (sym same) within_book;
+        crash = λ c left. subst (λ (h : Entries). IsStoreOf stays.calls c ⊎ IsStoreOf (accepted_of h) c) (sym same) (may stays.calls within_book stays.holds c left);
         leaves = leaves_durable seen may_leave why stays.calls kept new stays.holds leaves;
       }
 
       -- if everything is flushed
       pub promised : (done : Unit {0}) (rest : List ℕ) → FlushesAnswers seen may_leave kept buffered now (Ok done) new rest after
-          → Promises seen may_leave durable a old after first new × Holds seen may_leave (stored_in new) new
+          → Promises seen may_leave durable a old after first new × PersistsCalls seen may_leave (accepted_by new) new
       promised done rest flushes = (promised_all flushes.0 (appends_some now after buffered flushes.2), holds_all new same flushes.0)
 
       -- if flushing fails
       pub stops_so : (why : StoredFault) (rest : List ℕ) → FlushesAnswers seen may_leave kept buffered now (Err why) new rest after
           → StopsWithFault seen may_leave durable a come old after first why new
-      stops_so (fault.Kept why) rest flushes = (promised_some flushes.0 flushes.1, unkept why flushes.0 flushes.1 flushes.2)
+      stops_so (fault.Commit why) rest flushes = (promised_some flushes.0 flushes.1, unkept why flushes.0 flushes.1 flushes.2)
       stops_so (fault.Talk why) rest flushes = absurd flushes
       stops_so (fault.Frame why) rest flushes = absurd flushes
       stops_so (fault.Write error) rest flushes = (promised_all flushes.0 flushes.1, unwritten flushes.0 flushes.1)
 
 -- whatever the result of flushing
-pub flushed_first : {D : Type 0} (seen : D → List ℕ) (may_leave : D → List ℕ → Type 0) (durable : Stored) (a b old now after : Option (List ℕ)) (first : SessionState) (kept new : Kept D) (buffered rest : List ℕ) (lines : ℕ) (diagnostic : Diagnostic)
+pub flushed_first : {D : Type 0} (seen : D → List ℕ) (may_leave : D → List ℕ → Type 0) (durable : StoreContents) (a b old now after : Option (List ℕ)) (first : SessionState) (kept new : DurableRepository D) (buffered rest : List ℕ) (lines : ℕ) (diagnostic : Diagnostic)
     (result : Result (Unit {0}) StoredFault) → BuffersAnswers seen may_leave durable a b old now buffered first (at kept.book lines diagnostic) kept → FlushesAnswers seen may_leave kept buffered now result new rest after
     → new.book ≡ kept.book → AfterFlush seen may_leave durable a b old after rest first (at new.book lines diagnostic) result new
 flushed_first seen may_leave durable a b old now after first kept new buffered rest lines diagnostic (Ok done) buffers flushes same =
@@ -319,9 +319,9 @@ flushed_first seen may_leave durable a b old now after first kept new buffered r
     stops_so seen may_leave durable a old now first kept b buffered (stays seen may_leave durable a old now first kept b buffered lines diagnostic buffers) new after same why rest flushes
 
 -- whatever the result of a step after which everything is flushed
-module _ {D : Type 0} (seen : D → List ℕ) (may_leave : D → List ℕ → Type 0) (durable : Stored) (a b d old now : Option (List ℕ)) (first : SessionState) (kept executed : Kept D) (buffered more : List ℕ) (lines after : ℕ) (diagnostic learnt : Diagnostic)
+module _ {D : Type 0} (seen : D → List ℕ) (may_leave : D → List ℕ → Type 0) (durable : StoreContents) (a b d old now : Option (List ℕ)) (first : SessionState) (kept executed : DurableRepository D) (buffered more : List ℕ) (lines after : ℕ) (diagnostic learnt : Diagnostic)
     (buffers : BuffersAnswers seen may_leave durable a b old now buffered first (at kept.book lines diagnostic) kept) (same_log : executed.log ≡ kept.log) (same_count : executed.count ≡ kept.count)
-    (new : Kept D) (same : new.book ≡ executed.book) (rest : List ℕ) (then : Option (List ℕ)) where
+    (new : DurableRepository D) (same : new.book ≡ executed.book) (rest : List ℕ) (then : Option (List ℕ)) where
   module _ (takes_step : TakesStep b d (Some buffered) (Some more) (at kept.book lines diagnostic) (Ok false) (at executed.book after learnt)) where
     ended_with_buffer : FailsBuffered seen may_leave durable a d old now more first executed
     ended_with_buffer = ended seen may_leave durable a old now first kept b buffered lines diagnostic buffers d more executed same_log same_count after learnt takes_step
@@ -363,18 +363,18 @@ module _ {D : Type 0} (seen : D → List ℕ) (may_leave : D → List ℕ → Ty
     fails_unflushed why flushes = stops_so seen may_leave durable a old now first executed d more stopped_with_buffer new then same why rest flushes
 
 -- the rest of a commit
-pub flushes_so : {D : Type 0} (seen : D → List ℕ) (may_leave : D → List ℕ → Type 0) (old new : Kept D) (buffered now : List ℕ) (before after : Option (List ℕ)) (result : Result (Unit {0}) StoredFault)
+pub flushes_so : {D : Type 0} (seen : D → List ℕ) (may_leave : D → List ℕ → Type 0) (old new : DurableRepository D) (buffered now : List ℕ) (before after : Option (List ℕ)) (result : Result (Unit {0}) StoredFault)
     → AllAreDurable seen may_leave old new
     → MatchResult result (λ done. (now ≡ []) × Appends before after buffered) (λ why. IsUnwritten why × AppendsSome before after buffered)
     → FlushesAnswers seen may_leave old buffered before result new now after
 flushes_so seen may_leave old new buffered now before after (Ok done) keeps buffers = (keeps, buffers.0, buffers.1)
-flushes_so seen may_leave old new buffered now before after (Err (fault.Kept why)) keeps buffers = absurd buffers.0
+flushes_so seen may_leave old new buffered now before after (Err (fault.Commit why)) keeps buffers = absurd buffers.0
 flushes_so seen may_leave old new buffered now before after (Err (fault.Talk why)) keeps buffers = absurd buffers.0
 flushes_so seen may_leave old new buffered now before after (Err (fault.Frame why)) keeps buffers = absurd buffers.0
 flushes_so seen may_leave old new buffered now before after (Err (fault.Write error)) keeps buffers = (keeps, buffers.1)
 
 -- the fault of a turn is the fault of the conversation
-pub talk_stops : {D : Type 0} (seen : D → List ℕ) (may_leave : D → List ℕ → Type 0) (durable : Stored) (a d old now : Option (List ℕ)) (first : SessionState) (kept : Kept D)
+pub talk_stops : {D : Type 0} (seen : D → List ℕ) (may_leave : D → List ℕ → Type 0) (durable : StoreContents) (a d old now : Option (List ℕ)) (first : SessionState) (kept : DurableRepository D)
     (result : Result (Unit {0}) StoredFault) (why : StoredFault) → IsErrAnd result (λ fault. fault ≡ why) → StopsWithFault seen may_leave durable a d old now first why kept
     → TalksKept seen may_leave durable a d old now first result kept
 talk_stops seen may_leave durable a d old now first kept (Ok done) why is stops = absurd is

@@ -1,10 +1,10 @@
 -- How a conversation continues whose answers are buffered.
 use Rattle.std.specs.Prelude.{◌≡◌, ◌⊎◌, ℕ, Bool, true, false, List, [], Option, None, Some, Result, Ok, Err}
 use Rattle.std.specs.Io.KnownBytes.{Appends, Keeps}
-use Rattle.camp_kept.specs.Accepting.{IsFrontOf, Stored, stored_of}
-use Rattle.camp_kept.specs.Keeping.{AreFirst, Holds, IsStoreOf, LeavesKept, stored_in, disk_in}
-use Rattle.camp_kept.specs.declared.faults.KeptFault.{KeptFault}
-use Rattle.camp_kept.specs.declared.kept.Kept.{Kept}
+use Rattle.camp_kept.specs.Accepting.{IsPrefixOf, StoreContents, accepted_of}
+use Rattle.camp_kept.specs.Persisting.{AreFirstCalls, PersistsCalls, IsStoreOf, LeavesRepository, accepted_by, disk_in}
+use Rattle.camp_kept.specs.declared.faults.PersistenceFault.{PersistenceFault}
+use Rattle.camp_kept.specs.declared.repositories.DurableRepository.{DurableRepository}
 use Rattle.camp_kept_talk.specs.Promises.{AnswersWritten, Promises, durable_at_least}
 use Rattle.camp_kept_talk.specs.Stopping.{LeavesDurable}
 use Rattle.camp_kept_talk.specs.declared.faults.StoredFault.{StoredFault}
@@ -18,7 +18,7 @@ use Rattle.camp_talk.specs.declared.faults.TalkFault.TheVariants.{Internal, Memo
 
 -- the writer failed
 abbrev pub IsUnwritten : StoredFault → Type 0
-IsUnwritten (fault.Kept why) = ⊥
+IsUnwritten (fault.Commit why) = ⊥
 IsUnwritten (fault.Talk why) = ⊥
 IsUnwritten (fault.Frame why) = ⊥
 IsUnwritten (fault.Write error) = Unit {0}
@@ -33,14 +33,14 @@ write_as_memory Internal = Internal
 
 -- what a step writes that can't persist the calls: all answers buffered before it, or nothing
 abbrev pub WritesAllOrNone : List ℕ → Option (List ℕ) → Option (List ℕ) → StoredFault → Type 0
-WritesAllOrNone buffered before after (fault.Kept why) = Appends before after buffered ⊎ Keeps before after
+WritesAllOrNone buffered before after (fault.Commit why) = Appends before after buffered ⊎ Keeps before after
 WritesAllOrNone buffered before after (fault.Talk why) = Unit {0}
 WritesAllOrNone buffered before after (fault.Frame why) = Unit {0}
 WritesAllOrNone buffered before after (fault.Write error) = Unit {0}
 
 -- if the calls can't be persisted nothing is written
 abbrev pub WritesNone : Option (List ℕ) → Option (List ℕ) → StoredFault → Type 0
-WritesNone before after (fault.Kept why) = Keeps before after
+WritesNone before after (fault.Commit why) = Keeps before after
 WritesNone before after (fault.Talk why) = Unit {0}
 WritesNone before after (fault.Frame why) = Unit {0}
 WritesNone before after (fault.Write error) = Unit {0}
@@ -53,25 +53,25 @@ pub record EndsReported (remaining rest old now : Option (List ℕ)) (first : Se
 
 module _ {D : Type 0} (seen : D → List ℕ) (may_leave : D → List ℕ → Type 0) where
   -- all accepted calls are durable, if some prefix of them was
-  abbrev pub AllAreDurable : Kept D → Kept D → Type 0
-  AllAreDurable old new = (calls : Stored) → AreFirst calls old → Holds seen may_leave calls old → Holds seen may_leave (stored_in old) new
+  abbrev pub AllAreDurable : DurableRepository D → DurableRepository D → Type 0
+  AllAreDurable old new = (calls : StoreContents) → AreFirstCalls calls old → PersistsCalls seen may_leave calls old → PersistsCalls seen may_leave (accepted_by old) new
 
   -- a crash leaves a store of those that were durable, or of all
-  abbrev pub MayBeDurable : Kept D → Kept D → Type 0
+  abbrev pub MayBeDurable : DurableRepository D → DurableRepository D → Type 0
   MayBeDurable old new =
-      (calls : Stored) → AreFirst calls old → Holds seen may_leave calls old → (c : List ℕ) → may_leave (disk_in new) c → IsStoreOf calls c ⊎ IsStoreOf (stored_in old) c
+      (calls : StoreContents) → AreFirstCalls calls old → PersistsCalls seen may_leave calls old → (c : List ℕ) → may_leave (disk_in new) c → IsStoreOf calls c ⊎ IsStoreOf (accepted_by old) c
 
   -- buffered answers are flushed to a writer. Ok: all calls are persisted, and then exactly the answers were written.
-  -- Kept: nothing was written, and the repository is as the commit left it. Write: all calls are persisted, and a
+  -- Commit: nothing was written, and the repository is as the commit left it. Write: all calls are persisted, and a
   -- prefix of the answers was written.
-  abbrev pub FlushesAnswers : Kept D → List ℕ → Option (List ℕ) → Result (Unit {0}) StoredFault → Kept D → List ℕ → Option (List ℕ) → Type 0
+  abbrev pub FlushesAnswers : DurableRepository D → List ℕ → Option (List ℕ) → Result (Unit {0}) StoredFault → DurableRepository D → List ℕ → Option (List ℕ) → Type 0
   FlushesAnswers old buffered before (Ok done) new now after = AllAreDurable old new × (now ≡ []) × Appends before after buffered
-  FlushesAnswers old buffered before (Err (fault.Kept why)) new now after = MayBeDurable old new × Keeps before after × LeavesKept why old new
+  FlushesAnswers old buffered before (Err (fault.Commit why)) new now after = MayBeDurable old new × Keeps before after × LeavesRepository why old new
   FlushesAnswers old buffered before (Err (fault.Talk why)) new now after = ⊥
   FlushesAnswers old buffered before (Err (fault.Frame why)) new now after = ⊥
   FlushesAnswers old buffered before (Err (fault.Write error)) new now after = AllAreDurable old new × AppendsSome before after buffered
 
-  module _ (durable : Stored) (remaining rest old now : Option (List ℕ)) (buffered : List ℕ) (first last : SessionState) (kept : Kept D) where
+  module _ (durable : StoreContents) (remaining rest old now : Option (List ℕ)) (buffered : List ℕ) (first last : SessionState) (kept : DurableRepository D) where
     -- where these first calls were durable: commands were answered up to a place, and all calls that were accepted
     -- until then are durable; before the first answer the same calls are, at least. The answers to the commands after
     -- the place are buffered.
@@ -80,15 +80,15 @@ module _ {D : Type 0} (seen : D → List ℕ) (may_leave : D → List ℕ → Ty
       pub left : Option (List ℕ)
       pub written : HasAnswered remaining left old now first middle
       pub pending : HasAnswered left rest (Some []) (Some buffered) middle last
-      pub calls : Stored
-      pub holds : Holds seen may_leave calls kept
-      pub still : IsFrontOf durable calls
-      pub since : IsFrontOf (durable_at_least written.exchanges durable (stored_of middle.history)) calls
-      pub within : IsFrontOf calls (stored_of last.history)
+      pub calls : StoreContents
+      pub holds : PersistsCalls seen may_leave calls kept
+      pub still : IsPrefixOf durable calls
+      pub since : IsPrefixOf (durable_at_least written.exchanges durable (accepted_of middle.history)) calls
+      pub within : IsPrefixOf calls (accepted_of last.history)
 
   -- a step has failed: the answers to the commands after the place are buffered, perhaps in part; and no more was
   -- read after them than a command has
-  pub record FailsBuffered (durable : Stored) (remaining rest old now : Option (List ℕ)) (buffered : List ℕ) (first : SessionState) (kept : Kept D) : Type 0 where
+  pub record FailsBuffered (durable : StoreContents) (remaining rest old now : Option (List ℕ)) (buffered : List ℕ) (first : SessionState) (kept : DurableRepository D) : Type 0 where
     pub middle : SessionState
     pub last : SessionState
     pub left : Option (List ℕ)
@@ -96,11 +96,11 @@ module _ {D : Type 0} (seen : D → List ℕ) (may_leave : D → List ℕ → Ty
     pub written : HasAnswered remaining left old now first middle
     pub pending : AnswersWritten left right (Some []) (Some buffered) middle last
     pub reads : ReadsWithin right rest
-    pub calls : Stored
-    pub holds : Holds seen may_leave calls kept
-    pub still : IsFrontOf durable calls
-    pub since : IsFrontOf (durable_at_least written.exchanges durable (stored_of middle.history)) calls
-    pub within : IsFrontOf calls (stored_of last.history)
+    pub calls : StoreContents
+    pub holds : PersistsCalls seen may_leave calls kept
+    pub still : IsPrefixOf durable calls
+    pub since : IsPrefixOf (durable_at_least written.exchanges durable (accepted_of middle.history)) calls
+    pub within : IsPrefixOf calls (accepted_of last.history)
     pub is : last.history ≡ kept.book
 
   -- the calls could not be persisted: commands were answered up to a place, and all of their answers were written;
@@ -108,7 +108,7 @@ module _ {D : Type 0} (seen : D → List ℕ) (may_leave : D → List ℕ → Ty
   -- accepted calls are those of all these commands. Whatever a crash leaves is a store of some prefix of them, the
   -- same each time, with all those up to the place, or at least those that were durable at first; or it is a store of
   -- all. Either no commit is possible any more, or that prefix is durable.
-  pub record StopsNotDurable (durable : Stored) (remaining rest old now : Option (List ℕ)) (first : SessionState) (why : KeptFault) (kept : Kept D) : Type 0 where
+  pub record StopsNotDurable (durable : StoreContents) (remaining rest old now : Option (List ℕ)) (first : SessionState) (why : PersistenceFault) (kept : DurableRepository D) : Type 0 where
     pub middle : SessionState
     pub last : SessionState
     pub left : Option (List ℕ)
@@ -117,53 +117,53 @@ module _ {D : Type 0} (seen : D → List ℕ) (may_leave : D → List ℕ → Ty
     pub pending : AnswersWritten left right None None middle last
     pub reads : ReadsWithin right rest
     pub is : last.history ≡ kept.book
-    pub calls : Stored
-    pub still : IsFrontOf durable calls
-    pub since : IsFrontOf (durable_at_least written.exchanges durable (stored_of middle.history)) calls
-    pub within : IsFrontOf calls (stored_in kept)
-    pub crash : (c : List ℕ) → may_leave (disk_in kept) c → IsStoreOf calls c ⊎ IsStoreOf (stored_in kept) c
+    pub calls : StoreContents
+    pub still : IsPrefixOf durable calls
+    pub since : IsPrefixOf (durable_at_least written.exchanges durable (accepted_of middle.history)) calls
+    pub within : IsPrefixOf calls (accepted_by kept)
+    pub crash : (c : List ℕ) → may_leave (disk_in kept) c → IsStoreOf calls c ⊎ IsStoreOf (accepted_by kept) c
     pub leaves : LeavesDurable seen may_leave why calls kept
 
   -- the writer failed: commands were answered, and a prefix of their answers was written; no more was read than a
   -- further one has. The accepted calls are those of all these commands, and they are durable.
-  pub record StopsUnwritten (remaining rest old now : Option (List ℕ)) (first : SessionState) (kept : Kept D) : Type 0 where
+  pub record StopsUnwritten (remaining rest old now : Option (List ℕ)) (first : SessionState) (kept : DurableRepository D) : Type 0 where
     pub last : SessionState
     pub right : Option (List ℕ)
     pub written : AnswersWritten remaining right old now first last
     pub reads : ReadsWithin right rest
     pub is : last.history ≡ kept.book
-    pub holds : Holds seen may_leave (stored_in kept) kept
+    pub holds : PersistsCalls seen may_leave (accepted_by kept) kept
 
-  -- a conversation has stopped at a fault: the promise holds. Kept: the calls could not be persisted. Write: the
+  -- a conversation has stopped at a fault: the promise holds. Commit: the calls could not be persisted. Write: the
   -- writer failed. Talk: a step had this fault, all accepted calls are durable, and all answers were written before
   -- it.
-  abbrev pub StopsWithFault : Stored → (remaining rest old now : Option (List ℕ)) → SessionState → StoredFault → Kept D → Type 0
-  StopsWithFault durable remaining rest old now first (fault.Kept why) kept =
+  abbrev pub StopsWithFault : StoreContents → (remaining rest old now : Option (List ℕ)) → SessionState → StoredFault → DurableRepository D → Type 0
+  StopsWithFault durable remaining rest old now first (fault.Commit why) kept =
       Promises seen may_leave durable remaining old now first kept × StopsNotDurable durable remaining rest old now first why kept
   StopsWithFault durable remaining rest old now first (fault.Talk why) kept =
       Promises seen may_leave durable remaining old now first kept × EndsReported remaining rest old now first why kept.book
-      × Holds seen may_leave (stored_in kept) kept
+      × PersistsCalls seen may_leave (accepted_by kept) kept
   StopsWithFault durable remaining rest old now first (fault.Frame why) kept = ⊥
   StopsWithFault durable remaining rest old now first (fault.Write error) kept =
       Promises seen may_leave durable remaining old now first kept × StopsUnwritten remaining rest old now first kept
 
   -- the result of a step
-  abbrev pub AfterStep : Stored → (remaining rest old now : Option (List ℕ)) → List ℕ → SessionState → SessionState → Result Bool StoredFault → Kept D → Type 0
+  abbrev pub AfterStep : StoreContents → (remaining rest old now : Option (List ℕ)) → List ℕ → SessionState → SessionState → Result Bool StoredFault → DurableRepository D → Type 0
   AfterStep durable remaining rest old now buffered first last (Ok true) kept = BuffersAnswers durable remaining rest old now buffered first last kept
   AfterStep durable remaining rest old now buffered first last (Ok false) kept =
       Promises seen may_leave durable remaining old now first kept × EndsWithStep remaining rest old now first (Ok false) last.history
-      × Holds seen may_leave (stored_in kept) kept
+      × PersistsCalls seen may_leave (accepted_by kept) kept
   AfterStep durable remaining rest old now buffered first last (Err why) kept = StopsWithFault durable remaining rest old now first why kept
 
   -- the result of flushing
-  abbrev pub AfterFlush : Stored → (remaining rest old now : Option (List ℕ)) → List ℕ → SessionState → SessionState → Result (Unit {0}) StoredFault → Kept D → Type 0
+  abbrev pub AfterFlush : StoreContents → (remaining rest old now : Option (List ℕ)) → List ℕ → SessionState → SessionState → Result (Unit {0}) StoredFault → DurableRepository D → Type 0
   AfterFlush durable remaining rest old now buffered first last (Ok done) kept = BuffersAnswers durable remaining rest old now buffered first last kept
   AfterFlush durable remaining rest old now buffered first last (Err why) kept = StopsWithFault durable remaining rest old now first why kept
 
   -- a conversation over a repository of which these first calls are durable, from its start: the promise holds. After
   -- Ok it was held to its end, and all accepted calls are durable.
-  abbrev pub TalksKept : Stored → (remaining rest old now : Option (List ℕ)) → SessionState → Result (Unit {0}) StoredFault → Kept D → Type 0
+  abbrev pub TalksKept : StoreContents → (remaining rest old now : Option (List ℕ)) → SessionState → Result (Unit {0}) StoredFault → DurableRepository D → Type 0
   TalksKept durable remaining rest old now first (Ok done) kept =
       Promises seen may_leave durable remaining old now first kept × EndsWithStep remaining rest old now first (Ok false) kept.book
-      × Holds seen may_leave (stored_in kept) kept
+      × PersistsCalls seen may_leave (accepted_by kept) kept
   TalksKept durable remaining rest old now first (Err why) kept = StopsWithFault durable remaining rest old now first why kept

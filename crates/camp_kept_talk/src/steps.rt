@@ -1,8 +1,8 @@
 //! Steps of a conversation whose answers are buffered.
 ghost use Rattle.std.specs.Prelude.{◌≡◌, ◌⊎◌, [], true, false, IfErr, IfOk, List, MatchResult, OnOk, Option, ℕ};
 ghost use Rattle.std.specs.Io.KnownBytes.{Appends, Keeps};
-ghost use Rattle.camp_kept.specs.Accepting.{Stored};
-ghost use Rattle.camp_kept.specs.Keeping.{disk_in, may_commit};
+ghost use Rattle.camp_kept.specs.Accepting.{StoreContents};
+ghost use Rattle.camp_kept.specs.Persisting.{disk_in, may_commit};
 ghost use Rattle.camp_kept_talk.specs.Buffering.{AfterFlush, AfterStep, BuffersAnswers, WritesAllOrNone, WritesNone, write_as_memory};
 ghost use Rattle.camp_kept_talk.specs.Stopping.{CountsStored, StaysStopped, stopped_fault};
 ghost use Rattle.camp_talk.specs.Diagnostics.{no_diagnostic};
@@ -11,7 +11,7 @@ ghost use Rattle.camp_talk.specs.Talks.{HasGrown, ReadsWithin};
 
 use crate::StoredFault;
 use crate::flushing::commit_and_flush;
-use camp_kept::{Disk, Kept};
+use camp_kept::{Disk, DurableRepository};
 use camp_talk::{Diagnostic, TalkFault, take_step};
 use std::alloc::Global;
 use std::io::{BufRead, Write};
@@ -52,13 +52,13 @@ impl AnswerBuffer {
 /// If no command is ready, or much is buffered, all of it is flushed first; also at the end of the input.
 pub fn take_stored_step<D: Disk, R: BufRead, W: Write>(
     alloc: Global,
-    kept: &mut Kept<D>,
+    kept: &mut DurableRepository<D>,
     buffered: &mut AnswerBuffer,
     is_ready: bool,
     reader: &mut R,
     writer: &mut W,
 ) -> Result<bool, StoredFault>
-    ensures buffers { (durable : Stored) (remaining old : Option (List ℕ)) (first : SessionState)
+    ensures buffers { (durable : StoreContents) (remaining old : Option (List ℕ)) (first : SessionState)
         → BuffersAnswers D.Disk.seen D.Disk.may_leave durable remaining (R.remaining reader.old) old (W.contents writer.old) buffered.old.answers.items first
         (record { history = kept.old.book; lines = buffered.old.lines; diagnostic = buffered.old.diagnostic }) kept.old
         → AfterStep D.Disk.seen D.Disk.may_leave durable remaining (R.remaining reader.new) old (W.contents writer.new) buffered.new.answers.items first
@@ -83,12 +83,12 @@ pub fn take_stored_step<D: Disk, R: BufRead, W: Write>(
 // Flushes the buffered answers, if no command is ready or many are pending.
 fn flush_first<D: Disk, W: Write>(
     alloc: Global,
-    kept: &mut Kept<D>,
+    kept: &mut DurableRepository<D>,
     buffered: &mut AnswerBuffer,
     is_ready: bool,
     writer: &mut W,
 ) -> Result<(), StoredFault>
-    ensures buffers { (durable : Stored) (remaining rest old : Option (List ℕ)) (first : SessionState)
+    ensures buffers { (durable : StoreContents) (remaining rest old : Option (List ℕ)) (first : SessionState)
         → BuffersAnswers D.Disk.seen D.Disk.may_leave durable remaining rest old (W.contents writer.old) buffered.old.answers.items first
         (record { history = kept.old.book; lines = buffered.old.lines; diagnostic = buffered.old.diagnostic }) kept.old
         → AfterFlush D.Disk.seen D.Disk.may_leave durable remaining rest old (W.contents writer.new) buffered.new.answers.items first
@@ -109,7 +109,7 @@ fn flush_first<D: Disk, W: Write>(
 }
 
 // True if the buffered answers may wait: a command is ready, and not many are pending.
-fn may_wait<D: Disk>(kept: &Kept<D>, buffered: &AnswerBuffer, is_ready: bool) -> bool
+fn may_wait<D: Disk>(kept: &DurableRepository<D>, buffered: &AnswerBuffer, is_ready: bool) -> bool
     ensures { is_ready ≡ false → result ≡ false }
 {
     is_ready && kept.waiting() < MAX_CALLS && buffered.answers.len() < MAX_ANSWERS
@@ -119,12 +119,12 @@ fn may_wait<D: Disk>(kept: &Kept<D>, buffered: &AnswerBuffer, is_ready: bool) ->
 #[tactic(auto, using(crate::proofs::Writing::step_reads_within))]
 fn read_and_buffer<D: Disk, R: BufRead, W: Write>(
     alloc: Global,
-    kept: &mut Kept<D>,
+    kept: &mut DurableRepository<D>,
     buffered: &mut AnswerBuffer,
     reader: &mut R,
     writer: &mut W,
 ) -> Result<bool, StoredFault>
-    ensures buffers { (durable : Stored) (remaining old : Option (List ℕ)) (first : SessionState)
+    ensures buffers { (durable : StoreContents) (remaining old : Option (List ℕ)) (first : SessionState)
         → BuffersAnswers D.Disk.seen D.Disk.may_leave durable remaining (R.remaining reader.old) old (W.contents writer.old) buffered.old.answers.items first
         (record { history = kept.old.book; lines = buffered.old.lines; diagnostic = buffered.old.diagnostic }) kept.old
         → AfterStep D.Disk.seen D.Disk.may_leave durable remaining (R.remaining reader.new) old (W.contents writer.new) buffered.new.answers.items first

@@ -1,15 +1,15 @@
 use Rattle.camp_talk.specs.Diagnostics.{no_diagnostic}
 use Rattle.std.specs.Prelude.{◌≡◌, ◌-◌, ◌^◌, false}
 use Rattle.std.specs.Io.Buffered.{reader_remaining}
-use Rattle.camp_kept.specs.Accepting.{Stored}
-use Rattle.camp_kept.specs.Keeping.{AreFirst, Holds, disk_in, may_commit}
+use Rattle.camp_kept.specs.Accepting.{StoreContents}
+use Rattle.camp_kept.specs.Persisting.{AreFirstCalls, PersistsCalls, disk_in, may_commit}
 use Rattle.camp_kept_talk.specs.Buffering.{BuffersAnswers}
 use Rattle.camp_kept_talk.specs.Stopping.{StaysStopped}
 use Rattle.camp_kept_talk.proofs.talks.talk_kept.Given as goal
 
 abbrev pub invariant-loop-buffered : goal.invariant-loop-buffered
 invariant-loop-buffered g l =
-    ((durable : Stored) → AreFirst durable l.initial.kept → Holds g.D.Disk.seen g.D.Disk.may_leave durable l.initial.kept
+    ((durable : StoreContents) → AreFirstCalls durable l.initial.kept → PersistsCalls g.D.Disk.seen g.D.Disk.may_leave durable l.initial.kept
     → BuffersAnswers g.D.Disk.seen g.D.Disk.may_leave durable (reader_remaining g.R.Read.remaining l.initial.reader) (reader_remaining g.R.Read.remaining l.reader)
     (g.W.Write.contents l.initial.writer) (g.W.Write.contents l.writer) l.buffered.answers.items (record { history = l.initial.kept.book; lines = 0; diagnostic = no_diagnostic })
     (record { history = l.kept.book; lines = l.buffered.lines; diagnostic = l.buffered.diagnostic }) l.kept)
