@@ -77,7 +77,7 @@ module _ {State Call Reply : Type 0} (object : Sequential State Call Reply) (cal
       ∙ ap (λ xs. own_at caller.seat 0 first ++ xs) (where_done-append (reported_position object a) c rest)
 
 module _ {State Call Reply : Type 0} (object : Sequential State Call Reply) where
-  -- as many calls went ahead as were lost to
+  -- as many calls were accepted before it as exchanges were lost
   pub loses_longer : (call : Call) (lost : ℕ) (seen now : List (ℕ × Call)) → Loses object call lost seen now → length seen + lost ≤ length now
   loses_longer call zero seen now prefix = omega (arith, ap length prefix.makes, length-append seen prefix.rest)
   loses_longer call (suc lost) seen now l =
@@ -140,7 +140,7 @@ module _ {State Call Reply : Type 0} (object : Sequential State Call Reply) (sea
   alone_grows before call (Ok reply) prefix says = alone_reply_grows before call (object.done_at reply) reply prefix says
   alone_grows before call (Err fault) prefix says = absurd says
 
--- one more call of a section, at place i
+-- one more call of a section, at index i
 module _ {State Call Reply : Type 0} (object : Sequential State Call Reply) (writes : (state : State) (call : Call) (next : State) → object.after state call ≡ Some next → object.is_writing call ≡ true) (caller : Caller)
     (first : List (ℕ × Call)) (calls : List Call) (i : ℕ) (below : i < length calls) (seen : List (ℕ × Call)) (call : Call) (at : call ≡ get_or calls i call)
     (answer : Result Reply Fault) (now : List (ℕ × Call)) (memory : HasMemory answer) (asks : Ask object caller seen call answer now)

@@ -96,7 +96,7 @@ module _ {State Call Reply : Type 0} (object : Sequential State Call Reply) (hea
         (client_holds (get_or l0 k d.0) (get_or l1 k d.0) s2.0 s2.1.items new.2 (zip_at (IsSynchronised head opened) l0 l1 k d.0 d.0 below one)
         (zip_at R l1 l2 k d.0 d in_l1 two) (synchronised k d (omega (arith, in_l1, AllZip-long R l1 l2 two))))
 
--- where the history grows, all of a seat was known still
+-- a longer history still has all that a seat knew
 pub still_synchronised : {State Call : Type 0} (head : HeadId State) (least : ℕ) (h more : List (ℕ × Call)) → IsBeginning h more
     → (before after : List (SeatState State Call)) → AllZip (WasSynchronised head least h) before after → AllZip (WasSynchronised head least more) before after
 still_synchronised head least h more grows before after synchronised =

@@ -22,7 +22,7 @@ module _ {State Call : Type 0} (head : HeadId State) where
     pub own_stays : own (seat_number before) (history_of after) ≡ own (seat_number before) (history_of before)
     pub knows : IsBeginning known (history_of after)
 
-  -- a seat stays as it was; at an earlier moment, when the history had at least `least` calls, it had all that the seat
+  -- a seat is unchanged; at an earlier moment, when the history had at least `least` calls, it had all that the seat
   -- knows
   pub record WasSynchronised (least : ℕ) (history : List (ℕ × Call)) (before after : SeatState State Call) : Type 0 where
     pub is_seat : IsSeatOf head after

@@ -91,7 +91,7 @@ pub decides_begun : {State Call Reply : Type 0} (object : Sequential State Call 
 decides_begun object first state call (Next next) decides = decides
 decides_begun object first state call (Answer reply) decides = decides
 
--- a history that began with what an earlier state tells began with what its own state tells
+-- the state with which a history began is the same, read from an earlier state or from its own
 module _ {State Call Reply : Type 0} (object : Sequential State Call Reply) (lawful : IsLawfulObject object) (first : State) (is : IsFirst object first) (history : List (ℕ × Call)) (next : State)
     (leads : replay (begun object first) history ≡ Some next) where
   pub begins_same : object.first next ≡ first

@@ -1,10 +1,10 @@
--- Lemmas on seats that meet.
+-- Lemmas on seats that are synchronised.
 use Rattle.camp_history.proofs.Words.{IsBeginning, own, Fault, Memory, SeatState, seat_and_call, history_of, entry_of, seen_entries, SeesMore, ◌≡◌, ℕ, ◌≤◌, ◌⊎◌, cases_lt, inl, inr, List, [], ◌++◌, length, map, Result, OnOk, IfErr, sym, ◌∙◌, ap, subst, arith, length-map, length-append, append-nil, nil_from_length, own-append, begins_through, begins_shorter, FindsChain}
 use Rattle.camp_row.specs.Chains as chain
 use Rattle.camp_history.specs.Synchronising.{Synchronises}
 use Rattle.camp_history.proofs.Seeing.{length-own}
 
--- a history that has as many calls of a seat as its front has no others
+-- a history that has as many calls of a seat as a prefix of it has no others
 pub own_front : {Call : Type 0} (seat : ℕ) (front whole : List (ℕ × Call)) → IsBeginning front whole → length (own seat whole) ≡ length (own seat front) → own seat whole ≡ own seat front
 own_front seat front whole begins same =
     let parts : own seat whole ≡ own seat front ++ own seat begins.rest = ap (own seat) (sym begins.makes) ∙ own-append seat front begins.rest in

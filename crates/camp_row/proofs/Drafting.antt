@@ -17,7 +17,7 @@ module _ (seats per_seat : ℕ) (words : List ℕ) (views : List Knowledge) (rul
       let both = same_from_place (entry_count e.seat before) e.seat (entry_count p.number p.seen) p.number seats (ruled.fits before e after cut).0 k.sizes.2 same in
       let more : entry_count p.number before < entry_count p.number ruled.chain = subst (λ s. entry_count s before < entry_count s ruled.chain) both.1 (entry_count_cut before e after ruled.chain cut) in
       let own_is : entry_count p.number ruled.chain ≡ entry_count p.number p.seen = ap length k.own_seen in
-      let turn_is : entry_count p.number before ≡ entry_count p.number p.seen = ap (λ s. entry_count s before) (sym both.1) ∙ both.0 in
+      let count_is : entry_count p.number before ≡ entry_count p.number p.seen = ap (λ s. entry_count s before) (sym both.1) ∙ both.0 in
       absurd (omega arith)
 
   pub in_row : HasRoom p → index_word (next_cell p) < length words
@@ -82,7 +82,7 @@ module _ (seats per_seat id : ℕ) (p : Part) (room : HasRoom p) (i x : ℕ) whe
         refl,
       )
 
-  -- a store to its place word
+  -- a store to its index word
   pub drafts_index : i ≡ index_word (next_cell p) → Owes seats per_seat id (only p) i (λ _. x) (λ _ w. StoredIndex x (p ∷ []) w.parts)
   drafts_index i_is words views ruled at =
       let inside = in_row seats per_seat words views ruled id p at room in (

@@ -42,7 +42,7 @@ loads_head seats per_seat id v words views ruled at =
     )
 
 module _ (seats per_seat id : ℕ) (p : Part) (i : ℕ) where
-  -- a load of a parent or place word
+  -- a load of a parent or index word
   pub walks : Owes seats per_seat id (only p) i (λ n. n) (λ found w. Walked i found (p ∷ []) w.parts)
   walks words views ruled at =
       let k = knows seats per_seat words views ruled id p at in (
@@ -59,7 +59,7 @@ module _ (seats per_seat id : ℕ) (p : Part) (i : ℕ) where
         ),
       )
 
-  -- a load of the place word of the next cell
+  -- a load of the index word of the next cell
   pub advances : (next : IsProperPrefix p.seen p.ahead) → i ≡ index_word (cell_of p.seats p.seen next.next) → Owes seats per_seat id (only p) i (λ n. n) (λ found w. Advanced found (p ∷ []) w.parts)
   advances next word_is words views ruled at =
       let k = knows seats per_seat words views ruled id p at in

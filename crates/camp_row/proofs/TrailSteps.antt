@@ -26,7 +26,7 @@ on_top {known} {rest = rest} {cell} trail_is items_are leads = at leads.left lea
 abbrev pub top_is_on_chain : {known : PassState} {rest : List ℕ} {cell : ℕ} → OnTop known rest cell → IsOnChain known cell
 top_is_on_chain {known} top = record { before = known.seen; entry = top.entry; later = top.later; is = top.is; cell_is = top.cell_is }
 
--- it comes next, and the rest of the trail leads on from it
+-- it is the next entry, and the rest of the trail continues after it
 pub is_next_entry : {known : PassState} {row : RowId} {rest : List ℕ} {cell : ℕ} {e : Entry} (top : OnTop known rest cell) → e ≡ top.entry → IsSound known → known.row ≡ row → e.seat < row.seats
     → IsNextEntry known (record { entry = e; cell = cell }) × IsTrail known (known.seen ++ e ∷ []) rest
 is_next_entry {known} {row} {rest} {cell} {e} top e_is sound row_is below = (

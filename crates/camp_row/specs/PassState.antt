@@ -66,7 +66,7 @@ pub record IsOnChain (known : PassState) (cell : ℕ) : Type 0 where
   pub is : before ++ entry ∷ later ≡ known.ahead
   pub cell_is : cell ≡ cell_of known.row.seats before entry
 
--- the entry comes next in the chain that was found, and is of a seat of the row
+-- the entry is the next one in the chain that was found, and is of a seat of the row
 pub record IsNextEntry (known : PassState) (next : Next) : Type 0 where
   pub later : List Entry
   pub is : known.seen ++ next.entry ∷ later ≡ known.ahead
@@ -78,7 +78,7 @@ pub record IsNextEntry (known : PassState) (next : Next) : Type 0 where
 abbrev pub IsDrafted : PassState → Type 0
 IsDrafted known = known.parent ≡ head_word known.row.seats known.seen
 
--- the pass after its seat's next cell was drafted with this place
+-- the pass after its seat's next cell was drafted with this index
 abbrev pub with_draft : PassState → ℕ → PassState
 with_draft known index = record known { parent = head_word known.row.seats known.seen; index = index }
 
