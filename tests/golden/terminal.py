@@ -7,9 +7,9 @@ Words: names of cases, or parts of them; none: all. The form of a session stands
 import os
 import re
 import sys
-import tempfile
 
 from tests.harness import programs
+from tests.harness.folders import temporary
 from tests.harness.paths import DATA, EXAMPLES, TOP, read, read_text, write_text
 from tests.harness.terminal import Terminal, commands_of, is_prompt, lines_of, run_command
 
@@ -91,7 +91,7 @@ def piped(report, environment, name):
 def run(report, words):
     shell = programs.path("camp_shell")
     if not words:
-        with tempfile.TemporaryDirectory(prefix="terminal-") as folder:
+        with temporary("terminal-") as folder:
             environment = environment_of(folder, shell)
             interrupted(report, environment, folder)
             interrupted_reading(report, environment, folder)
@@ -100,7 +100,7 @@ def run(report, words):
     for title, transcript in cases():
         if words and not any(it in title for it in words):
             continue
-        with tempfile.TemporaryDirectory(prefix="terminal-") as folder:
+        with temporary("terminal-") as folder:
             environment = environment_of(folder, shell)
             os.makedirs(f"{folder}/home/work")
             for command, wanted in commands_of(transcript):
