@@ -7,13 +7,15 @@ def bash(programs):
     for name, found in programs.items():
         files = "|".join(it.long for it in found.options if it.value == "FILE") or "--"
         values = "|".join(it.long for it in found.options if it.value and it.value != "FILE") or "--"
-        words = " ".join(word for it in found.options for word in (it.short, it.long) if word)
+        words = "\\n".join(word for it in found.options for word in (it.short, it.long) if word)
         out.append(f"""_{name}() {{
     local word=${{COMP_WORDS[COMP_CWORD]}} before=${{COMP_WORDS[COMP_CWORD-1]}}
+    # A path with blanks is one word.
+    local IFS=$'\\n'
     case $before in
         {files}) COMPREPLY=($(compgen -f -- "$word")) ;;
         {values}) COMPREPLY=() ;;
-        *) COMPREPLY=($(compgen -W "{words}" -- "$word")) ;;
+        *) COMPREPLY=($(compgen -W $'{words}' -- "$word")) ;;
     esac
 }}
 complete -o filenames -F _{name} {name}""")

@@ -16,6 +16,7 @@ from packaging import products
 from tests import registry
 from tests.harness import programs
 from tests.harness.crates import below, uses_of
+from tests.harness.folders import temporary
 from tests.harness.paths import TOP, read, write_text
 
 # A test counts as hanging where it takes so many times the seconds that it says, and so many seconds at least, and then uses no
@@ -167,7 +168,7 @@ def run_all():
     subprocess.run(["rt", "version"], check=True)
     products.forget()
     shutil.rmtree(f"{TOP}/out/clients", ignore_errors=True)
-    with tempfile.TemporaryDirectory(prefix="gate-") as folder, ThreadPoolExecutor(programs.JOBS) as others, ThreadPoolExecutor(programs.JOBS) as pool:
+    with temporary("gate-") as folder, ThreadPoolExecutor(programs.JOBS) as others, ThreadPoolExecutor(programs.JOBS) as pool:
         os.environ["CAMP_TREE"] = progress.tree = f"{folder}/tree"
         for crate in (it for it in uses if glob.glob(f"{TOP}/crates/{it}/must-fail/*.edit")):
             waiting.append((below(crate, uses), mutants, ["--over", progress.tree, crate], 10, f"{mutants.name} {crate}"))

@@ -10,7 +10,7 @@ const char *camp_version(void) { return TEXT_OF(CAMP_VERSION); }
 const char *camp_code_text(int32_t code) {
     switch (code) {
     case CAMP_DONE: return "each command has its answer";
-    case CAMP_NOT_OPEN: return "the handle is closed or of the other kind, or the one to be opened is open";
+    case CAMP_NOT_OPEN: return "a handle is not as the call needs it: open, closed, or of the right kind";
     case CAMP_MEMORY: return "out of memory";
     case CAMP_LIMITS: return "a limit is out of range";
     default: return "no code of this library";

@@ -66,6 +66,12 @@ class Values(unittest.TestCase):
             for call in (lambda: repository.record("main", "x", Add("g")), lambda: Edit("f", 1, [1]), lambda: repository.ask(5)):
                 self.assertRaises(TypeError, call)
 
+    def test_each_thing_has_one_name(self):
+        for one in (camp, camp.Repository, camp.View, camp.WhatIf):
+            names = camp.__all__ if one is camp else [it for it in dir(one) if not it.startswith("_")]
+            things = [getattr(one, it) for it in names]
+            self.assertEqual([it for at, it in enumerate(names) if any(things[at] is other for other in things[:at])], [])
+
     def test_a_word_is_one_word_and_a_line_one_line(self):
         with Repository() as repository:
             for call in (lambda: repository.names("main\nnames main"), lambda: repository.names(""), lambda: repository.file("main", "a b"),

@@ -9,12 +9,12 @@ import glob
 import os
 import subprocess
 import sys
-import tempfile
 from concurrent.futures import ThreadPoolExecutor
 
 from tests.harness import programs
 from tests.harness.clients import built_library
 from tests.harness.etcd import servers
+from tests.harness.folders import temporary
 from tests.harness.paths import TOP
 
 SECONDS, GATE = 25, "after camp_c"
@@ -33,7 +33,7 @@ def run(report, words):
     if not library:
         return
     environment = {**os.environ, "CAMP_LIB_DIR": library, "PYTHONDONTWRITEBYTECODE": "1"}
-    with tempfile.TemporaryDirectory(prefix="members-") as folder:
+    with temporary("members-") as folder:
         for name in words or parts:
             parts[name](report, folder, environment)
 
@@ -78,7 +78,7 @@ def has_psycopg(python):
 def server(binaries):
     """A server of PostgreSQL with a socket in a folder of its own; its address."""
     as_nobody = [] if os.geteuid() else ["setpriv", f"--reuid={NOBODY}", f"--regid={NOBODY}", "--clear-groups"]
-    with tempfile.TemporaryDirectory(prefix="postgres-") as folder:
+    with temporary("postgres-") as folder:
         if as_nobody:
             os.chown(folder, NOBODY, NOBODY)
         how = {"cwd": folder, "check": True, "stdin": subprocess.DEVNULL, "stdout": subprocess.DEVNULL}

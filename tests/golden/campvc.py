@@ -19,13 +19,13 @@ import re
 import shutil
 import signal
 import sys
-import tempfile
 import time
 from concurrent.futures import ThreadPoolExecutor
 
 from tests.harness import programs
 from tests.harness.clients import built_library
 from tests.harness.etcd import servers
+from tests.harness.folders import temporary
 from tests.harness.paths import DATA, TOP, read_text
 
 SECONDS, GATE = 150, "after camp_c"
@@ -33,6 +33,8 @@ PARTS = ("coding", "sessions", "etcd", "mishaps", "git", "page")
 AUTHORS = {"anna": "Anna Berg <anna@example.org>", "ben": "Ben Ole <ben@example.org>"}
 DATE = "2026-11-30T03:00:00+00:00"
 COMMAND = re.compile(r"^(\w+)\$ (.*)$")
+# So many ports are tried for a page.
+PORTS = 10
 PACKAGES = (f"{TOP}/clients/python", f"{TOP}/apps/campvc")
 
 
@@ -46,7 +48,7 @@ def run(report, words):
     os.environ["CAMP_LIB_DIR"] = library
     sys.path[:0] = PACKAGES
     for name in words or PARTS:
-        with tempfile.TemporaryDirectory(prefix="campvc-") as folder:
+        with temporary("campvc-") as folder:
             globals()[name](report, folder)
 
 
@@ -355,14 +357,19 @@ with Shared(open_log(sys.argv[1])) as shared:
 
 @contextlib.contextmanager
 def server(folder, python, *words, **more):
-    """A page that is served: its address."""
-    command = [python, "-m", "campvc", "web", "--port", str(random.randrange(20_000, 30_000)), *words]
-    process = programs.start(command, cwd=f"{folder}/anna", env=environment(folder, **more), start_new_session=True)
+    """A page that is served: its address. Another port is tried where a program has the first one."""
+    for _ in range(PORTS):
+        command = [python, "-m", "campvc", "web", "--port", str(random.randrange(20_000, 30_000)), *words]
+        process = programs.start(command, cwd=f"{folder}/anna", env=environment(folder, **more), start_new_session=True)
+        address = process.stdout.readline().decode().strip()
+        if address or b"can't be served" not in process.communicate()[1]:
+            break
     try:
-        yield process.stdout.readline().decode().strip()
+        yield address
     finally:
-        os.kill(process.pid, signal.SIGINT)
-        process.communicate(timeout=programs.TIMEOUT)
+        if process.poll() is None:
+            os.kill(process.pid, signal.SIGINT)
+            process.communicate(timeout=programs.TIMEOUT)
 
 
 def fetch(address, **headers):

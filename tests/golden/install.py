@@ -22,7 +22,7 @@ PROGRAMS = ("camp", "camp_shell")
 # Pages with a C program, and what it prints.
 PAGES = {"docs/embedding.md": b"ok 1\nok 2\ntree 1\nfile notes 1\n=hello\n", "clients/c/README.md": b"ok 1\nnames 1\nstart\n"}
 # What is to be completed, and how.
-COMPLETED = {"--st": "--store", "--store no": "notes", "--export x": ""}
+COMPLETED = {"--st": "--store", "--store no": "notes", "--store a": "a store", "--export x": "", "--l": "--load\n--limits"}
 PYTHON = """
 import camp, sys
 camp.require_library()
@@ -83,6 +83,11 @@ def tries(report, prefix, is_real):
         report.expect_run(f"{it} --version", done, f"{it} {version()}\n".encode())
     report.expect_run("camp_shell", call([f"{prefix}/bin/camp_shell"], given=b"branches\n"), b"branches 1\nmain\n")
     report.count("programs", len(PROGRAMS))
+    major = version().split(".")[0]
+    report.expect("what libcamp.so leads to", os.readlink(f"{prefix}/lib/libcamp.so.{major}"), f"libcamp.so.{version()}")
+    if shutil.which("readelf"):
+        names = re.findall(rb"SONAME.*\[(.*)\]", call(["readelf", "-d", f"{prefix}/lib/libcamp.so"]).stdout)
+        report.expect("the name of the library", names, [f"libcamp.so.{major}".encode()])
     if not (shutil.which("cc") and shutil.which("pkg-config")):
         report.skip("a C compiler with pkg-config")
         return
@@ -127,15 +132,22 @@ def man_pages(report, prefix):
 
 
 def completions(report, prefix):
-    """Bash completes options, and files after options that take one."""
+    """Bash completes options, and files after options that take one. Zsh finds its completions."""
     with tempfile.TemporaryDirectory(prefix="install-") as folder:
-        open(f"{folder}/notes", "wb").close()
+        for it in ("notes", "a store"):
+            open(f"{folder}/{it}", "wb").close()
         for typed, wanted in COMPLETED.items():
             words = ["camp_shell", *typed.split()]
             script = (f"source '{prefix}/share/bash-completion/completions/camp_shell' && complete -p camp camp_shell >/dev/null\n"
-                      f"COMP_WORDS=({' '.join(words)}) COMP_CWORD={len(words) - 1}; _camp_shell; echo \"${{COMPREPLY[*]}}\"\n")
+                      f"COMP_WORDS=({' '.join(words)}) COMP_CWORD={len(words) - 1}; _camp_shell; (IFS=$'\\n'; echo \"${{COMPREPLY[*]}}\")\n")
             report.expect_run(f"the completion of {typed}", call(["bash", "-c", script], cwd=folder), f"{wanted}\n".encode())
             report.count("completions")
+        if not shutil.which("zsh"):
+            return report.skip("zsh")
+        script = (f"fpath=('{prefix}/share/zsh/site-functions' $fpath); autoload -Uz compinit && compinit -D -u && print $_comps[camp] $_comps[camp_shell]\n"
+                  "autoload -Uz +X _camp _camp_shell")
+        report.expect_run("zsh", call(["zsh", "-f", "-c", script], cwd=folder), b"_camp _camp_shell\n")
+        report.count("completions", 2)
 
 
 def refusals(report, folder):
@@ -148,6 +160,7 @@ def refusals(report, folder):
     read_only = call(["./install", "--from", f"{folder}/built", f"{folder}/half"])
     report.expect_run("./install where a file stands", read_only, b"", f"install: {folder}/half/share: Not a directory; nothing is installed\n".encode(), 1)
     report.expect("what is in it", os.listdir(f"{folder}/half"), ["share"])
+    unwritable(report, folder)
     another_version(report, folder)
     for words, error, status in (
         (["--from", empty, f"{folder}/none"], f"install: {empty}/bin/camp does not exist: run ./build first\n", 1),
@@ -158,6 +171,25 @@ def refusals(report, folder):
         report.expect_run(f"./install {' '.join(words)}", call(["./install", *words]), b"", error.encode(), status)
         report.count("refusals")
     report.expect("what is left", os.listdir(f"{folder}/none"), [])
+
+
+def unwritable(report, folder):
+    """A prefix that may only be read, and a file that may not grow, are told by their names, and nothing is left."""
+    os.mkdir(f"{folder}/read-only", 0o555)
+    if os.geteuid() == 0 and not shutil.which("setpriv"):
+        return report.skip("setpriv: nothing is read-only for root")
+    # Root without the rights to pass over modes.
+    rights = "-dac_override,-dac_read_search"
+    before = [] if os.geteuid() else ["setpriv", f"--bounding-set={rights}", f"--inh-caps={rights}"]
+    done = call([*before, "./install", "--from", f"{folder}/built", f"{folder}/read-only"])
+    report.expect_run("./install into what is read-only", done, b"", f"install: {folder}/read-only: Permission denied; nothing is installed\n".encode(), 1)
+    os.mkdir(f"{folder}/full")
+    done = call(["./install", "--from", f"{folder}/built", f"{folder}/full"], preexec_fn=programs.limit_files(10_000))
+    wanted = f"install: {folder}/full/bin/camp: File too large; nothing is installed\n".encode()
+    report.expect_run("./install into what is full", done, b"", wanted, 1)
+    for it in ("read-only", "full"):
+        report.expect(f"what is in it: {it}", os.listdir(f"{folder}/{it}"), [])
+        report.count("refusals")
 
 
 def another_version(report, folder):

@@ -5,17 +5,17 @@ sources, and what it writes.
 """
 
 import subprocess
-import tempfile
 
 from tests.harness import unproved
 from tests.harness.crates import lay_out
+from tests.harness.folders import temporary
 from tests.harness.paths import TOP
 
 SECONDS, GATE = 100, "beside"
 
 
 def run(report, words):
-    with tempfile.TemporaryDirectory(prefix="library-") as folder:
+    with temporary("library-") as folder:
         name, wanted = lay_out(f"{TOP}/docs/library.md", folder)
         crate = f"{folder}/crates/{name}"
         status, output, said = unproved.try_crate(crate)

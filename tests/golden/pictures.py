@@ -13,6 +13,8 @@ from tests.harness import programs
 from tests.harness.paths import DATA, TOP, read_text, write_text
 
 SECONDS, GATE = 10, "after camp_shell"
+# The width and height in points that the picture of a history of so many patches has at most.
+SIZES = {5: (500, 400), 30: (900, 1100), 200: (3300, 1400), 1000: (1900, 1300)}
 SCRIPT = """record main start group
 add menu
 edit menu 1
@@ -74,6 +76,20 @@ def fan():
     return Answers(needs, dict.fromkeys(needs, "list"), [("item-3", "item-4")], [("item-3", "item-4")])
 
 
+def history(count):
+    """As many patches as one would write in some weeks: most need the last one of their file, every seventh one more, and every
+    twentieth is in conflict with the one before it. Every second of these conflicts is unresolved."""
+    names = [f"{('fix', 'parse', 'tidy', 'rename')[at % 4]}-{at}" for at in range(count)]
+    paths = {name: f"src/{('list', 'menu', 'page')[at * at % 3]}{at * 7 % 11}.c" for at, name in enumerate(names)}
+    last, needs = {}, {}
+    for at, name in enumerate(names):
+        needs[name] = [last[paths[name]]] if paths[name] in last else []
+        needs[name] += [names[at // 2]] if at % 7 == 6 and names[at // 2] not in needs[name] else []
+        last[paths[name]] = name
+    pairs = [tuple(sorted((names[at - 1], names[at]))) for at in range(19, count, 20)]
+    return Answers(needs, paths, pairs, pairs[::2])
+
+
 def great():
     """1,000 patches of 20 files: 50 conflicts of two, one of which is unresolved, and one of 20."""
     names = [f"p{at}" for at in range(1000)]
@@ -100,6 +116,8 @@ def run(report, words):
             done = programs.run([*command, *more], env=environment)
             report.expect(f"graph {more}", (done.stdout, done.returncode, error is None or done.stderr == error), (b"", status, True))
     with tempfile.TemporaryDirectory(prefix="pictures-") as folder:
+        for count, size in SIZES.items():
+            drawn(report, f"history of {count}", picture(history(count).ask, "main"), folder, size)
         of_fan(report, picture(fan().ask, "main"), folder)
         of_great(report, picture(great().ask, "main"), folder)
         only_open = picture(great().ask, "main", (), True)
@@ -124,18 +142,26 @@ def of_great(report, dot, folder):
     """A great branch shows conflicts as clusters, the unresolved one first, and counts other patches by file."""
     titles = re.findall(r'subgraph cluster_\d+ {\n    label="(\w+): ', dot)
     report.expect("clusters", (titles[:1], set(titles[1:]), len(titles)), (["unresolved"], {"resolved"}, 40))
-    for text in ("and 11 conflicts more that are resolved", "8 other files", '"file src/file', "folder: others, by file"):
+    for text in ("11 clusters of resolved conflicts", "8 other files", ">src/file2<", "920 patches more", "folder: all others, without arrows"):
         report.expect(f"a great branch has: {text}", text in dot, True)
     report.expect("its patches are not all there", len(dot.splitlines()) < 400, True)
-    drawn(report, "great", dot, folder)
+    heights = drawn(report, "great", dot, folder, SIZES[1000])
+    if heights:
+        lowest = min(heights[it] for it in ("p590", "p591"))
+        report.expect("what is above the unresolved conflict", [it for it in heights if heights[it] > lowest], ["a legend"])
 
 
-def drawn(report, name, dot, folder):
-    """Graphviz draws it without a warning."""
+def drawn(report, name, dot, folder, size=None):
+    """Graphviz draws it without a warning, in a picture of at most this size in points. Returns how high each node stands."""
     report.count("pictures")
     if not shutil.which("dot"):
-        return report.skip("Graphviz")
+        return report.skip("Graphviz") or {}
     done = programs.run(["dot", "-Tsvg", "-o", f"{folder}/{name}.svg"], dot.encode())
     report.expect_run(f"{name}: dot", done, b"")
     svg = read_text(f"{folder}/{name}.svg")
     report.expect(f"{name}: legend and tooltips in SVG", ("arrow: to what a patch needs" in svg, "xlink:title=" in svg), (True, True))
+    found = [int(it) for it in re.search(r'<svg width="(\d+)pt" height="(\d+)pt"', svg).groups()]
+    if size and not all(one <= most for one, most in zip(found, size)):
+        report.fail(f"{name}: {found} points in place of at most {size}")
+    plain = programs.run(["dot", "-Tplain"], dot.encode()).stdout.decode()
+    return {one or other: float(height) for one, other, height in re.findall(r'^node (?:"([^"]*)"|(\S+)) \S+ (\S+)', plain, re.M)}

@@ -8,10 +8,10 @@ import os
 import re
 import sqlite3
 import sys
-import tempfile
 
 from tests.harness import etcd, programs
 from tests.harness.clients import built_library
+from tests.harness.folders import temporary
 from tests.harness.paths import TOP, read_text, write_text
 from tests.harness.terminal import run_together
 
@@ -35,7 +35,7 @@ def run(report, words):
     library = built_library(report, makes=True)
     if not library:
         return report.skip("the library for C")
-    with tempfile.TemporaryDirectory(prefix="shared-") as folder:
+    with temporary("shared-") as folder:
         client = {"PYTHONPATH": f"{TOP}/clients/python", "PYTHONDONTWRITEBYTECODE": "1", "CAMP_LIB_DIR": library}
         environment = {**os.environ, **client, "HOME": folder, "TERM": "xterm", "NO_COLOR": "1", "LC_ALL": "C.UTF-8"}
         for text in re.findall(r"^```terminals\n(.*?)^```$", read_text(PAGE), re.M | re.S):

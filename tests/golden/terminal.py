@@ -6,10 +6,11 @@ Words: names of cases, or parts of them; none: all. The form of a session stands
 
 import os
 import re
+import shutil
 import sys
-import tempfile
 
 from tests.harness import programs
+from tests.harness.folders import temporary
 from tests.harness.paths import DATA, EXAMPLES, TOP, read, read_text, write_text
 from tests.harness.terminal import Terminal, commands_of, is_prompt, lines_of, run_command
 
@@ -77,6 +78,24 @@ def interrupted_reading(report, environment, folder):
     report.count("interrupted files")
 
 
+def over_rlwrap(report, environment, folder):
+    """rlwrap completes words of camp_shell by the file that the client for Python writes."""
+    if not shutil.which("rlwrap"):
+        return report.skip("rlwrap")
+    write_text(f"{folder}/script", "record main start add notes\nbranch work main\nrecord work my-fix add src/a.c\n")
+    words = [sys.executable, "-m", "camp", "shell", "--load", "script", "--completions", "words"]
+    report.expect_run("--completions", programs.run(words, cwd=folder, env=environment), b"")
+    terminal = Terminal("exec rlwrap -b ' ' -f words camp_shell --load script", {**environment, "RLWRAP_HOME": folder}, folder)
+    terminal.read_until(lambda shown: shown.endswith(b"camp> "))
+    for typed, wanted in ((b"sh\two\tmy\t", b"[my-fix add src/a.c]"), (b"file work src\t", b"file 0")):
+        os.write(terminal.end, typed + b"\r")
+        report.expect(f"{typed} by rlwrap", wanted in terminal.read_until(lambda shown: wanted in shown), True)
+        report.count("words of rlwrap")
+    os.write(terminal.end, b"quit\r")
+    terminal.read_until(lambda shown: False)
+    terminal.close()
+
+
 def piped(report, environment, name):
     """A conversation of examples/ without faults is answered through a pipe as by camp_shell, with words of conflicts between."""
     done = programs.run([sys.executable, "-m", "camp", "shell"], read(f"{EXAMPLES}/{name}.talk"), env=environment)
@@ -91,16 +110,17 @@ def piped(report, environment, name):
 def run(report, words):
     shell = programs.path("camp_shell")
     if not words:
-        with tempfile.TemporaryDirectory(prefix="terminal-") as folder:
+        with temporary("terminal-") as folder:
             environment = environment_of(folder, shell)
             interrupted(report, environment, folder)
             interrupted_reading(report, environment, folder)
+            over_rlwrap(report, environment, folder)
             for name in ("questions", "conflicts"):
                 piped(report, environment, name)
     for title, transcript in cases():
         if words and not any(it in title for it in words):
             continue
-        with tempfile.TemporaryDirectory(prefix="terminal-") as folder:
+        with temporary("terminal-") as folder:
             environment = environment_of(folder, shell)
             os.makedirs(f"{folder}/home/work")
             for command, wanted in commands_of(transcript):

@@ -94,8 +94,13 @@ class Clients:
 
     def runs(self, what, words, given=None, **environment):
         """Runs a command that has to succeed, and returns what it writes."""
-        done = self.call(words, given, **environment)
         self.report.count("runs")
+        try:
+            done = self.call(words, given, **environment)
+        except OSError as error:
+            # A program that was not compiled, of which the report has the reason.
+            self.report.fail(f"{what}: {error}")
+            return b""
         if done.returncode:
             self.report.fail(f"{what}: status {done.returncode}:\n{done.stdout.decode(errors='replace')[-3000:]}")
         return done.stdout

@@ -1,12 +1,15 @@
-"""Three members of etcd on this machine. They have fixed ports, so one test at a time has them."""
+"""Three members of etcd on this machine, with ports of their own."""
 
 import contextlib
-import fcntl
 import os
+import random
 import shutil
 
 from tests.harness import programs
 from tests.harness.paths import TOP
+
+# The ports of three members are some after one of these, and so often others are tried where a program has one of them.
+PORTS, TRIES = range(20_000, 32_000, 20), 10
 
 
 @contextlib.contextmanager
@@ -16,12 +19,14 @@ def servers(report, folder):
         report.skip("etcd")
         yield None
         return
-    how = {"env": {**os.environ, "ETCD_DIR": f"{folder}/etcd"}}
-    os.makedirs(f"{TOP}/out", exist_ok=True)
-    with open(f"{TOP}/out/etcd.lock", "w", encoding="ascii") as lock:
-        fcntl.flock(lock, fcntl.LOCK_EX)
-        started = programs.run([f"{TOP}/clients/etcd", "start"], **how)
-        try:
-            yield started.stdout.decode().strip() if report.expect("clients/etcd start", started.returncode, 0) else None
-        finally:
-            programs.run([f"{TOP}/clients/etcd", "stop"], **how)
+    how = {}
+    for _ in range(TRIES):
+        how = {"env": {**os.environ, "ETCD_DIR": f"{folder}/etcd", "ETCD_PORT": str(random.choice(PORTS))}}
+        started = programs.run([f"{TOP}/clients/etcd", "start"], **how, timeout=2 * programs.TIMEOUT)
+        if started.returncode == 0:
+            break
+        programs.run([f"{TOP}/clients/etcd", "stop"], **how)
+    try:
+        yield started.stdout.decode().strip() if report.expect("clients/etcd start", started.returncode, 0) else None
+    finally:
+        programs.run([f"{TOP}/clients/etcd", "stop"], **how)

@@ -1,5 +1,6 @@
 """Starts programs: which file is run, with what limits, and how a peer talks to it."""
 
+import contextlib
 import os
 import resource
 import signal
@@ -14,10 +15,10 @@ TIMEOUT = 600
 JOBS = int(os.environ.get("JOBS", 0)) or len(os.sched_getaffinity(0))
 
 
-def path(crate):
+def path(crate, tell=None):
     """The program of a crate: the file that the environment variable of its name gives (CAMP, CAMP_SHELL, WORKED); else the
     proved one in the tree that CAMP_TREE names, or of this one (as a check or ./build left it), unless a source is newer; else
-    one that is built without proofs, once."""
+    one that is built without proofs, once, and `tell` is called with the seconds that it takes."""
     named = os.environ.get(crate.upper())
     if named:
         return os.path.abspath(named)
@@ -27,7 +28,7 @@ def path(crate):
         return proved
     if unproved.is_newer(f"{TOP}/out/bin/{crate}"):
         return f"{TOP}/out/bin/{crate}"
-    return unproved.program(crate)
+    return unproved.program(crate, tell=tell)
 
 
 def run(words, given=b"", **how):
@@ -69,7 +70,8 @@ def end(process):
             os.killpg(process.pid, signal.SIGTERM)
             process.wait(timeout=10)
         except (subprocess.TimeoutExpired, ProcessLookupError):
-            process.kill()
+            with contextlib.suppress(ProcessLookupError):
+                os.killpg(process.pid, signal.SIGKILL)
     process.wait()
 
 

@@ -9,6 +9,7 @@ An escape character is `\e`, a carriage return inside a line `\r`. In typed text
 
 import contextlib
 import fcntl
+import glob
 import os
 import pty
 import re
@@ -18,6 +19,8 @@ import struct
 import termios
 import time
 
+from tests.harness.paths import read_text
+
 PROMPTS = ("camp> ", "....> ")
 KEYS = {"<C-c>": "\x03", "<C-d>": "\x04", "<Tab>": "\t", "<Up>": "\x1b[A"}
 COLUMNS = 130
@@ -25,7 +28,7 @@ COLUMNS = 130
 PROGRESS = re.compile(r"(\\rworking: [^\\]*)+\\r *\\r")
 # Seconds without a prompt after which a program counts as hanging.
 TIMEOUT = 600
-# Seconds after which Ctrl-C is typed once more: Python does not see one that comes between a key and its wait for the next.
+# Seconds after which Ctrl-C is typed once more, if nothing is at work: Python does not see one that comes between a key and its wait for the next.
 REPEAT = 3
 
 
@@ -48,7 +51,7 @@ class Terminal:
         while not is_enough(shown):
             if time.time() - last > TIMEOUT:
                 return shown + b"\r\n(the program hangs)\r\n"
-            if is_interrupted and not shown and time.time() - last > REPEAT:
+            if is_interrupted and not shown and time.time() - last > REPEAT and self.is_idle():
                 self.interrupt()
                 is_interrupted = False
             if select.select([self.end], [], [], 1)[0]:
@@ -60,6 +63,19 @@ class Terminal:
                     break
                 shown, last = shown + more, time.time()
         return shown
+
+    def is_idle(self):
+        """Whether what runs in the terminal waits, and has used no processor for a second."""
+        states = []
+        for pause in (1, 0):
+            states.append([])
+            for path in glob.glob("/proc/[0-9]*/stat"):
+                with contextlib.suppress(OSError):
+                    fields = read_text(path).rpartition(")")[2].split()
+                    if int(fields[2]) == os.tcgetpgrp(self.end):
+                        states[-1].append((path, *fields[:1], *fields[11:13]))
+            time.sleep(pause)
+        return states[0] == states[1] and all(it[1] == "S" for it in states[0])
 
     def type(self, text):
         """Types a line, and returns what is shown after it."""

@@ -12,13 +12,15 @@ import fcntl
 import glob
 import os
 import re
+import shutil
 import signal
 import subprocess
 import sys
 import tempfile
 import time
 
-from tests.harness.paths import TOP, read
+from tests.harness.folders import temporary
+from tests.harness.paths import TOP, read, read_text, write_text
 
 FOLDER = f"{TOP}/out/unproved"
 # Seconds between two looks at the folder, and of two looks at the processes of `rt try` one each so many.
@@ -59,15 +61,18 @@ def is_newer(path, more=()):
 
 def build(crate, path, words=(), tell=None):
     """Builds the program of a crate's folder as a file; `tell` is called with the seconds that it takes, again and again."""
+    if not shutil.which("rt"):
+        sys.exit("the kit's command rt is not on the PATH: see README.md")
     name = os.path.basename(crate)
     busy = (ASKED_WITH_FAULT if words else ASKED).get(name) or read(f"{crate}/stdin")
     new, started = path + ".new", time.time()
     with contextlib.suppress(FileNotFoundError):
         os.remove(new)
-    with tempfile.TemporaryDirectory(prefix="unproved-", dir=os.path.dirname(path)) as folder:
+    with temporary("unproved-", os.path.dirname(path)) as folder:
         status, _, said = try_crate(crate, words, busy, folder, new, tell)
     if not os.path.exists(new) or not RAN.search(said):
         sys.exit(f"{said[-4000:].decode(errors='replace')}\n{name}: rt try left no program (status {status}): see tests/harness/unproved.py")
+    note_seconds(name, time.time() - started)
     # A source that was changed meanwhile is newer.
     os.utime(new, (started, started))
     os.replace(new, path)
@@ -118,23 +123,42 @@ def spare_processors(process):
                     file.write(str(os.nice(0)))
 
 
+def seconds_file(name):
+    """The file, of this user on this machine, that has the seconds which the last build of a program took."""
+    cache = os.environ.get("XDG_CACHE_HOME") or os.path.expanduser("~/.cache")
+    return f"{cache}/camp/{name}.seconds"
+
+
+def note_seconds(name, seconds):
+    with contextlib.suppress(OSError):
+        os.makedirs(os.path.dirname(seconds_file(name)), exist_ok=True)
+        write_text(seconds_file(name), f"{seconds:.0f}\n")
+
+
+def last_seconds(name):
+    """The seconds that the last build took; None if none is known."""
+    with contextlib.suppress(OSError, ValueError):
+        return int(read_text(seconds_file(name)))
+    return None
+
+
 class Steps:
-    """Says every ten seconds that a build goes on."""
+    """Says every ten seconds on standard error how far a build is, by what the last one took."""
 
     def __init__(self, crate):
-        self.crate, self.said = crate, -10.0
+        self.crate, self.said, self.last = crate, -10.0, last_seconds(crate)
 
     def __call__(self, seconds):
         if seconds < self.said + 10:
             return
         if self.said < 0:
-            print(f"Building {self.crate} without proofs, once: some 100 seconds where the machine has nothing else to do.")
+            known = f"the last time it took {self.last} seconds on this machine" if self.last else "some 100 seconds where the machine has nothing else to do"
+            print(f"Building {self.crate} without proofs, once: {known}.", file=sys.stderr)
         self.said = seconds
-        print(f"  {seconds:3.0f} s: {'compiling' if seconds < 150 else 'still compiling: the machine is busy'}", flush=True)
+        print(f"  {seconds:3.0f} s{self.rest(seconds)}", file=sys.stderr, flush=True)
 
-
-if __name__ == "__main__":
-    try:
-        program(sys.argv[1], tell=Steps(sys.argv[1]))
-    except KeyboardInterrupt:
-        sys.exit("stopped")
+    def rest(self, seconds):
+        """How much is left, if that is known."""
+        if not self.last:
+            return ""
+        return f", some {self.last - seconds:.0f} s left" if seconds < self.last else ": longer than the last time"

@@ -15,13 +15,13 @@ import os
 import re
 import shutil
 import subprocess
-import tempfile
 from collections import Counter
 from concurrent.futures import ThreadPoolExecutor
 
 from tests.harness import programs
 from tests.harness.checks import tree_below, words_over
 from tests.harness.crates import uses_of
+from tests.harness.folders import temporary
 from tests.harness.mutants import Mutant, functions_in, mutants_of, sources
 from tests.harness.paths import TOP, read_text, write_text
 from tests.harness.verdicts import VERDICT, errors_in, function_of, functions_with
@@ -51,7 +51,7 @@ def run(report, words):
 
 def try_crate(report, name, mutants, tree):
     """Tries the mutants of a crate in a copy of it, over the tree's libraries, or over those that are kept."""
-    with tempfile.TemporaryDirectory(prefix="mutants-") as folder:
+    with temporary("mutants-") as folder:
         shutil.copytree(f"{TOP}/crates/{name}", f"{folder}/{name}", ignore=shutil.ignore_patterns("out", "planted*"))
         words = [*words_over(name, tree or tree_below(name)), "--jobs", "1", "--incremental", "kept"]
         check = Check(f"{folder}/{name}", words)

@@ -13,11 +13,11 @@ import os
 import re
 import subprocess
 import sys
-import tempfile
 import time
 from concurrent.futures import ThreadPoolExecutor
 
 from tests.harness import programs, unproved
+from tests.harness.folders import temporary
 from tests.harness.paths import TOP, WORKED, read_text, write_text
 from tests.harness.scripts import table_scripts
 from tests.harness.worked import REFUSED, tables
@@ -66,7 +66,7 @@ def run(report, words):
     mutants = [it for it in read_mutants() if not named or it.file in named or it.file.split("/")[0] in named]
     known_of, is_find = known_tables(), "--find" in words
     known = {name for tables_of_it in known_of.values() for name in tables_of_it}
-    with tempfile.TemporaryDirectory(prefix="mutants-") as folder:
+    with temporary("mutants-") as folder:
         make_copy(folder, mutants)
         noticed = {}
         by_table = mutants if is_find else [it for it in mutants if it.test in known]

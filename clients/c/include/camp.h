@@ -48,7 +48,7 @@ typedef struct camp_view {
 
 enum {
     CAMP_DONE = 0,     /* each command has its answer */
-    CAMP_NOT_OPEN = 1, /* the handle is closed or of the other kind, or the one to be opened is open; nothing has changed */
+    CAMP_NOT_OPEN = 1, /* a handle is not as the call needs it: open, closed, or of the right kind; nothing has changed */
     CAMP_MEMORY = 2,   /* there was not enough memory */
     CAMP_LIMITS = 3    /* a limit is out of range; the handle stays closed */
 };

@@ -44,7 +44,10 @@ def parser() -> argparse.ArgumentParser:
 
     shell = command("shell", "hold a conversation at a terminal", "Holds a conversation with a repository. The command help lists the commands.")
     add_repository(shell)
-    shell.add_argument("--json", action="store_true", help="answer with one JSON object in a line for each response")
+    way = shell.add_mutually_exclusive_group()
+    way.add_argument("--json", action="store_true", help="answer with one JSON object in a line for each response")
+    way.add_argument("--completions", metavar="FILE",
+                     help="write commands, branches, patches and paths to this file, and end: rlwrap -b ' ' -f FILE camp_shell completes them")
     graph = command("graph", "write a picture of a branch for Graphviz",
                     "Writes a picture of a branch as DOT: `python3 -m camp graph main --store FILE | dot -Tsvg >main.svg`. With patches it has "
                     "these, what they need and what needs them.")
@@ -81,6 +84,9 @@ def main(words: Optional[List[str]] = None) -> int:
         if given.command == "graph":
             from .terminal.graph import draw
             return draw(given)
+        if given.completions is not None:
+            from .terminal.run import write_completions
+            return write_completions(given.completions, given.store, given.load, given.log)
         if given.json:
             from .terminal.as_json import run_json
             return run_json(given.store, given.load, given.log)

@@ -1,14 +1,15 @@
 """Pictures of a branch, as DOT for Graphviz: `python3 -m camp graph`, `picture` at a terminal.
 
 Up to `MOST_NAMED` patches are shown with their paths, up to `MOST_PATCHES` by their names, with the paths as tooltips. Of more, each
-group of patches that conflicts join is a cluster, and the others are counted by file. A patch that more than `MOST_ARROWS` others
-need directly says how many need it, in place of the arrows; patches that are joined to nothing else are one node then, if they are
-many.
+group of patches that conflicts join is a cluster in a grid, with arrows between patches of clusters alone, and the others are
+counted by file in one table. A patch that more than `MOST_ARROWS` others need directly says how many need it, in place of the
+arrows; patches that are joined to nothing else are one node then, if they are many.
 """
 
 from __future__ import annotations
 
 import io
+import math
 from typing import Callable, Dict, Iterable, List, NamedTuple, Sequence, Set, Tuple
 
 from .answers import Answer, Conflict, read_changes, read_conflicts, read_names, read_shown
@@ -24,6 +25,8 @@ MOST_ALONE = 8
 MOST_CLUSTERS, MOST_IN_CLUSTER, MOST_FILES = 40, 12, 12
 # Of a patch: the paths that its second line has.
 MOST_PATHS = 2
+# Nodes that are no patches: no name has a blank.
+LEGEND, OTHERS = "a legend", "other patches"
 UNRESOLVED, RESOLVED = "#c62828", "#8d6e00"
 HEAD = """digraph {
   rankdir=LR; ranksep=0.5; nodesep=0.15; fontname="sans-serif"; fontsize=11;
@@ -202,16 +205,26 @@ def clusters_of(conflicts: Sequence[Conflict]) -> List[List[str]]:
 
 
 def _by_conflicts(patches: Patches) -> List[str]:
-    """The groups that conflicts join, the unresolved ones first, and how many other patches each file has."""
+    """The groups that conflicts join in rows, the unresolved ones first, and how many other patches each file has."""
     states = patches.states()
     clusters = sorted(clusters_of(patches.conflicts), key=lambda group: all(states[it] == "resolved" for it in group))
+    shown = clusters[:MOST_CLUSTERS]
     node_of: Dict[str, str] = {}
-    found: List[str] = []
-    for at, group in enumerate(clusters[:MOST_CLUSTERS]):
-        found += _cluster(patches, at, group, states, node_of)
+    found = [line for at, group in enumerate(shown) for line in _cluster(patches, at, group, states, node_of)]
     rest = [name for name in patches.needs if name not in node_of]
-    found += _files(patches, rest, len(clusters) - MOST_CLUSTERS, node_of)
+    found += _others(patches, rest, len(clusters) - len(shown)) if rest else []
+    found += _grid([node_of[group[0]] for group in shown], [OTHERS] if rest else [])
     return found + _arrows(patches.needs, node_of)
+
+
+def _grid(nodes: Sequence[str], last: Sequence[str]) -> List[str]:
+    """Lines that nobody sees, which put some nodes into rows, one below the other, the legend above and others below."""
+    width = math.ceil(math.sqrt(len(nodes) / 2))
+    # What stands below the legend is drawn to it, so that a column with fewer rows begins at the top, too.
+    weighed = [((LEGEND, it), ", weight=9") for it in nodes[:width]]
+    below = [*zip(nodes, nodes[width:]), *((it, other) for it in nodes[-width:] for other in last)]
+    return ["  rankdir=TB;\n", *("  {} -> {} [style=invis{}];\n".format(*map(quoted, pair), how)
+                                 for pair, how in [*weighed, *((it, "") for it in below)])]
 
 
 def _cluster(patches: Patches, at: int, group: Sequence[str], states: Dict[str, str], node_of: Dict[str, str]) -> List[str]:
@@ -235,24 +248,23 @@ def _cluster(patches: Patches, at: int, group: Sequence[str], states: Dict[str, 
     return [*found, "  }\n"]
 
 
-def _files(patches: Patches, names: Sequence[str], hidden: int, node_of: Dict[str, str]) -> List[str]:
-    """A node for each of the files that most of some patches change, with how many these are, and one for all others."""
-    by_file: Dict[str, List[str]] = {}
+def _others(patches: Patches, names: Sequence[str], hidden: int) -> List[str]:
+    """A table of the files that most of some patches change first, with how many these are, and what else is not shown."""
+    counts: Dict[str, int] = {}
     for name in names:
-        by_file.setdefault((patches.paths[name] or ["no file"])[0], []).append(name)
-    largest = sorted(by_file, key=lambda path: -len(by_file[path]))
-    groups = [("file " + path, path, by_file[path]) for path in largest[:MOST_FILES]]
-    others = [name for path in largest[MOST_FILES:] for name in by_file[path]]
-    groups += [("other files", counted(len(largest) - MOST_FILES, "other file"), others)] if others else []
-    found = []
-    for node, title, members in groups:
-        node_of.update((name, node) for name in members)
-        label = "{}<br/><font point-size=\"9\" color=\"gray30\">{}</font>".format(escaped(title), counted(len(members), "patch"))
-        found.append('  {} [shape=folder, style=filled, fillcolor=gray95, label=<{}>, tooltip={}];\n'.format(
-            quoted(node), label, quoted(some(members, 20))))
+        path = (patches.paths[name] or ["no file"])[0]
+        counts[path] = counts.get(path, 0) + 1
+    largest = sorted(counts, key=lambda path: -counts[path])
+    rows = [(path, counted(counts[path], "patch")) for path in largest[:MOST_FILES]]
+    if len(largest) > MOST_FILES:
+        rows.append((counted(len(largest) - MOST_FILES, "other file"), counted(sum(counts[path] for path in largest[MOST_FILES:]), "patch")))
     if hidden > 0:
-        found.append('  "and more" [shape=plaintext, style="", label={}];\n'.format(quoted("and {} more that are resolved".format(counted(hidden, "conflict")))))
-    return found
+        rows.append(("not shown", "{} of resolved conflicts".format(counted(hidden, "cluster"))))
+    cells = "".join('<tr><td align="left">{}</td><td align="left"><font color="gray30">{}</font></td></tr>'.format(escaped(path), text)
+                    for path, text in rows)
+    return ['  {} [shape=folder, style=filled, fillcolor=gray95, fontsize=9, tooltip={}, label=<'
+            '<table border="0" cellborder="0" cellspacing="0" cellpadding="1"><tr><td align="left" colspan="2">{}</td></tr>{}</table>>];\n'.format(
+                quoted(OTHERS), quoted(some(names, 20)), "{} more".format(counted(len(names), "patch")), cells)]
 
 
 def _arrows(needs: Dict[str, List[str]], node_of: Dict[str, str]) -> List[str]:
@@ -260,10 +272,10 @@ def _arrows(needs: Dict[str, List[str]], node_of: Dict[str, str]) -> List[str]:
     counts: Dict[Tuple[str, str], int] = {}
     for name, on in needs.items():
         for it in on:
-            pair = (node_of[name], node_of[it])
-            if pair[0] != pair[1]:
+            pair = (node_of.get(name, ""), node_of.get(it, ""))
+            if all(pair) and pair[0] != pair[1]:
                 counts[pair] = counts.get(pair, 0) + 1
-    return ["  {} -> {}{};\n".format(quoted(one), quoted(other), " [label={}]".format(count) if count > 1 else "")
+    return ["  {} -> {} [constraint=false{}];\n".format(quoted(one), quoted(other), ", label={}".format(count) if count > 1 else "")
             for (one, other), count in counts.items()]
 
 
@@ -280,6 +292,6 @@ def _legend(patches: Patches) -> str:
     if any(count for count in _hubs(patches.needs).values()) and len(patches.needs) <= MOST_PATCHES:
         found.append(cell.format("gray30", "no arrows: more than {} need it directly".format(MOST_ARROWS)))
     if len(patches.needs) > MOST_PATCHES:
-        found.append(cell.format("gray30", "box: patches in conflict; folder: others, by file"))
+        found.append(cell.format("gray30", "box: patches in conflict; folder: all others, without arrows"))
     table = '<table border="0" cellborder="0" cellspacing="0" cellpadding="1">{}</table>'.format("".join(found))
-    return '  "a legend" [shape=box, style=dotted, fontsize=9, label=<{}>];\n'.format(table)
+    return '  {} [shape=box, style=dotted, fontsize=9, label=<{}>];\n'.format(quoted(LEGEND), table)

@@ -41,6 +41,15 @@ class Backend(Protocol):
 class Ended(Exception):
     """The backend has ended or could not begin; the text says why."""
 
+    # The exit status of a command that ends with it.
+    status = 3
+
+
+class NotLoaded(Ended):
+    """A command of a file of `--load` is refused or has a fault."""
+
+    status = 1
+
 
 class NotDone(Exception):
     """The backend did not do what it was asked, and the conversation goes on; the text says why, and what to do."""

@@ -1,4 +1,5 @@
-"""What Tab offers: the words of commands, and the branches, patches, paths and files that may stand next."""
+"""What Tab offers: the words of commands, and the branches, patches, paths and files that may stand next; and a file of all of
+them for rlwrap, which knows no places."""
 
 from __future__ import annotations
 
@@ -12,6 +13,8 @@ from .unresolved import Ask, listed
 
 FILES = {"save", "read", "open", ".save", ".read", ".open"}
 IN_BODY = ("end", "cancel", "help", "why", "quit")
+# Words of camp_shell that begin no command.
+OTHER_WORDS = ("end", "done", "quit", "refused")
 IN_GROUP = ("add", "remove", "edit", "done", "cancel", "help", "why", "quit")
 
 
@@ -102,3 +105,11 @@ def files(word: str) -> List[str]:
     """The files and folders whose paths begin with a text."""
     found = sorted(glob.glob(glob.escape(os.path.expanduser(word)) + "*"))
     return [it + "/" if os.path.isdir(it) else it for it in found if " " not in it]
+
+
+def all_words(ask: Ask) -> List[str]:
+    """The words of camp_shell's commands, and the branches, patches and paths of the repository."""
+    branches = [it.decode("ascii", "replace") for it in listed(ask, "branches") or []]
+    names = {it.decode("ascii", "replace") for branch in branches for it in listed(ask, "names", branch) or []}
+    paths = {path for branch in branches for path in paths_of(ask, branch)}
+    return sorted({*SHAPES, *CHANGES, *OTHER_WORDS, *branches, *names, *paths})

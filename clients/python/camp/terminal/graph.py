@@ -9,7 +9,7 @@ from ..errors import Error
 from ..pictures import picture
 from .backend import Ended
 from .commands import wrong_name
-from .run import FAILED, open_backend
+from .run import open_backend
 from .screen import complain
 
 NOT_THERE = 1
@@ -29,7 +29,7 @@ def draw(given: argparse.Namespace) -> int:
             backend.close()
     except Ended as error:
         complain(str(error))
-        return FAILED
+        return error.status
     except (Error, ValueError) as error:
         complain(str(error))
         return NOT_THERE

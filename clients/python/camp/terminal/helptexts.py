@@ -28,6 +28,10 @@ TOPICS: Dict[str, Sequence[str]] = {
     "quit": ("quit: end. exit and Ctrl-D do the same.", "Where calls would be lost it says so, and a second quit ends."),
     "edit": ("record BRANCH NAME edit PATH LINE: record an edit; its body follows, up to end", *BODY, "Example:",
              "record main hello edit notes 1", "+hello", "end"),
+    "add": ("record BRANCH NAME add PATH: record a patch that adds a file without lines", "In a group write add PATH.", "Example:",
+            "record main start add notes"),
+    "remove": ("record BRANCH NAME remove PATH: record a patch that removes a file, whose lines an edit before has removed",
+               "In a group write remove PATH.", "Example:", "record main gone remove notes"),
     "group": ("record BRANCH NAME group: record several changes, which follow, up to done",
               "A group has 1 to 64 changes: add PATH, remove PATH, or edit PATH LINE with its body.", "Example:",
               "record main both group", "add one", "edit one 1", "+hello", "end", "done"),
@@ -45,7 +49,6 @@ TOPICS: Dict[str, Sequence[str]] = {
                 "FILE ends in .svg, .png or .pdf, which Graphviz's dot writes, or in .dot, which is its input.", *FILE_WORDS[:1]),
 }
 TOPICS["exit"] = TOPICS["quit"]
-TOPICS["add"] = TOPICS["remove"] = TOPICS["group"]
 
 
 def grouped(lines: Sequence[str]) -> List[Tuple[str, List[str]]]:

@@ -8,8 +8,9 @@ from typing import Optional, Sequence
 
 from ..errors import Unexpected
 from . import interrupts
-from .backend import Backend, Ended, NotDone, Program, open_store
-from .completion import Completion
+from .backend import Backend, Ended, NotDone, NotLoaded, Program, open_store
+from .completion import Completion, all_words
+from .files import BadFile, check_target, write_whole
 from .keyboard import EndOfInput, Interrupted, Keyboard, Lines, Pipe
 from .loading import explained
 from .own import Conversation
@@ -27,7 +28,23 @@ def open_backend(store: Optional[str], loads: Sequence[str], log: Optional[str])
     try:
         return Program(options) if store is None else open_store(store, options)
     except Ended as error:
-        raise Ended(explained(str(error))) from error
+        text = explained(str(error))
+        raise (Ended if text == str(error) else NotLoaded)(text) from error
+
+
+def write_completions(path: str, store: Optional[str], loads: Sequence[str], log: Optional[str]) -> int:
+    """Writes the words that rlwrap is to complete, one in a line, and returns the exit status."""
+    try:
+        check_target(path)
+        backend = open_backend(store, loads, log)
+        try:
+            write_whole(path, "".join(it + "\n" for it in all_words(backend.ask)).encode())
+        finally:
+            backend.close()
+    except (Ended, BadFile) as error:
+        complain(str(error))
+        return getattr(error, "status", FAILED)
+    return 0
 
 
 def run(store: Optional[str], loads: Sequence[str], log: Optional[str] = None) -> int:
@@ -36,7 +53,7 @@ def run(store: Optional[str], loads: Sequence[str], log: Optional[str] = None) -
         backend = open_backend(store, loads, log)
     except Ended as error:
         complain(str(error))
-        return FAILED
+        return error.status
     except KeyboardInterrupt:
         return INTERRUPTED
     screen = standard_screen()

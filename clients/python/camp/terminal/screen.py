@@ -47,7 +47,7 @@ class Screen:
         lines = [text]
         if self.is_terminal and width + 1 >= LEAST_WIDTH and len(text) > width:
             first = text[: len(text) - len(text.lstrip(" "))]
-            lines = textwrap.wrap(text, width, initial_indent=first, subsequent_indent=indent or first, break_long_words=False,
+            lines = textwrap.wrap(text.lstrip(" "), width, initial_indent=first, subsequent_indent=indent or first, break_long_words=False,
                                   break_on_hyphens=False)
         for line in lines:
             self._write(line, style)
