@@ -3,10 +3,10 @@ use Rattle.std.proofs.Common.{◌≡◌, ◌⊎◌, inl, inr, ℕ, List, [], ◌
 use Rattle.std.specs.List.{AllByRecursion}
 use Rattle.std.proofs.lemmas.List.{drop-map, drop_at, length-map, map-append, take_all}
 use Rattle.camp_call.specs.declared.calls.Call.{Call}
-use Rattle.camp_kept.specs.Accepting.{AreAccepted, History, IsFrontOf, Stored, stored_of}
-use Rattle.camp_kept.specs.Keeping.{Holds, IsStoreOf, Tells, call_texts, disk_in, store_texts}
+use Rattle.camp_kept.specs.Accepting.{AreAccepted, History, IsPrefixOf, StoreContents, accepted_of}
+use Rattle.camp_kept.specs.Persisting.{DecodesToCalls, IsStoreOf, PersistsCalls, call_texts, disk_in, store_texts}
 use Rattle.camp_kept.specs.Titles.{title_of}
-use Rattle.camp_kept.specs.declared.kept.Kept.{Kept}
+use Rattle.camp_kept.specs.declared.repositories.DurableRepository.{DurableRepository}
 use Rattle.camp_kept.proofs.Listing.{accepted_more, legal_alone}
 use Rattle.camp_object.specs.Histories.{IsBeginning, IsLegal}
 use Rattle.camp_object.specs.Objects.{IsFirst, begun}
@@ -14,33 +14,33 @@ use Rattle.camp_repo.specs.Limits.{Bounds}
 use Rattle.camp_repo.specs.Objects.{repository}
 use Rattle.camp_script.specs.Canonical.{call_text}
 use Rattle.camp_script.specs.Keeping.{CanStand, calls_of}
-use Rattle.camp_store.specs.Blocks.{Stands}
+use Rattle.camp_store.specs.Blocks.{DecodesTo}
 use Rattle.camp_store.specs.Logs.{IsBeforeOrAfter}
-use Rattle.camp_store.proofs.BlockLemmas.{kept_stands}
+use Rattle.camp_store.proofs.BlockLemmas.{log_decodes}
 
 -- the calls after the first ones
 pub rest_is : (calls all : List Call) (front : IsBeginning calls all) → drop (length calls) all ≡ front.rest
 rest_is calls all front = ap (λ (l : List Call). drop (length calls) l) (sym front.makes) ∙ drop_at calls front.rest (length calls) refl
 
-pub texts_grow : (some all : Stored) (front : IsFrontOf some all) → store_texts some ++ call_texts front.calls.rest ≡ store_texts all
+pub texts_grow : (some all : StoreContents) (front : IsPrefixOf some all) → store_texts some ++ call_texts front.calls.rest ≡ store_texts all
 texts_grow some all front =
     ap (λ (l : List (List ℕ)). title_of some.limits ∷ l) (sym (map-append call_text some.calls front.calls.rest))
     ∙ ap (λ (l : List Call). title_of some.limits ∷ call_texts l) front.calls.makes
     ∙ ap (λ (limits : Bounds). title_of limits ∷ call_texts all.calls) front.limits
 
-some_texts : (stored : Stored) → store_texts stored ≡ [] → ⊥
+some_texts : (stored : StoreContents) → store_texts stored ≡ [] → ⊥
 some_texts stored none = absurd (omega (arith, ap (λ (l : List (List ℕ)). length l) none))
 
 -- a file with the texts of calls decodes to them
-pub stands_told : (new : Bounds) (stored : Stored) (file : List ℕ) → Stands (store_texts stored) file → Tells new stored file
-stands_told new stored file stands = record { texts = store_texts stored; are = inl refl; stands = stands; short = λ none. absurd (some_texts stored none) }
+pub store_decodes : (new : Bounds) (stored : StoreContents) (file : List ℕ) → DecodesTo (store_texts stored) file → DecodesToCalls new stored file
+store_decodes new stored file decodes = record { texts = store_texts stored; are = inl refl; decodes = decodes; short = λ none. absurd (some_texts stored none) }
 
 -- the files that a crash may leave of a store that grows
-pub is_either : (calls all : Stored) (new : List (List ℕ)) → AreAccepted calls → AreAccepted all → store_texts calls ++ new ≡ store_texts all
+pub is_either : (calls all : StoreContents) (new : List (List ℕ)) → AreAccepted calls → AreAccepted all → store_texts calls ++ new ≡ store_texts all
     → (c : List ℕ) → IsBeforeOrAfter (store_texts calls) new c → IsStoreOf calls c ⊎ IsStoreOf all c
-is_either calls all new one more grows c (inl before) = inl (record { stands = before; accepted = one })
+is_either calls all new one more grows c (inl before) = inl (record { decodes = before; accepted = one })
 is_either calls all new one more grows c (inr after) =
-    inr (record { stands = subst (λ (ts : List (List ℕ)). Stands ts c) grows after; accepted = more })
+    inr (record { decodes = subst (λ (ts : List (List ℕ)). DecodesTo ts c) grows after; accepted = more })
 
 -- one call more
 pub call_texts-push : (history : List (ℕ × Call)) (entry : ℕ × Call) → call_texts (calls_of (history ++ entry ∷ [])) ≡ call_texts (calls_of history) ++ call_text entry.1 ∷ []
@@ -57,23 +57,23 @@ slice_is history calls front k is =
     ∙ rest_is calls (calls_of history) front
 
 -- the texts of a commit, appended to those of the persisted calls, are those of all calls
-pub committed : (stored : Stored) (read : List (ℕ × Call)) (book : History) → read ≡ book.calls → IsFirst repository book.first → IsLegal (begun repository book.first) book.calls
-    → (k : ℕ) → k ≡ length stored.calls → AreAccepted stored → IsFrontOf stored (stored_of book)
+pub committed : (stored : StoreContents) (read : List (ℕ × Call)) (book : History) → read ≡ book.calls → IsFirst repository book.first → IsLegal (begun repository book.first) book.calls
+    → (k : ℕ) → k ≡ length stored.calls → AreAccepted stored → IsPrefixOf stored (accepted_of book)
     → (new : List (List ℕ)) → new ≡ call_texts (calls_of (take (length read - k) (drop k read))) → AllByRecursion CanStand (calls_of (take (length read - k) (drop k read)))
-    → AreAccepted (stored_of book) × (store_texts stored ++ new ≡ store_texts (stored_of book))
+    → AreAccepted (accepted_of book) × (store_texts stored ++ new ≡ store_texts (accepted_of book))
 committed stored read book value first legal k is accepted front new are stand =
     let slice : calls_of (take (length read - k) (drop k read)) ≡ front.calls.rest =
     ap (λ (h : List (ℕ × Call)). calls_of (take (length h - k) (drop k h))) value ∙ slice_is book.calls stored.calls front.calls k is in (
-      accepted_more stored (stored_of book) front accepted.range accepted.can (subst (AllByRecursion CanStand) slice stand) (legal_alone book first legal),
-      ap (λ (l : List (List ℕ)). store_texts stored ++ l) (are ∙ ap call_texts slice) ∙ texts_grow stored (stored_of book) front,
+      accepted_more stored (accepted_of book) front accepted.range accepted.can (subst (AllByRecursion CanStand) slice stand) (legal_alone book first legal),
+      ap (λ (l : List (List ℕ)). store_texts stored ++ l) (are ∙ ap call_texts slice) ∙ texts_grow stored (accepted_of book) front,
     )
 
--- whatever a crash leaves where calls are on the disk is a store of them
-pub holds_leave : {D : Type 0} (seen : D → List ℕ) (may_leave : D → List ℕ → Type 0) (calls : Stored) (kept : Kept D) → Holds seen may_leave calls kept
-    → (c : List ℕ) → may_leave (disk_in kept) c → IsStoreOf calls c
-holds_leave seen may_leave calls kept holds c now = record {
-  stands = kept_stands seen may_leave (store_texts calls) (disk_in kept) kept.log.length kept.log.digest holds.keeps c now;
-  accepted = holds.accepted;
+-- whatever a crash leaves of persisted calls is a store of them
+pub crash_leaves_store : {D : Type 0} (seen : D → List ℕ) (may_leave : D → List ℕ → Type 0) (calls : StoreContents) (repository : DurableRepository D) → PersistsCalls seen may_leave calls repository
+    → (c : List ℕ) → may_leave (disk_in repository) c → IsStoreOf calls c
+crash_leaves_store seen may_leave calls repository persists c now = record {
+  decodes = log_decodes seen may_leave (store_texts calls) (disk_in repository) repository.log.length repository.log.digest persists.texts c now;
+  accepted = persists.accepted;
 }
 
 pub counted : (history : List (ℕ × Call)) → length history ≡ length (calls_of history)

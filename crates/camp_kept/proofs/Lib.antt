@@ -2,8 +2,8 @@ pub mod Committing
 mod Listing
 mod Numbering
 mod Opening
-pub mod Parts
-mod Recalling
+pub mod Prefixes
+mod ReplayLemmas
 mod Refusing
 mod Reopening
 mod TitleLemmas

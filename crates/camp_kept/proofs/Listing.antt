@@ -5,7 +5,7 @@ use Rattle.std.specs.Option.{option_and_then}
 use Rattle.camp_call.specs.declared.calls.Call.{Call}
 use Rattle.camp_call.specs.declared.calls.Call.TheVariants as call
 use Rattle.camp_call.specs.declared.replies.Reply.{Reply}
-use Rattle.camp_kept.specs.Accepting.{AreAccepted, History, IsFrontOf, Stored, alone}
+use Rattle.camp_kept.specs.Accepting.{AreAccepted, History, IsPrefixOf, StoreContents, alone}
 use Rattle.camp_kept.specs.Titles.{CanBeLimits}
 use Rattle.camp_object.specs.Histories.{IsLegal, run}
 use Rattle.camp_object.specs.Objects.{IsFirst, Sequential, begun}
@@ -63,7 +63,7 @@ legal_alone history first legal =
     subst (λ (o : Option Contents). IsSome o) (run_alone limits (Some (new_within limits)) history.calls) here
 
 -- accepted calls that a script can contain, and more
-pub accepted_more : (some all : Stored) (front : IsFrontOf some all) → CanBeLimits some.limits → AllByRecursion IsScriptCall some.calls → AllByRecursion CanStand front.calls.rest
+pub accepted_more : (some all : StoreContents) (front : IsPrefixOf some all) → CanBeLimits some.limits → AllByRecursion IsScriptCall some.calls → AllByRecursion CanStand front.calls.rest
     → IsLegal (repository_within all.limits) (alone all.calls) → AreAccepted all
 accepted_more some all front range can stand legal = record {
   range = subst CanBeLimits front.limits range;

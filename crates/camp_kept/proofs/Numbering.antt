@@ -1,19 +1,19 @@
--- Where a file is damaged, by how long the blocks before that place are.
+-- The offset at which a file is damaged: the length of the blocks before it.
 use Rattle.std.proofs.Common.{◌≡◌, ◌⊎◌, inl, inr, ◌+◌, ◌≤◌, ◌<◌, ◌^◌, min, nat_lt, ℕ, Bool, true, false, List, [], ◌∷◌, ◌++◌, length, map, refl, sym, ◌∙◌, ap, subst, arith, append_assoc, length-append}
 use Rattle.std.proofs.lemmas.List.{length-map}
 use Rattle.std.proofs.lemmas.Bool.{ltb-false, ltb-true}
 use Rattle.camp_call.specs.declared.calls.Call.{Call}
 use Rattle.camp_kept.specs.Accepting.{History, alone}
 use Rattle.camp_kept.specs.Titles.{CanBeLimits, title_of}
-use Rattle.camp_kept.specs.Faults.{IsDamagedAt, IsNumber, IsOfNoCall}
-use Rattle.camp_kept.specs.Keeping.{call_texts, store_texts}
-use Rattle.camp_kept.specs.Replaying.{AreAsked, AsksAgain}
+use Rattle.camp_kept.specs.Faults.{IsBlockOfNoCall, IsDamagedAt, ReportsNumber}
+use Rattle.camp_kept.specs.Persisting.{call_texts, store_texts}
+use Rattle.camp_kept.specs.Replaying.{AreReplayed, ReplaysText}
 use Rattle.camp_object.specs.Histories.{IsLegal}
 use Rattle.camp_object.specs.Objects.{begun}
 use Rattle.camp_repo.specs.Limits.{Bounds}
 use Rattle.camp_repo.specs.Objects.{repository}
 use Rattle.camp_script.specs.Canonical.{call_text}
-use Rattle.camp_store.specs.Blocks.{AreBlocks, IsBlock, IsEnd, Stands, body, chain, digest_behind, first_digest}
+use Rattle.camp_store.specs.Blocks.{AreBlocks, DecodesTo, IsBlock, IsEnd, body, chain, digest_after, first_digest}
 use Rattle.camp_store.proofs.BlockLemmas.{are-append, block_more, one_block}
 use Rattle.camp_store.proofs.HeadLemmas.{long_body}
 
@@ -29,61 +29,61 @@ size-push (t ∷ texts) text = omega (arith, size-push texts text)
 are_long : (before : List ℕ) (texts : List (List ℕ)) (bytes : List ℕ) → AreBlocks before texts bytes → length bytes ≡ size texts
 are_long before [] bytes are = ap (λ (l : List ℕ). length l) are
 are_long before (text ∷ texts) bytes (rest, block, more) =
-    omega (arith, ap (λ (l : List ℕ). length l) block.split, long_body before text rest, are_long (digest_behind before text) texts rest more)
+    omega (arith, ap (λ (l : List ℕ). length l) block.split, long_body before text rest, are_long (digest_after before text) texts rest more)
 
--- a sum that stops at the greatest number
-pub stops : (at step total sum : ℕ) → sum ≡ min (at + step) 18446744073709551615 → IsNumber at total → IsNumber sum (total + step)
+-- a saturating sum
+pub stops : (at step total sum : ℕ) → sum ≡ min (at + step) 18446744073709551615 → ReportsNumber at total → ReportsNumber sum (total + step)
 stops at step total sum is (inr large) = inr (omega (arith, large))
 stops at step total sum is (inl same) = by (nat_lt (at + step) 18446744073709551616) refl
   where
-    by : (b : Bool) → nat_lt (at + step) 18446744073709551616 ≡ b → IsNumber sum (total + step)
+    by : (b : Bool) → nat_lt (at + step) 18446744073709551616 ≡ b → ReportsNumber sum (total + step)
     by true fits = inl (omega (arith, is, same, ltb-true (at + step) 18446744073709551616 fits))
     by false large = inr (omega (arith, same, ltb-false (at + step) 18446744073709551616 large))
 
 -- the blocks of texts, and of others after them
-pub record AreParted (before : List ℕ) (texts others : List (List ℕ)) (bytes : List ℕ) : Type 0 where
+pub record SplitBlocks (before : List ℕ) (texts others : List (List ℕ)) (bytes : List ℕ) : Type 0 where
   pub front : List ℕ
   pub rest : List ℕ
   pub split : bytes ≡ front ++ rest
   pub are : AreBlocks before texts front
   pub more : AreBlocks (chain before texts) others rest
 
-part : (before : List ℕ) (texts others : List (List ℕ)) (bytes : List ℕ) → AreBlocks before (texts ++ others) bytes → AreParted before texts others bytes
-part before [] others bytes are = record { front = []; rest = bytes; split = refl; are = refl; more = are }
-part before (text ∷ texts) others bytes (behind, block, more) =
-    let parted = part (digest_behind before text) texts others behind more in
-    let one = one_block before text behind bytes block in
+split_blocks : (before : List ℕ) (texts others : List (List ℕ)) (bytes : List ℕ) → AreBlocks before (texts ++ others) bytes → SplitBlocks before texts others bytes
+split_blocks before [] others bytes are = record { front = []; rest = bytes; split = refl; are = refl; more = are }
+split_blocks before (text ∷ texts) others bytes (after, block, more) =
+    let split_at = split_blocks (digest_after before text) texts others after more in
+    let one = one_block before text after bytes block in
     record {
-      front = one.0 ++ parted.front;
-      rest = parted.rest;
-      split = one.1 ∙ ap (λ (l : List ℕ). one.0 ++ l) parted.split ∙ sym (append_assoc one.0 parted.front parted.rest);
-      are = are-append before (text ∷ []) texts one.0 parted.front one.2 parted.are;
-      more = parted.more;
+      front = one.0 ++ split_at.front;
+      rest = split_at.rest;
+      split = one.1 ∙ ap (λ (l : List ℕ). one.0 ++ l) split_at.split ∙ sym (append_assoc one.0 split_at.front split_at.rest);
+      are = are-append before (text ∷ []) texts one.0 split_at.front one.2 split_at.are;
+      more = split_at.more;
     }
 
 -- how many calls were executed
-pub asked_count : (limits : Bounds) (texts : List (List ℕ)) (history : History) → AreAsked limits texts history → length history.calls ≡ length texts
-asked_count limits texts history asked =
+pub replayed_count : (limits : Bounds) (texts : List (List ℕ)) (history : History) → AreReplayed limits texts history → length history.calls ≡ length texts
+replayed_count limits texts history asked =
     ap (λ (h : History). length h.calls) asked.is
     ∙ length-map asked.calls (λ (call : Call). (0, call))
     ∙ sym (ap (λ (l : List (List ℕ)). length l) asked.texts_are ∙ length-map asked.calls call_text)
 
 -- a file of a title and of texts, one of which is of no call that is accepted there
-pub damaged_there : (limits : Bounds) (done : List (List ℕ)) (text : List ℕ) (rest : List (List ℕ)) (history after : History) → CanBeLimits limits → AreAsked limits done history
-    → IsLegal (begun repository history.first) history.calls → AsksAgain history text false after
-    → (call at : ℕ) → IsNumber call (length done + 1) → IsNumber at (27 + length (title_of limits) + size done) → (file : List ℕ) → Stands (title_of limits ∷ (done ++ text ∷ rest)) file → IsDamagedAt call at file
-damaged_there limits done text rest history after range asked legal none call at call_is at_is file stands =
-    let parted = part first_digest (title_of limits ∷ done) (text ∷ rest) stands.front stands.are in
-    let long = are_long first_digest (title_of limits ∷ done) parted.front parted.are in
+pub damaged_there : (limits : Bounds) (done : List (List ℕ)) (text : List ℕ) (rest : List (List ℕ)) (history after : History) → CanBeLimits limits → AreReplayed limits done history
+    → IsLegal (begun repository history.first) history.calls → ReplaysText history text false after
+    → (call at : ℕ) → ReportsNumber call (length done + 1) → ReportsNumber at (27 + length (title_of limits) + size done) → (file : List ℕ) → DecodesTo (title_of limits ∷ (done ++ text ∷ rest)) file → IsDamagedAt call at file
+damaged_there limits done text rest history after range asked legal none call at call_is at_is file decodes =
+    let split_at = split_blocks first_digest (title_of limits ∷ done) (text ∷ rest) decodes.front decodes.are in
+    let long = are_long first_digest (title_of limits ∷ done) split_at.front split_at.are in
     record {
       texts = title_of limits ∷ done;
       some = omega arith;
-      front = parted.front;
-      rest = parted.rest ++ stands.end;
-      split = stands.split ∙ ap (λ (l : List ℕ). l ++ stands.end) parted.split ∙ append_assoc parted.front parted.rest stands.end;
-      are = parted.are;
-      call_is = subst (λ (n : ℕ). IsNumber call n) (omega arith) call_is;
-      at_is = subst (λ (n : ℕ). IsNumber at n) (omega (arith, long)) at_is;
+      front = split_at.front;
+      rest = split_at.rest ++ decodes.end;
+      split = decodes.split ∙ ap (λ (l : List ℕ). l ++ decodes.end) split_at.split ∙ append_assoc split_at.front split_at.rest decodes.end;
+      are = split_at.are;
+      call_is = subst (λ (n : ℕ). ReportsNumber call n) (omega arith) call_is;
+      at_is = subst (λ (n : ℕ). ReportsNumber at n) (omega (arith, long)) at_is;
       wrong = inr (record {
         before = record { limits = limits; calls = asked.calls };
         accepted = record {
@@ -93,8 +93,8 @@ damaged_there limits done text rest history after range asked legal none call at
         };
         are = ap (λ (l : List (List ℕ)). title_of limits ∷ l) asked.texts_are;
         text = text;
-        behind = parted.more.0 ++ stands.end;
-        block = block_more (chain first_digest (title_of limits ∷ done)) text parted.more.0 stands.end parted.rest parted.more.1;
-        none = subst (λ (h : History). AsksAgain h text false after) asked.is none;
+        after = split_at.more.0 ++ decodes.end;
+        block = block_more (chain first_digest (title_of limits ∷ done)) text split_at.more.0 decodes.end split_at.rest split_at.more.1;
+        none = subst (λ (h : History). ReplaysText h text false after) asked.is none;
       });
     }

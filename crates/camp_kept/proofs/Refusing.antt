@@ -2,55 +2,55 @@
 use Rattle.std.proofs.Common.{◌≡◌, ◌≢◌, ◌≤◌, ◌+◌, inl, inr, ℕ, zero, suc, Bool, false, List, [], ◌∷◌, ◌++◌, length, Result, Ok, Err, IfErr, IsErrAnd, IsTrue, Option, None, refl, sym, ◌∙◌, ap, subst, arith, length-append, true≢false, ◌<◌}
 use Rattle.std.proofs.lemmas.List.{nil_from_length}
 use Rattle.camp_call.specs.declared.calls.Call.{Call}
-use Rattle.camp_kept.specs.Faults.{IsOfContents, IsRefusal, IsUnopened, IsUntitled, ReportsDisk, fault_of}
-use Rattle.camp_kept.specs.Accepting.{AreAccepted, History, Stored, alone, none_within}
-use Rattle.camp_kept.specs.Keeping.{LeavesKept, Tells, call_texts, most_unbegun, store_texts}
+use Rattle.camp_kept.specs.Faults.{IsContentFault, IsTitleFault, RefusesFile, RefusesToOpen, ReportsDiskFault, fault_of}
+use Rattle.camp_kept.specs.Accepting.{AreAccepted, History, StoreContents, alone, empty_within}
+use Rattle.camp_kept.specs.Persisting.{DecodesToCalls, LeavesRepository, call_texts, max_untitled_len, store_texts}
 use Rattle.camp_kept.specs.Titles.{CanBeLimits, SaysLimits, title_of}
-use Rattle.camp_kept.specs.Replaying.{AreAsked, AsksAgain}
-use Rattle.camp_kept.specs.declared.faults.KeptFault.{KeptFault}
-use Rattle.camp_kept.specs.declared.faults.KeptFault.TheVariants as kept
-use Rattle.camp_kept.specs.declared.kept.Kept.{Kept}
-use Rattle.camp_kept.proofs.Recalling.{accepted_behind, no_texts, told_texts}
+use Rattle.camp_kept.specs.Replaying.{AreReplayed, ReplaysText}
+use Rattle.camp_kept.specs.declared.faults.PersistenceFault.{PersistenceFault}
+use Rattle.camp_kept.specs.declared.faults.PersistenceFault.TheVariants as persistence
+use Rattle.camp_kept.specs.declared.repositories.DurableRepository.{DurableRepository}
+use Rattle.camp_kept.proofs.ReplayLemmas.{accepted_call_after, decoded_texts, no_texts}
 use Rattle.camp_kept.proofs.TitleLemmas.{one_title, title_short}
 use Rattle.camp_object.specs.Histories.{IsAccepted}
 use Rattle.camp_repo.specs.Limits.{Bounds}
 use Rattle.camp_repo.specs.Objects.{repository_within}
-use Rattle.camp_store.specs.Blocks.{AllFit, AreBlocks, IsBlock, Stands, blocks, body, chain, first_digest, head, IsEnd}
+use Rattle.camp_store.specs.Blocks.{AllFit, AreBlocks, DecodesTo, IsBlock, IsEnd, blocks, body, chain, first_digest, head}
 use Rattle.camp_store.specs.Counting.{ReportsFault}
-use Rattle.camp_store.specs.Logs.{IsOfClosing, IsOfPutting, IsOpen, KeepsTexts, LeavesAfter, end_with}
-use Rattle.camp_store.specs.Readings.{IsDamage, IsDamaged, IsOfBytes, IsOfReading, IsReading}
+use Rattle.camp_store.specs.Logs.{IsAppendFault, IsAppendable, IsMarkFault, LeavesLog, PersistsTexts, end_offset}
+use Rattle.camp_store.specs.Readings.{IsDamaged, IsDecodeFault, IsDecodedFrom, IsReadingFault, ReportsDamage}
 use Rattle.camp_store.specs.declared.logs.Log.{Log}
 use Rattle.camp_store.specs.declared.readings.Reading.{Reading}
 use Rattle.camp_store.specs.declared.faults.StoreFault.{StoreFault}
 use Rattle.camp_store.specs.declared.faults.StoreFault.TheVariants as store
-use Rattle.camp_store.proofs.BlockLemmas.{block_is_no_end, block_more, block_once, damage_is_no_store, stands_once}
+use Rattle.camp_store.proofs.BlockLemmas.{block_is_no_end, block_more, block_once, damaged_does_not_decode, decodes_once}
 use Rattle.camp_store.proofs.HeadLemmas.{length-head}
 
 -- a file that is damaged at its start begins with no block
-no_first_block : (at : ℕ) (file : List ℕ) → IsDamaged zero at file → (text behind : List ℕ) → IsBlock first_digest text behind file → ⊥
-no_first_block at file damage text behind block =
+no_first_block : (at : ℕ) (file : List ℕ) → IsDamaged zero at file → (text after : List ℕ) → IsBlock first_digest text after file → ⊥
+no_first_block at file damage text after block =
     let none : damage.texts ≡ [] = nil_from_length damage.texts (sym damage.count_is) in
     let front : damage.front ≡ [] = subst (λ (ts : List (List ℕ)). AreBlocks first_digest ts damage.front) none damage.are in
     let here : file ≡ damage.rest = damage.split ∙ ap (λ (l : List ℕ). l ++ damage.rest) front in
-    damage.no_block text behind
-    (subst (λ (ts : List (List ℕ)). IsBlock (chain first_digest ts) text behind damage.rest) (sym none)
-    (subst (λ (f : List ℕ). IsBlock first_digest text behind f) here block))
+    damage.no_block text after
+    (subst (λ (ts : List (List ℕ)). IsBlock (chain first_digest ts) text after damage.rest) (sym none)
+    (subst (λ (f : List ℕ). IsBlock first_digest text after f) here block))
 
 -- a file of texts begins with the block of the first
-pub begins_with : (text : List ℕ) (texts : List (List ℕ)) (file : List ℕ) → Stands (text ∷ texts) file → (behind : List ℕ) × IsBlock first_digest text behind file
-begins_with text texts file stands = (
-  stands.are.0 ++ stands.end,
-  subst (λ (f : List ℕ). IsBlock first_digest text (stands.are.0 ++ stands.end) f) (sym stands.split) (block_more first_digest text stands.are.0 stands.end stands.front stands.are.1),
+pub begins_with : (text : List ℕ) (texts : List (List ℕ)) (file : List ℕ) → DecodesTo (text ∷ texts) file → (after : List ℕ) × IsBlock first_digest text after file
+begins_with text texts file decodes = (
+  decodes.are.0 ++ decodes.end,
+  subst (λ (f : List ℕ). IsBlock first_digest text (decodes.are.0 ++ decodes.end) f) (sym decodes.split) (block_more first_digest text decodes.are.0 decodes.end decodes.front decodes.are.1),
 )
 
 -- a damaged file is refused
-pub damage_is_refused : (wanted : Option Bounds) (why : StoreFault) (file : List ℕ) → IsOfBytes why → IsDamage why file → IsRefusal wanted (fault_of why) file
+pub damage_is_refused : (wanted : Option Bounds) (why : StoreFault) (file : List ℕ) → IsDecodeFault why → ReportsDamage why file → RefusesFile wanted (fault_of why) file
 damage_is_refused wanted store.Memory file of damage = tt
 damage_is_refused wanted (store.Disk error) file of damage = absurd of
 damage_is_refused wanted store.TooLong file of damage = absurd of
 damage_is_refused wanted (store.Damaged zero at) file of damage = record {
-  untitled = λ limits range behind block. no_first_block at file damage (title_of limits) behind block;
-  long = λ none. absurd (damage_is_no_store zero at file damage [] none);
+  untitled = λ limits range after block. no_first_block at file damage (title_of limits) after block;
+  long = λ none. absurd (damaged_does_not_decode zero at file damage [] none);
 }
 damage_is_refused wanted (store.Damaged (suc n) at) file of damage = (
   record {
@@ -64,20 +64,20 @@ damage_is_refused wanted (store.Damaged (suc n) at) file of damage = (
     at_is = inl damage.at_is;
     wrong = inl (record { no_end = damage.no_end; no_block = damage.no_block });
   },
-  λ new stored accepted told. damage_is_no_store (suc n) at file damage told.texts told.stands,
+  λ new stored accepted decoded. damaged_does_not_decode (suc n) at file damage decoded.texts decoded.decodes,
 )
 damage_is_refused wanted store.Failed file of damage = absurd of
 
 -- a disk whose bytes are refused is not opened
-pub refusal_unopened : (usable : Bool) (wanted : Option Bounds) (why : KeptFault) (file : List ℕ) → IsRefusal wanted why file → IsUnopened usable wanted why file
-refusal_unopened usable wanted kept.Memory file refusal = refusal
-refusal_unopened usable wanted kept.NoStore file refusal = refusal
-refusal_unopened usable wanted (kept.Damaged call at) file refusal = refusal
-refusal_unopened usable wanted (kept.OtherLimits catches branches) file refusal = refusal
-refusal_unopened usable wanted (kept.Store fault) file refusal = absurd refusal
+pub refusal_unopened : (usable : Bool) (wanted : Option Bounds) (why : PersistenceFault) (file : List ℕ) → RefusesFile wanted why file → RefusesToOpen usable wanted why file
+refusal_unopened usable wanted persistence.Memory file refusal = refusal
+refusal_unopened usable wanted persistence.NoStore file refusal = refusal
+refusal_unopened usable wanted (persistence.Damaged call at) file refusal = refusal
+refusal_unopened usable wanted (persistence.OtherLimits catches branches) file refusal = refusal
+refusal_unopened usable wanted (persistence.Store fault) file refusal = absurd refusal
 
 -- a disk that could not be read is not opened
-unread_unopened : (usable : Bool) (wanted : Option Bounds) (why : StoreFault) (file : List ℕ) → IsOfReading usable why → IsDamage why file → IsUnopened usable wanted (fault_of why) file
+unread_unopened : (usable : Bool) (wanted : Option Bounds) (why : StoreFault) (file : List ℕ) → IsReadingFault usable why → ReportsDamage why file → RefusesToOpen usable wanted (fault_of why) file
 unread_unopened usable wanted store.Memory file of damage = tt
 unread_unopened usable wanted (store.Disk error) file of damage = tt
 unread_unopened usable wanted store.TooLong file of damage = absurd of
@@ -86,7 +86,7 @@ unread_unopened usable wanted (store.Damaged (suc n) at) file of damage = damage
 unread_unopened usable wanted store.Failed file of damage = of
 
 -- nor one after whose texts no mark could be closed
-pub unclosed_unopened : (usable now : Bool) (wanted : Option Bounds) (why : StoreFault) (file : List ℕ) → IsTrue now → IsOfClosing now why → IsUnopened usable wanted (kept.Store why) file
+pub unclosed_unopened : (usable now : Bool) (wanted : Option Bounds) (why : StoreFault) (file : List ℕ) → IsTrue now → IsMarkFault now why → RefusesToOpen usable wanted (persistence.Store why) file
 unclosed_unopened usable now wanted store.Memory file may of = absurd of
 unclosed_unopened usable now wanted (store.Disk error) file may of = tt
 unclosed_unopened usable now wanted store.TooLong file may of = absurd of
@@ -94,88 +94,88 @@ unclosed_unopened usable now wanted (store.Damaged count at) file may of = absur
 unclosed_unopened usable now wanted store.Failed file may of = absurd (true≢false (sym may ∙ of))
 
 -- nor one to which no title could be appended
-pub untitled_unopened : (usable : Bool) (wanted : Option Bounds) (why : KeptFault) (file : List ℕ) → IsUntitled why → IsUnopened usable wanted why file
-untitled_unopened usable wanted kept.Memory file untitled = tt
-untitled_unopened usable wanted kept.NoStore file untitled = absurd untitled
-untitled_unopened usable wanted (kept.Damaged call at) file untitled = absurd untitled
-untitled_unopened usable wanted (kept.OtherLimits catches branches) file untitled = absurd untitled
-untitled_unopened usable wanted (kept.Store (store.Disk error)) file untitled = tt
-untitled_unopened usable wanted (kept.Store store.Failed) file untitled = absurd untitled
-untitled_unopened usable wanted (kept.Store store.Memory) file untitled = absurd untitled
-untitled_unopened usable wanted (kept.Store store.TooLong) file untitled = absurd untitled
-untitled_unopened usable wanted (kept.Store (store.Damaged count at)) file untitled = absurd untitled
+pub untitled_unopened : (usable : Bool) (wanted : Option Bounds) (why : PersistenceFault) (file : List ℕ) → IsTitleFault why → RefusesToOpen usable wanted why file
+untitled_unopened usable wanted persistence.Memory file untitled = tt
+untitled_unopened usable wanted persistence.NoStore file untitled = absurd untitled
+untitled_unopened usable wanted (persistence.Damaged call at) file untitled = absurd untitled
+untitled_unopened usable wanted (persistence.OtherLimits catches branches) file untitled = absurd untitled
+untitled_unopened usable wanted (persistence.Store (store.Disk error)) file untitled = tt
+untitled_unopened usable wanted (persistence.Store store.Failed) file untitled = absurd untitled
+untitled_unopened usable wanted (persistence.Store store.Memory) file untitled = absurd untitled
+untitled_unopened usable wanted (persistence.Store store.TooLong) file untitled = absurd untitled
+untitled_unopened usable wanted (persistence.Store (store.Damaged count at)) file untitled = absurd untitled
 
 -- a title has a length, and fits in a file without texts
-title_fits : (limits : Bounds) → CanBeLimits limits → AllFit (store_texts (none_within limits))
+title_fits : (limits : Bounds) → CanBeLimits limits → AllFit (store_texts (empty_within limits))
 title_fits limits range = (omega (arith, title_short limits range), tt)
 
-short_title : (limits : Bounds) → CanBeLimits limits → (digest : List ℕ) → length (blocks digest (store_texts (none_within limits))) + 1 ≤ most_unbegun
+short_title : (limits : Bounds) → CanBeLimits limits → (digest : List ℕ) → length (blocks digest (store_texts (empty_within limits))) + 1 ≤ max_untitled_len
 short_title limits range digest =
     let title = title_of limits in
     omega (arith, title_short limits range, length-append (body digest title) [], length-append (head digest title) title, length-head digest title)
 
-pub title_ends : {D : Type 0} (seen : D → List ℕ) (may_leave : D → List ℕ → Type 0) (limits : Bounds) → CanBeLimits limits → (log : Log D) → KeepsTexts seen may_leave [] log
-    → end_with log (store_texts (none_within limits)) ≤ most_unbegun
-title_ends seen may_leave limits range log keeps = omega (arith, short_title limits range log.digest, keeps.length_is, ap (λ (l : List ℕ). length l) keeps.are)
+pub title_ends : {D : Type 0} (seen : D → List ℕ) (may_leave : D → List ℕ → Type 0) (limits : Bounds) → CanBeLimits limits → (log : Log D) → PersistsTexts seen may_leave [] log
+    → end_offset log (store_texts (empty_within limits)) ≤ max_untitled_len
+title_ends seen may_leave limits range log persists = omega (arith, short_title limits range log.digest, persists.length_is, ap (λ (l : List ℕ). length l) persists.are)
 
 -- why a title is not appended to a log that has not failed
-pub title_is_unput : {D : Type 0} (seen : D → List ℕ) (may_leave : D → List ℕ → Type 0) (is_usable : D → Bool) (limits : Bounds) → CanBeLimits limits → (log : Log D) (why : StoreFault)
-    → KeepsTexts seen may_leave [] log → IsOpen is_usable log → IsOfPutting is_usable log (store_texts (none_within limits)) why → IsUntitled (fault_of why)
-title_is_unput seen may_leave is_usable limits range log store.Memory keeps open_ of = tt
-title_is_unput seen may_leave is_usable limits range log (store.Disk error) keeps open_ of = tt
-title_is_unput seen may_leave is_usable limits range log store.TooLong keeps open_ (inl unfit) = absurd (unfit (title_fits limits range))
-title_is_unput seen may_leave is_usable limits range log store.TooLong keeps open_ (inr long) =
-    absurd (omega (arith, long, title_ends seen may_leave limits range log keeps))
-title_is_unput seen may_leave is_usable limits range log (store.Damaged zero at) keeps open_ of = absurd of
-title_is_unput seen may_leave is_usable limits range log (store.Damaged (suc n) at) keeps open_ of = absurd of
-title_is_unput seen may_leave is_usable limits range log store.Failed keeps open_ of = absurd (of open_)
+pub title_is_not_appended : {D : Type 0} (seen : D → List ℕ) (may_leave : D → List ℕ → Type 0) (is_usable : D → Bool) (limits : Bounds) → CanBeLimits limits → (log : Log D) (why : StoreFault)
+    → PersistsTexts seen may_leave [] log → IsAppendable is_usable log → IsAppendFault is_usable log (store_texts (empty_within limits)) why → IsTitleFault (fault_of why)
+title_is_not_appended seen may_leave is_usable limits range log store.Memory persists open_ of = tt
+title_is_not_appended seen may_leave is_usable limits range log (store.Disk error) persists open_ of = tt
+title_is_not_appended seen may_leave is_usable limits range log store.TooLong persists open_ (inl unfit) = absurd (unfit (title_fits limits range))
+title_is_not_appended seen may_leave is_usable limits range log store.TooLong persists open_ (inr long) =
+    absurd (omega (arith, long, title_ends seen may_leave limits range log persists))
+title_is_not_appended seen may_leave is_usable limits range log (store.Damaged zero at) persists open_ of = absurd of
+title_is_not_appended seen may_leave is_usable limits range log (store.Damaged (suc n) at) persists open_ of = absurd of
+title_is_not_appended seen may_leave is_usable limits range log store.Failed persists open_ of = absurd (of open_)
 
 -- a file of texts, the first of which is no title
-pub another_title : (wanted : Option Bounds) (text : List ℕ) (texts : List (List ℕ)) → SaysLimits text None → (file : List ℕ) → Stands (text ∷ texts) file → IsRefusal wanted kept.NoStore file
-another_title wanted text texts none file stands =
-    let first = begins_with text texts file stands in
+pub another_title : (wanted : Option Bounds) (text : List ℕ) (texts : List (List ℕ)) → SaysLimits text None → (file : List ℕ) → DecodesTo (text ∷ texts) file → RefusesFile wanted persistence.NoStore file
+another_title wanted text texts none file decodes =
+    let first = begins_with text texts file decodes in
     record {
-      untitled = λ limits range behind block. none limits range ((block_once first_digest (title_of limits) text behind first.0 file block first.1).0);
-      long = λ empty. absurd (no_texts text texts (stands_once (text ∷ texts) [] file stands empty));
+      untitled = λ limits range after block. none limits range ((block_once first_digest (title_of limits) text after first.0 file block first.1).0);
+      long = λ empty. absurd (no_texts text texts (decodes_once (text ∷ texts) [] file decodes empty));
     }
 
 -- a long file without texts
-pub no_text : (wanted : Option Bounds) (file : List ℕ) → Stands [] file → most_unbegun < length file → IsRefusal wanted kept.NoStore file
-no_text wanted file stands long = record {
-  untitled = λ limits range behind block. block_is_no_end first_digest (title_of limits) behind file block
-      (subst (λ (f : List ℕ). IsEnd f) (sym (stands.split ∙ ap (λ (l : List ℕ). l ++ stands.end) stands.are)) stands.ends);
+pub no_text : (wanted : Option Bounds) (file : List ℕ) → DecodesTo [] file → max_untitled_len < length file → RefusesFile wanted persistence.NoStore file
+no_text wanted file decodes long = record {
+  untitled = λ limits range after block. block_is_no_end first_digest (title_of limits) after file block
+      (subst (λ (f : List ℕ). IsEnd f) (sym (decodes.split ∙ ap (λ (l : List ℕ). l ++ decodes.end) decodes.are)) decodes.ends);
   long = λ none. long;
 }
 
 -- a file of texts, one of which is of no call that is accepted there
-pub not_accepted : (limits : Bounds) (done : List (List ℕ)) (text : List ℕ) (rest : List (List ℕ)) (history after : History) → CanBeLimits limits → AreAsked limits done history
-    → AsksAgain history text false after → (file : List ℕ) → Stands (title_of limits ∷ (done ++ text ∷ rest)) file → (new : Bounds) (stored : Stored) → AreAccepted stored → Tells new stored file → ⊥
-not_accepted limits done text rest history after range asked none file stands new stored accepted told =
-    let texts = told_texts new (title_of limits) (done ++ text ∷ rest) stored file stands told in
+pub not_accepted : (limits : Bounds) (done : List (List ℕ)) (text : List ℕ) (rest : List (List ℕ)) (history after : History) → CanBeLimits limits → AreReplayed limits done history
+    → ReplaysText history text false after → (file : List ℕ) → DecodesTo (title_of limits ∷ (done ++ text ∷ rest)) file → (new : Bounds) (stored : StoreContents) → AreAccepted stored → DecodesToCalls new stored file → ⊥
+not_accepted limits done text rest history after range asked none file decodes new stored accepted decoded =
+    let texts = decoded_texts new (title_of limits) (done ++ text ∷ rest) stored file decodes decoded in
     let same : stored.limits ≡ limits = one_title stored.limits limits accepted.range range texts.0 in
     let e : call_texts stored.calls ≡ call_texts asked.calls ++ text ∷ rest =
     texts.1 ∙ ap (λ (l : List (List ℕ)). l ++ text ∷ rest) asked.texts_are in
-    let next = accepted_behind asked.calls stored text rest asked.can accepted e in
-    subst (λ (h : History). AsksAgain h text false after) asked.is none next.0 next.1 next.2
+    let next = accepted_call_after asked.calls stored text rest asked.can accepted e in
+    subst (λ (h : History). ReplaysText h text false after) asked.is none next.0 next.1 next.2
     (subst (λ (l : Bounds). IsAccepted (repository_within l) (alone asked.calls) next.0) same next.3)
 
 -- what a batch that is not appended leaves of a repository
-leaves_kept : {D : Type 0} (why : StoreFault) (old : Kept D) (new : Log D) → LeavesAfter why old.log new → LeavesKept (fault_of why) old (record old { log = new })
-leaves_kept store.Memory old new leaves = ap (λ l. record old { log = l }) leaves
-leaves_kept (store.Disk error) old new leaves = leaves
-leaves_kept store.TooLong old new leaves = ap (λ l. record old { log = l }) leaves
-leaves_kept (store.Damaged zero at) old new leaves = absurd leaves
-leaves_kept (store.Damaged (suc n) at) old new leaves = absurd leaves
-leaves_kept store.Failed old new leaves = ap (λ l. record old { log = l }) leaves
+leaves_repository : {D : Type 0} (why : StoreFault) (old : DurableRepository D) (new : Log D) → LeavesLog why old.log new → LeavesRepository (fault_of why) old (record old { log = new })
+leaves_repository store.Memory old new leaves = ap (λ l. record old { log = l }) leaves
+leaves_repository (store.Disk error) old new leaves = leaves
+leaves_repository store.TooLong old new leaves = ap (λ l. record old { log = l }) leaves
+leaves_repository (store.Damaged zero at) old new leaves = absurd leaves
+leaves_repository (store.Damaged (suc n) at) old new leaves = absurd leaves
+leaves_repository store.Failed old new leaves = ap (λ l. record old { log = l }) leaves
 
-pub leaves_so : {T D : Type 0} (result : Result T KeptFault) (why : StoreFault) (old : Kept D) (new : Log D) → IsErrAnd result (λ fault. fault ≡ fault_of why)
-    → LeavesAfter why old.log new → IfErr result (λ fault. LeavesKept fault old (record old { log = new }))
+pub leaves_so : {T D : Type 0} (result : Result T PersistenceFault) (why : StoreFault) (old : DurableRepository D) (new : Log D) → IsErrAnd result (λ fault. fault ≡ fault_of why)
+    → LeavesLog why old.log new → IfErr result (λ fault. LeavesRepository fault old (record old { log = new }))
 leaves_so (Ok value) why old new is leaves = tt
 leaves_so (Err fault) why old new is leaves =
-    subst (λ (f : KeptFault). LeavesKept f old (record old { log = new })) (sym is) (leaves_kept why old new leaves)
+    subst (λ (f : PersistenceFault). LeavesRepository f old (record old { log = new })) (sym is) (leaves_repository why old new leaves)
 
 -- a fault of the disk that a log reports is one of the disk
-reports_from : (why : StoreFault) (old new : ℕ) → ReportsFault why old new → ReportsDisk (fault_of why) old new
+reports_from : (why : StoreFault) (old new : ℕ) → ReportsFault why old new → ReportsDiskFault (fault_of why) old new
 reports_from store.Memory old new reports = tt
 reports_from (store.Disk error) old new reports = reports
 reports_from store.TooLong old new reports = reports
@@ -183,42 +183,42 @@ reports_from (store.Damaged zero at) old new reports = tt
 reports_from (store.Damaged (suc n) at) old new reports = tt
 reports_from store.Failed old new reports = reports
 
-pub reports_so : {T : Type 0} (result : Result T KeptFault) (why : StoreFault) (old new : ℕ) → IsErrAnd result (λ fault. fault ≡ fault_of why)
-    → ReportsFault why old new → IfErr result (λ fault. ReportsDisk fault old new)
+pub reports_so : {T : Type 0} (result : Result T PersistenceFault) (why : StoreFault) (old new : ℕ) → IsErrAnd result (λ fault. fault ≡ fault_of why)
+    → ReportsFault why old new → IfErr result (λ fault. ReportsDiskFault fault old new)
 reports_so (Ok value) why old new is reports = tt
-reports_so (Err fault) why old new is reports = subst (λ (f : KeptFault). ReportsDisk f old new) (sym is) (reports_from why old new reports)
+reports_so (Err fault) why old new is reports = subst (λ (f : PersistenceFault). ReportsDiskFault f old new) (sym is) (reports_from why old new reports)
 
 -- a batch that is not appended does not mean that the file is refused because of its bytes
-pub unput_is_no_contents : {D : Type 0} (is_usable : D → Bool) (log : Log D) (texts : List (List ℕ)) (why : StoreFault) → IsOfPutting is_usable log texts why → ¬ (IsOfContents (fault_of why))
-unput_is_no_contents is_usable log texts store.Memory of contents = contents
-unput_is_no_contents is_usable log texts (store.Disk error) of contents = contents
-unput_is_no_contents is_usable log texts store.TooLong of contents = contents
-unput_is_no_contents is_usable log texts (store.Damaged zero at) of contents = of
-unput_is_no_contents is_usable log texts (store.Damaged (suc n) at) of contents = of
-unput_is_no_contents is_usable log texts store.Failed of contents = contents
+pub append_fault_is_no_content_fault : {D : Type 0} (is_usable : D → Bool) (log : Log D) (texts : List (List ℕ)) (why : StoreFault) → IsAppendFault is_usable log texts why → ¬ (IsContentFault (fault_of why))
+append_fault_is_no_content_fault is_usable log texts store.Memory of contents = contents
+append_fault_is_no_content_fault is_usable log texts (store.Disk error) of contents = contents
+append_fault_is_no_content_fault is_usable log texts store.TooLong of contents = contents
+append_fault_is_no_content_fault is_usable log texts (store.Damaged zero at) of contents = of
+append_fault_is_no_content_fault is_usable log texts (store.Damaged (suc n) at) of contents = of
+append_fault_is_no_content_fault is_usable log texts store.Failed of contents = contents
 
 -- the fault with which a damaged file was reported
-pub refused_from : {T : Type 0} (Known : Type 0) (usable : Bool) (wanted : Option Bounds) (result : Result T KeptFault) (why : StoreFault) (file : List ℕ) → IsErrAnd result (λ fault. fault ≡ fault_of why)
-    → IsOfReading usable why → (Known → IsDamage why file) → IfErr result (λ fault. Known → IsUnopened usable wanted fault file)
+pub refused_from : {T : Type 0} (Known : Type 0) (usable : Bool) (wanted : Option Bounds) (result : Result T PersistenceFault) (why : StoreFault) (file : List ℕ) → IsErrAnd result (λ fault. fault ≡ fault_of why)
+    → IsReadingFault usable why → (Known → ReportsDamage why file) → IfErr result (λ fault. Known → RefusesToOpen usable wanted fault file)
 refused_from Known usable wanted (Ok value) why file is of damage = tt
 refused_from Known usable wanted (Err fault) why file is of damage = λ known.
-    subst (λ (f : KeptFault). IsUnopened usable wanted f file) (sym is) (unread_unopened usable wanted why file of (damage known))
+    subst (λ (f : PersistenceFault). RefusesToOpen usable wanted f file) (sym is) (unread_unopened usable wanted why file of (damage known))
 
 -- one that was read, and whose bytes are refused
-pub refused_then : {T : Type 0} (Known : Type 0) (usable : Bool) (wanted : Option Bounds) (result : Result T KeptFault) (why : KeptFault) (file : List ℕ) → IsErrAnd result (λ fault. fault ≡ why)
-    → (Known → IsRefusal wanted why file) → IfErr result (λ fault. Known → IsUnopened usable wanted fault file)
+pub refused_then : {T : Type 0} (Known : Type 0) (usable : Bool) (wanted : Option Bounds) (result : Result T PersistenceFault) (why : PersistenceFault) (file : List ℕ) → IsErrAnd result (λ fault. fault ≡ why)
+    → (Known → RefusesFile wanted why file) → IfErr result (λ fault. Known → RefusesToOpen usable wanted fault file)
 refused_then Known usable wanted (Ok value) why file is refusal = tt
 refused_then Known usable wanted (Err fault) why file is refusal = λ known.
-    subst (λ (f : KeptFault). IsUnopened usable wanted f file) (sym is) (refusal_unopened usable wanted why file (refusal known))
+    subst (λ (f : PersistenceFault). RefusesToOpen usable wanted f file) (sym is) (refusal_unopened usable wanted why file (refusal known))
 
-pub refused_at_once : {T : Type 0} (wanted : Option Bounds) (result : Result T KeptFault) (why : StoreFault) (file : List ℕ) → IsErrAnd result (λ fault. fault ≡ fault_of why)
-    → IsOfBytes why → IsDamage why file → IfErr result (λ fault. IsRefusal wanted fault file)
+pub refused_at_once : {T : Type 0} (wanted : Option Bounds) (result : Result T PersistenceFault) (why : StoreFault) (file : List ℕ) → IsErrAnd result (λ fault. fault ≡ fault_of why)
+    → IsDecodeFault why → ReportsDamage why file → IfErr result (λ fault. RefusesFile wanted fault file)
 refused_at_once wanted (Ok value) why file is of damage = tt
-refused_at_once wanted (Err fault) why file is of damage = subst (λ (f : KeptFault). IsRefusal wanted f file) (sym is) (damage_is_refused wanted why file of damage)
+refused_at_once wanted (Err fault) why file is of damage = subst (λ (f : PersistenceFault). RefusesFile wanted f file) (sym is) (damage_is_refused wanted why file of damage)
 
 -- one whose title is refused
-pub refused_so : {T : Type 0} (wanted : Option Bounds) (result : Result T KeptFault) (why : KeptFault) (Known : List ℕ → Type 0) → IsErrAnd result (λ fault. fault ≡ why)
-    → ((file : List ℕ) → Known file → IsRefusal wanted why file) → IfErr result (λ fault. (file : List ℕ) → Known file → IsRefusal wanted fault file)
+pub refused_so : {T : Type 0} (wanted : Option Bounds) (result : Result T PersistenceFault) (why : PersistenceFault) (Known : List ℕ → Type 0) → IsErrAnd result (λ fault. fault ≡ why)
+    → ((file : List ℕ) → Known file → RefusesFile wanted why file) → IfErr result (λ fault. (file : List ℕ) → Known file → RefusesFile wanted fault file)
 refused_so wanted (Ok value) why Known is refusal = tt
 refused_so wanted (Err fault) why Known is refusal = λ file known.
-    subst (λ (f : KeptFault). IsRefusal wanted f file) (sym is) (refusal file known)
+    subst (λ (f : PersistenceFault). RefusesFile wanted f file) (sym is) (refusal file known)

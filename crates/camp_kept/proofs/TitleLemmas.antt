@@ -47,8 +47,8 @@ pub title_short : (limits : Bounds) → CanBeLimits limits → length (title_of 
 title_short limits range = by_default limits (is_default limits) refl range
 
 -- a number of a title is read as it is
-count_told : (n : ℕ) → 0 < n → n ≤ 16_777_216 → count_of (decimal n) ≡ Some n
-count_told n some few =
+count_decoded : (n : ℕ) → 0 < n → n ≤ 16_777_216 → count_of (decimal n) ≡ Some n
+count_decoded n some few =
     let long : Bool = is_between 1 10 (length (decimal n)) in
     let digits : Bool = list_all is_digit (decimal n) in
     let value : Bool = is_between 1 last_line_number (value_of (decimal n)) in
@@ -69,8 +69,8 @@ are_words limits range = (
 -- the words of a title are those of its limits
 pub among : (limits : Bounds) → CanBeLimits limits → limits_among (words_of (joined limits)) ≡ Some (limits.catches, limits.branches)
 among limits range =
-    let catches = count_told limits.catches range.some_catches range.few_catches in
-    let branches = count_told limits.branches range.some_branches (omega (arith, range.few_branches)) in
+    let catches = count_decoded limits.catches range.some_catches range.few_catches in
+    let branches = count_decoded limits.branches range.some_branches (omega (arith, range.few_branches)) in
     ap limits_among (words_joined (limit_words limits) (are_words limits range))
     ∙ ap (λ (o : Option ℕ). option_and_then (λ most. option_and_then (λ others. Some (most, others)) (count_of (decimal limits.branches))) o) catches
     ∙ ap (λ (o : Option ℕ). option_and_then (λ others. Some (limits.catches, others)) o) branches

@@ -11,7 +11,7 @@ use Rattle.camp_repo.specs.States.{Contents}
 use Rattle.camp_script.specs.Canonical.{IsScriptCall}
 use Rattle.camp_script.specs.Keeping.{calls_of}
 
--- calls of one seat
+-- calls at seat 0
 abbrev pub alone : List Call → List (ℕ × Call)
 alone calls = map (λ call. (0, call)) calls
 
@@ -19,26 +19,26 @@ alone calls = map (λ call. (0, call)) calls
 abbrev pub History : Type 0
 History = Booked Contents Call
 
--- what a repository has accepted: its limits, and its calls
-pub record Stored : Type 0 where
+-- what a store contains: the limits of its repository, and its accepted calls
+pub record StoreContents : Type 0 where
   pub limits : Bounds
   pub calls : List Call
 
--- a repository with these limits, and without calls
-abbrev pub none_within : Bounds → Stored
-none_within limits = record { limits = limits; calls = [] }
+-- a store with these limits, and without calls
+abbrev pub empty_within : Bounds → StoreContents
+empty_within limits = record { limits = limits; calls = [] }
 
--- what the repository of a history has accepted
-abbrev pub stored_of : History → Stored
-stored_of history = record { limits = history.first.limits; calls = calls_of history.calls }
+-- the limits and the accepted calls of a history
+abbrev pub accepted_of : History → StoreContents
+accepted_of history = record { limits = history.first.limits; calls = calls_of history.calls }
 
--- a repository at an earlier moment: the same limits, and the first calls
-pub record IsFrontOf (part whole : Stored) : Type 0 where
-  pub limits : part.limits ≡ whole.limits
-  pub calls : IsBeginning part.calls whole.calls
+-- the contents at an earlier moment: the same limits, and a prefix of the calls
+pub record IsPrefixOf (prefix whole : StoreContents) : Type 0 where
+  pub limits : prefix.limits ≡ whole.limits
+  pub calls : IsBeginning prefix.calls whole.calls
 
 -- calls that a script can contain, each accepted after those before it, by a repository with these limits
-pub record AreAccepted (stored : Stored) : Type 0 where
+pub record AreAccepted (stored : StoreContents) : Type 0 where
   pub range : CanBeLimits stored.limits
   pub can : AllByRecursion IsScriptCall stored.calls
   pub legal : IsLegal (repository_within stored.limits) (alone stored.calls)

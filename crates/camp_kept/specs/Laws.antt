@@ -1,21 +1,21 @@
 -- What opening finds in a file that a crash has left.
 use Rattle.std.specs.Prelude.{◌≡◌, ℕ, Bool, List, Option}
-use Rattle.camp_kept.specs.Accepting.{AreAccepted, Stored}
-use Rattle.camp_kept.specs.Endings.{LeavesOut}
-use Rattle.camp_kept.specs.Faults.{IsOfOpening, IsUnopened}
-use Rattle.camp_kept.specs.Keeping.{AreTexts, IsStoreOf, Tells}
+use Rattle.camp_kept.specs.Accepting.{AreAccepted, StoreContents}
+use Rattle.camp_kept.specs.TornTails.{HasTornTail}
+use Rattle.camp_kept.specs.Faults.{IsOpeningFault, RefusesToOpen}
+use Rattle.camp_kept.specs.Persisting.{AreTexts, DecodesToCalls, IsStoreOf}
 use Rattle.camp_kept.specs.Titles.{new_limits}
-use Rattle.camp_kept.specs.declared.faults.KeptFault.{KeptFault}
+use Rattle.camp_kept.specs.declared.faults.PersistenceFault.{PersistenceFault}
 use Rattle.camp_repo.specs.Limits.{Bounds}
 
 -- the limits and the calls found by opening the file are exactly these; and opening fails only because of the disk, out
 -- of memory, or because other limits are wanted
-pub record OpensWith (wanted : Option Bounds) (stored : Stored) (file : List ℕ) : Type 0 where
-  pub just : (texts : List (List ℕ)) (found : Stored) (count : ℕ) → AreTexts (new_limits wanted) texts found → AreAccepted found → LeavesOut texts file count → found ≡ stored
-  pub refused : (usable : Bool) (why : KeptFault) → IsUnopened usable wanted why file → IsOfOpening usable wanted stored.limits why
+pub record OpensAs (wanted : Option Bounds) (stored : StoreContents) (file : List ℕ) : Type 0 where
+  pub just : (texts : List (List ℕ)) (found : StoreContents) (count : ℕ) → AreTexts (new_limits wanted) texts found → AreAccepted found → HasTornTail texts file count → found ≡ stored
+  pub refused : (usable : Bool) (why : PersistenceFault) → RefusesToOpen usable wanted why file → IsOpeningFault usable wanted stored.limits why
 
 -- a store of calls decodes to them; and a file that decodes to calls which are accepted one after the other, as a
 -- store or one being created does, is opened with exactly these
 pub record StoresAreOpened : Type 0 where
-  pub tells : (new : Bounds) (stored : Stored) (file : List ℕ) → IsStoreOf stored file → Tells new stored file
-  pub opened : (wanted : Option Bounds) (stored : Stored) (file : List ℕ) → AreAccepted stored → Tells (new_limits wanted) stored file → OpensWith wanted stored file
+  pub decodes : (new : Bounds) (stored : StoreContents) (file : List ℕ) → IsStoreOf stored file → DecodesToCalls new stored file
+  pub opened : (wanted : Option Bounds) (stored : StoreContents) (file : List ℕ) → AreAccepted stored → DecodesToCalls (new_limits wanted) stored file → OpensAs wanted stored file

@@ -1,7 +1,7 @@
 pub mod Accepting
-pub mod Endings
+pub mod TornTails
 pub mod Faults
-pub mod Keeping
+pub mod Persisting
 pub mod Laws
 pub mod Replaying
 pub mod Titles

@@ -2,8 +2,8 @@
 use Rattle.std.specs.Prelude.{◌≡◌, ℕ, Bool, true, false, List, [], ◌∷◌, ◌++◌, Option}
 use Rattle.std.specs.List.{AllByRecursion}
 use Rattle.camp_call.specs.declared.calls.Call.{Call}
-use Rattle.camp_kept.specs.Accepting.{History, alone, stored_of}
-use Rattle.camp_kept.specs.Keeping.{AreTexts, call_texts}
+use Rattle.camp_kept.specs.Accepting.{History, accepted_of, alone}
+use Rattle.camp_kept.specs.Persisting.{AreTexts, call_texts}
 use Rattle.camp_kept.specs.Titles.{AreAsWanted, CanBeLimits, new_limits}
 use Rattle.camp_object.specs.Histories.{IsAccepted}
 use Rattle.camp_object.specs.Objects.{begun}
@@ -21,32 +21,32 @@ then_call before call = record { first = before.first; calls = before.calls ++ (
 abbrev pub CanBeNext : History → Call → Type 0
 CanBeNext before call = IsAccepted (begun repository before.first) before.calls call
 
--- a call is executed after a history: it is accepted at seat 0, or not
-abbrev pub AsksCall : History → Call → Bool → History → Type 0
-AsksCall before call true after = after ≡ then_call before call
-AsksCall before call false after = ¬ (CanBeNext before call)
+-- the call is executed after the history: true if it is accepted, at seat 0
+abbrev pub ExecutesCall : History → Call → Bool → History → Type 0
+ExecutesCall before call true after = after ≡ then_call before call
+ExecutesCall before call false after = ¬ (CanBeNext before call)
 
--- the call of a text is executed after a history: it is accepted at seat 0; or no call that a script can contain has
--- the text and is accepted
-abbrev pub AsksAgain : History → List ℕ → Bool → History → Type 0
-AsksAgain before text true after = (call : Call) × IsScriptCall call × (call_text call ≡ text) × (after ≡ then_call before call)
-AsksAgain before text false after = (call : Call) → IsScriptCall call → call_text call ≡ text → ¬ (CanBeNext before call)
+-- the call with this text is executed after the history. True: it is accepted, at seat 0; false: no call that a script
+-- can contain has this text and is accepted
+abbrev pub ReplaysText : History → List ℕ → Bool → History → Type 0
+ReplaysText before text true after = (call : Call) × IsScriptCall call × (call_text call ≡ text) × (after ≡ then_call before call)
+ReplaysText before text false after = (call : Call) → IsScriptCall call → call_text call ≡ text → ¬ (CanBeNext before call)
 
--- the history of a repository with these limits that was asked calls at seat 0, each of which was accepted
+-- the history of a repository with these limits that has accepted these calls, all at seat 0
 abbrev pub new_with : Bounds → List Call → History
 new_with limits calls = record { first = new_within limits; calls = alone calls }
 
--- the history is of a repository with these limits, and of calls that have these texts, and that a script can contain
-pub record AreAsked (limits : Bounds) (texts : List (List ℕ)) (history : History) : Type 0 where
+-- the history is that of a new repository with these limits after the calls with these texts, which a script can contain
+pub record AreReplayed (limits : Bounds) (texts : List (List ℕ)) (history : History) : Type 0 where
   pub calls : List Call
   pub is : history ≡ new_with limits calls
   pub can : AllByRecursion IsScriptCall calls
   pub texts_are : texts ≡ call_texts calls
 
--- the texts are those of a store of the limits and the calls of this history, the limits are the wanted ones, and a
+-- the texts are those of a store with the limits and the calls of this history; the limits are the wanted ones, and a
 -- script can contain each call
-pub record AreRecalled (wanted : Option Bounds) (texts : List (List ℕ)) (history : History) : Type 0 where
+pub record AreRecovered (wanted : Option Bounds) (texts : List (List ℕ)) (history : History) : Type 0 where
   pub range : CanBeLimits history.first.limits
   pub as_wanted : AreAsWanted wanted history.first.limits
-  pub are : AreTexts (new_limits wanted) texts (stored_of history)
+  pub are : AreTexts (new_limits wanted) texts (accepted_of history)
   pub can : AllByRecursion IsScriptCall (calls_of history.calls)

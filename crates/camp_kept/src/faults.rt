@@ -1,7 +1,7 @@
 //! Why a repository is not opened, or its calls are not persisted.
 ghost use Rattle.std.specs.Prelude.{◌≡◌};
 ghost use Rattle.camp_kept.specs.Faults.{fault_of};
-ghost use Rattle.camp_kept.specs.declared.faults.KeptFault.TheVariants as fault;
+ghost use Rattle.camp_kept.specs.declared.faults.PersistenceFault.TheVariants as fault;
 
 use camp_store::StoreFault;
 use std::alloc::{AllocError, AllocFailed};
@@ -9,7 +9,7 @@ use thiserror::Error;
 
 /// Why a repository is not opened, or its calls are not persisted.
 #[derive(Clone, Copy, Debug, Error)]
-pub enum KeptFault {
+pub enum PersistenceFault {
     #[error("out of memory")]
     Memory,
     /// The file exists, and is not a store.
@@ -27,31 +27,31 @@ pub enum KeptFault {
     Store(StoreFault),
 }
 
-impl From<AllocError> for KeptFault {
+impl From<AllocError> for PersistenceFault {
     ghost from_gives = { λ _ result. result ≡ fault.Memory };
 
-    fn from(_error: AllocError) -> KeptFault {
-        KeptFault::Memory
+    fn from(_error: AllocError) -> PersistenceFault {
+        PersistenceFault::Memory
     }
 }
 
-impl<T: Drop> From<AllocFailed<T>> for KeptFault {
+impl<T: Drop> From<AllocFailed<T>> for PersistenceFault {
     ghost from_gives = { λ _ result. result ≡ fault.Memory };
 
-    fn from(_error: AllocFailed<T>) -> KeptFault {
-        KeptFault::Memory
+    fn from(_error: AllocFailed<T>) -> PersistenceFault {
+        PersistenceFault::Memory
     }
 }
 
-impl From<StoreFault> for KeptFault {
+impl From<StoreFault> for PersistenceFault {
     ghost from_gives = { λ why result. result ≡ fault_of why };
 
-    fn from(fault: StoreFault) -> KeptFault {
+    fn from(fault: StoreFault) -> PersistenceFault {
         match fault {
-            StoreFault::Memory => KeptFault::Memory,
-            StoreFault::Damaged { texts: 0, .. } => KeptFault::NoStore,
-            StoreFault::Damaged { texts, at } => KeptFault::Damaged { call: texts, at },
-            other => KeptFault::Store(other),
+            StoreFault::Memory => PersistenceFault::Memory,
+            StoreFault::Damaged { texts: 0, .. } => PersistenceFault::NoStore,
+            StoreFault::Damaged { texts, at } => PersistenceFault::Damaged { call: texts, at },
+            other => PersistenceFault::Store(other),
         }
     }
 }

@@ -1,10 +1,10 @@
 //! Inspecting the bytes of a file.
 ghost use Rattle.std.specs.Prelude.{None, IfErr, IfOk};
-ghost use Rattle.camp_kept.specs.Endings.{IsInspection};
-ghost use Rattle.camp_kept.specs.Faults.{IsRefusal};
+ghost use Rattle.camp_kept.specs.TornTails.{IsInspection};
+ghost use Rattle.camp_kept.specs.Faults.{RefusesFile};
 
-use crate::KeptFault;
-use crate::openings::{left_out, recall};
+use crate::PersistenceFault;
+use crate::openings::{replay_reading, torn_tail_len};
 use camp_store::{Digest, decode};
 use std::alloc::Global;
 
@@ -15,20 +15,20 @@ pub struct Inspection {
     pub calls: usize,
     /// The digest of their texts.
     pub digest: Digest,
-    /// Bytes at the end that do not count.
-    pub left_out: usize,
+    /// The length of the torn tail: bytes at the end that do not count.
+    pub torn_tail_len: usize,
 }
 
 /// Inspects the bytes of a file.
-pub fn inspect(alloc: Global, bytes: &[u8]) -> Result<Inspection, KeptFault>
-    ensures told { IfOk result (λ found. IsInspection bytes.now found) }
-    ensures refused { IfErr result (λ why. IsRefusal None why bytes.now) }
+pub fn inspect(alloc: Global, bytes: &[u8]) -> Result<Inspection, PersistenceFault>
+    ensures decoded { IfOk result (λ found. IsInspection bytes.now found) }
+    ensures refused { IfErr result (λ why. RefusesFile None why bytes.now) }
 {
     let reading = decode(alloc, bytes)?;
-    let book = recall(alloc, &reading, &None)?;
+    let book = replay_reading(alloc, &reading, &None)?;
     Ok(Inspection {
         calls: book.history().len(),
         digest: reading.digest,
-        left_out: left_out(&reading),
+        torn_tail_len: torn_tail_len(&reading),
     })
 }

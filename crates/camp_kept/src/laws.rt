@@ -3,7 +3,7 @@ ghost use Rattle.camp_kept.specs.Laws.{StoresAreOpened};
 
 /// A file that decodes to accepted calls is opened with exactly these, and only out of memory or the disk can
 /// prevent it. A crash leaves such files, also during opening: a store of calls, as after
-/// [`Kept::commit`](crate::Kept::commit), or one being created.
+/// [`DurableRepository::commit`](crate::DurableRepository::commit), or one being created.
 pub fn stores_are_opened()
     ensures law { StoresAreOpened }
 {}

@@ -3,19 +3,20 @@
 
 mod faults;
 mod inspections;
-mod kept;
 mod laws;
 mod openings;
 mod replays;
+mod repositories;
 mod texts;
 mod titles;
 
 pub use camp_repo::{Book, Limits, State};
 pub use camp_store::Disk;
-pub use faults::KeptFault;
+pub use faults::PersistenceFault;
 pub use inspections::{Inspection, inspect};
-pub use kept::Kept;
 pub use laws::stores_are_opened;
+pub use repositories::DurableRepository;
 
-/// The most bytes of a file that has no title yet: more than a store being created has, whatever its limits.
-const MAX_UNBEGUN: usize = 80;
+/// The most bytes that a file without a title may have to count as a store being created: more than one has,
+/// whatever its limits.
+const MAX_UNTITLED_LEN: usize = 80;

@@ -1,7 +1,7 @@
-//! The texts of calls.
+//! Rendering calls as texts.
 ghost use Rattle.std.specs.Prelude.{◌≡◌, IfOk};
 ghost use Rattle.std.specs.List.{AllByRecursion};
-ghost use Rattle.camp_kept.specs.Keeping.{call_texts};
+ghost use Rattle.camp_kept.specs.Persisting.{call_texts};
 ghost use Rattle.camp_script.specs.Keeping.{CanStand, calls_of};
 ghost use Rattle.camp_store.specs.Logs.{texts_of};
 
@@ -9,8 +9,8 @@ use camp_repo::Call;
 use camp_script::accepted_text;
 use std::alloc::{AllocError, Global};
 
-/// Renders the calls of a history.
-pub(crate) fn texts_to_keep(
+/// Renders the calls of a history, each as its canonical text.
+pub(crate) fn render_calls(
     alloc: Global,
     history: &[(u32, Call)],
 ) -> Result<Vec<Vec<u8>>, AllocError>

@@ -1,11 +1,11 @@
 //! The first text of a store, which says the limits of its repository.
 ghost use Rattle.std.specs.Prelude.{◌≡◌, ◌↔◌, ◌∷◌, Some, codes, map, IfErr, IfOk, IsTrue, List, ℕ};
-ghost use Rattle.camp_kept.specs.Faults.{IsNotOfDisk, IsRefusal};
+ghost use Rattle.camp_kept.specs.Faults.{IsNoDiskFault, RefusesFile};
 ghost use Rattle.camp_kept.specs.Titles.{AreAsWanted, CanBeLimits, SaysLimits, is_default, limits_among, new_limits, title_of, title_with};
 ghost use Rattle.camp_repo.specs.Limits.{Bounds};
-ghost use Rattle.camp_store.specs.Blocks.{Stands};
+ghost use Rattle.camp_store.specs.Blocks.{DecodesTo};
 
-use crate::KeptFault;
+use crate::PersistenceFault;
 use camp_repo::Limits;
 use camp_script::{Words, count_of, first_words};
 use itoa::Buffer;
@@ -91,17 +91,17 @@ pub(crate) fn limits_of(
     alloc: Global,
     title: &[u8],
     wanted: &Option<Limits>,
-) -> Result<Limits, KeptFault>
+) -> Result<Limits, PersistenceFault>
     ensures says { IfOk result (λ limits. SaysLimits title.now (Some limits)) }
     ensures wanted { IfOk result (AreAsWanted wanted.now) }
-    ensures refused { IfErr result (λ why. (texts : List (List ℕ)) (file : List ℕ) → Stands (title.now ∷ texts) file → IsRefusal wanted.now why file) }
-    ensures not_disk { IfErr result IsNotOfDisk }
+    ensures refused { IfErr result (λ why. (texts : List (List ℕ)) (file : List ℕ) → DecodesTo (title.now ∷ texts) file → RefusesFile wanted.now why file) }
+    ensures not_disk { IfErr result IsNoDiskFault }
 {
     let Some(limits) = parse_title(alloc, title)? else {
-        return Err(KeptFault::NoStore);
+        return Err(PersistenceFault::NoStore);
     };
     if !are_wanted(&limits, wanted) {
-        return Err(KeptFault::OtherLimits {
+        return Err(PersistenceFault::OtherLimits {
             catches: limits.catches(),
             branches: limits.branches(),
         });

@@ -50,8 +50,8 @@ module _ (front end new : List ℕ) (at n : ℕ) (at_is : at ≡ length front) (
   pub rest_stays : drop n (drop at new) ≡ drop n end
   rest_stays = drop-drop n at new ∙ after at n (front ++ end) new torn within ∙ sym (drop-drop n at (front ++ end)) ∙ ap (λ (l : List ℕ). drop n l) dropped
 
-  pub written_behind : (bytes : List ℕ) → length bytes ≡ n → Holds new at bytes → new ≡ front ++ (bytes ++ drop n end)
-  written_behind bytes len holds =
+  pub written_after : (bytes : List ℕ) → length bytes ≡ n → Holds new at bytes → new ≡ front ++ (bytes ++ drop n end)
+  written_after bytes len holds =
       written at n (front ++ end) new torn within bytes len holds
       ∙ ap (λ (l : List ℕ). l ++ (bytes ++ drop (at + n) (front ++ end))) taken
       ∙ ap (λ (l : List ℕ). front ++ (bytes ++ l)) (sym (drop-drop n at (front ++ end)) ∙ ap (λ (l : List ℕ). drop n l) dropped)

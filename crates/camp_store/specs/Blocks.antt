@@ -5,74 +5,74 @@ use Rattle.hex.specs.Hex.{encode_lower}
 use Rattle.sha2.specs.Sha256.{sha256}
 
 -- the first byte of a block that counts, =
-abbrev pub open_gate : ℕ
-open_gate = 61
+abbrev pub open_mark : ℕ
+open_mark = 61
 
 -- the first byte of the end of a file, ~
-abbrev pub closed_gate : ℕ
-closed_gate = 126
+abbrev pub closed_mark : ℕ
+closed_mark = 126
 
 -- the digest of no texts
 abbrev pub first_digest : List ℕ
 first_digest = replicate 32 0
 
 -- the digest of a text after texts with the digest `before`
-abbrev pub digest_behind : List ℕ → List ℕ → List ℕ
-digest_behind before text = sha256 (before ++ text)
+abbrev pub digest_after : List ℕ → List ℕ → List ℕ
+digest_after before text = sha256 (before ++ text)
 
--- the digest of all texts, given the digest `before` of the first of them and the list of the others
+-- the digest of these texts after texts with the digest `before`
 abbrev pub chain : List ℕ → List (List ℕ) → List ℕ
 chain before [] = before
-chain before (text ∷ texts) = chain (digest_behind before text) texts
+chain before (text ∷ texts) = chain (digest_after before text) texts
 
 -- LENGTH DIGEST: the length of a text in 8 digits, and the first 8 bytes of its digest in 16, on a line
 abbrev pub head : List ℕ → List ℕ → List ℕ
 head before text =
-    encode_lower (to_be_bytes w32 (length text)) ++ (32 ∷ encode_lower (take 8 (digest_behind before text)) ++ 10 ∷ [])
+    encode_lower (to_be_bytes w32 (length text)) ++ (32 ∷ encode_lower (take 8 (digest_after before text)) ++ 10 ∷ [])
 
 -- a block without its commit mark: the head of the text, and the text
 abbrev pub body : List ℕ → List ℕ → List ℕ
 body before text = head before text ++ text
 
 -- a length that 8 digits can express
-abbrev pub Fits : List ℕ → Type 0
-Fits text = length text < 2 ^ 32
+abbrev pub FitsInBlock : List ℕ → Type 0
+FitsInBlock text = length text < 2 ^ 32
 
 -- each text fits in a block
 abbrev pub AllFit : List (List ℕ) → Type 0
 AllFit [] = Unit {0}
-AllFit (text ∷ texts) = Fits text × AllFit texts
+AllFit (text ∷ texts) = FitsInBlock text × AllFit texts
 
 -- the blocks of texts, as they are written
 abbrev pub blocks : List ℕ → List (List ℕ) → List ℕ
 blocks before [] = []
-blocks before (text ∷ texts) = open_gate ∷ body before text ++ blocks (digest_behind before text) texts
+blocks before (text ∷ texts) = open_mark ∷ body before text ++ blocks (digest_after before text) texts
 
--- bytes that begin with a block of this text; it counts unless its commit mark is the closed one
+-- the bytes begin with the block of this text, whose commit mark is not the closed one, and `rest` follows
 pub record IsBlock (before text rest bytes : List ℕ) : Type 0 where
-  pub gate : ℕ
-  pub counts : gate ≢ closed_gate
-  pub fits : Fits text
-  pub split : bytes ≡ gate ∷ body before text ++ rest
+  pub mark : ℕ
+  pub counts : mark ≢ closed_mark
+  pub fits : FitsInBlock text
+  pub split : bytes ≡ mark ∷ body before text ++ rest
 
 -- the bytes are exactly the blocks of these texts, in order
 abbrev pub AreBlocks : List ℕ → List (List ℕ) → List ℕ → Type 0
 AreBlocks before [] bytes = bytes ≡ []
 AreBlocks before (text ∷ texts) bytes =
-    (rest : List ℕ) × IsBlock before text rest bytes × AreBlocks (digest_behind before text) texts rest
+    (rest : List ℕ) × IsBlock before text rest bytes × AreBlocks (digest_after before text) texts rest
 
 -- no block begins here: the bytes are empty, one byte, or begin with the closed mark
 abbrev pub IsEnd : List ℕ → Type 0
 IsEnd [] = Unit {0}
-IsEnd (gate ∷ rest) = (gate ≡ closed_gate) ⊎ (rest ≡ [])
+IsEnd (mark ∷ rest) = (mark ≡ closed_mark) ⊎ (rest ≡ [])
 
 -- the bytes begin with the closed mark
 abbrev pub is_closed : List ℕ → Bool
 is_closed [] = false
-is_closed (gate ∷ rest) = gate == closed_gate
+is_closed (mark ∷ rest) = mark == closed_mark
 
 -- the file decodes to these texts: it is their blocks followed by an end
-pub record Stands (texts : List (List ℕ)) (file : List ℕ) : Type 0 where
+pub record DecodesTo (texts : List (List ℕ)) (file : List ℕ) : Type 0 where
   pub front : List ℕ
   pub end : List ℕ
   pub split : file ≡ front ++ end
@@ -80,5 +80,5 @@ pub record Stands (texts : List (List ℕ)) (file : List ℕ) : Type 0 where
   pub ends : IsEnd end
 
 -- a file decodes to at most one list of texts
-abbrev pub StandsOnce : Type 0
-StandsOnce = (texts others : List (List ℕ)) (file : List ℕ) → Stands texts file → Stands others file → texts ≡ others
+abbrev pub FilesDecodeToOneList : Type 0
+FilesDecodeToOneList = (texts others : List (List ℕ)) (file : List ℕ) → DecodesTo texts file → DecodesTo others file → texts ≡ others

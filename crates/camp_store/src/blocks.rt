@@ -1,7 +1,7 @@
 //! Encoding and decoding of blocks. A block is a commit mark, the head of a text, and the text.
 ghost use Rattle.std.specs.Prelude.{◌≡◌, ◌≢◌, ◌↔◌, ◌++◌, [], ◌∷◌, List, ℕ, Some, length, IfOk, IfErr, IsTrue, MatchOption};
-ghost use Rattle.camp_store.specs.Blocks.{AllFit, Fits, IsBlock, IsEnd, blocks, body, chain, closed_gate, digest_behind, head, is_closed};
-ghost use Rattle.camp_store.specs.Logs.{IsRefused, texts_of};
+ghost use Rattle.camp_store.specs.Blocks.{AllFit, FitsInBlock, IsBlock, IsEnd, blocks, body, chain, closed_mark, digest_after, head, is_closed};
+ghost use Rattle.camp_store.specs.Logs.{IsEncodeFault, texts_of};
 
 use crate::StoreFault;
 use hex::FromHex;
@@ -11,18 +11,18 @@ use std::alloc::{AllocError, Global};
 /// The digest of a chain of texts.
 pub type Digest = [u8; 32];
 
-/// The mark of a block that counts.
-pub(crate) const OPEN: u8 = b'=';
+/// The commit mark of a block that counts.
+pub(crate) const OPEN_MARK: u8 = b'=';
 
-/// The mark at which a file ends.
-pub(crate) const CLOSED: u8 = b'~';
+/// The commit mark at which the texts of a file end.
+pub(crate) const CLOSED_MARK: u8 = b'~';
 
-/// Bytes of a head: 8 digits, a space, 16 digits, and a line feed.
-pub(crate) const HEAD: usize = 26;
+/// The length of a head in bytes: 8 digits, a space, 16 digits, and a line feed.
+pub(crate) const HEAD_LEN: usize = 26;
 
-/// Computes the digest of a text after texts with the digest `before`.
-pub(crate) fn digest_behind(before: &Digest, text: &[u8]) -> Digest
-    ensures { result ≡ digest_behind before.now text.now }
+/// Computes the digest of texts: those with the digest `before`, and this one after them.
+pub(crate) fn digest_after(before: &Digest, text: &[u8]) -> Digest
+    ensures { result ≡ digest_after before.now text.now }
 {
     let mut hasher = Sha256::new();
     hasher.update(before.as_slice());
@@ -30,12 +30,12 @@ pub(crate) fn digest_behind(before: &Digest, text: &[u8]) -> Digest
     hasher.finalize()
 }
 
-/// Writes the head of a text from its length and its digest.
-fn head(alloc: Global, size: u32, digest: &Digest) -> Result<Vec<u8>, AllocError>
-    ensures { IfOk result (λ line. (before text : List ℕ) → length text ≡ size → digest.now ≡ digest_behind before text
+/// Encodes the head of a text from its length and its digest.
+fn encode_head(alloc: Global, size: u32, digest: &Digest) -> Result<Vec<u8>, AllocError>
+    ensures { IfOk result (λ line. (before text : List ℕ) → length text ≡ size → digest.now ≡ digest_after before text
         → line.items ≡ head before text) }
 {
-    let mut line = Vec::with_capacity(alloc, HEAD)?;
+    let mut line = Vec::with_capacity(alloc, HEAD_LEN)?;
     line.extend_from_slice(hex::encode(alloc, size.to_be_bytes())?.as_bytes())?;
     line.push(b' ')?;
     line.extend_from_slice(hex::encode(alloc, &digest[..8])?.as_bytes())?;
@@ -44,9 +44,9 @@ fn head(alloc: Global, size: u32, digest: &Digest) -> Result<Vec<u8>, AllocError
 }
 
 /// Decodes the length of a text from its head.
-fn told_size(line: &[u8]) -> Option<u32>
+fn decode_size(line: &[u8]) -> Option<u32>
     requires { length line.now ≡ 26 }
-    ensures { (before text : List ℕ) → Fits text → line.now ≡ head before text → result ≡ Some (length text) }
+    ensures { (before text : List ℕ) → FitsInBlock text → line.now ≡ head before text → result ≡ Some (length text) }
 {
     match <[u8; 4] as FromHex>::from_hex(&line[..8]) {
         Ok(bytes) => Some(u32::from_be_bytes(bytes)),
@@ -54,16 +54,17 @@ fn told_size(line: &[u8]) -> Option<u32>
     }
 }
 
-/// Encodes the blocks of texts and a closed mark; also returns their digest.
+/// Encodes the blocks of texts that come after texts with the digest `before`, and a closed mark; also
+/// returns the digest of all.
 pub(crate) fn encode(
     alloc: Global,
     before: &Digest,
     texts: &[Vec<u8>],
 ) -> Result<(Vec<u8>, Digest), StoreFault>
-    ensures bytes { IfOk result (λ r. r.0.items ≡ blocks before.now (texts_of texts.now) ++ closed_gate ∷ []) }
+    ensures bytes { IfOk result (λ r. r.0.items ≡ blocks before.now (texts_of texts.now) ++ closed_mark ∷ []) }
     ensures digest { IfOk result (λ r. r.1 ≡ chain before.now (texts_of texts.now)) }
     ensures fit { IfOk result (λ r. AllFit (texts_of texts.now)) }
-    ensures refused { IfErr result (IsRefused (texts_of texts.now)) }
+    ensures refused { IfErr result (IsEncodeFault (texts_of texts.now)) }
 {
     let mut bytes = Vec::new(alloc);
     let mut digest = *before;
@@ -71,16 +72,16 @@ pub(crate) fn encode(
         let Ok(size) = u32::try_from(text.len()) else {
             return Err(StoreFault::TooLong);
         };
-        digest = digest_behind(&digest, text);
-        bytes.push(OPEN)?;
-        bytes.extend_from_slice(&head(alloc, size, &digest)?)?;
+        digest = digest_after(&digest, text);
+        bytes.push(OPEN_MARK)?;
+        bytes.extend_from_slice(&encode_head(alloc, size, &digest)?)?;
         bytes.extend_from_slice(text)?;
     }
-    bytes.push(CLOSED)?;
+    bytes.push(CLOSED_MARK)?;
     Ok((bytes, digest))
 }
 
-/// A decoded text at the start of some bytes, after its head.
+/// A decoded text, its digest, and the bytes after it.
 #[derive(Clone, Copy)]
 pub(crate) struct Block<'a> {
     pub(crate) text: &'a [u8],
@@ -95,24 +96,24 @@ fn first_body<'a>(
     bytes: &'a [u8],
 ) -> Result<Option<Block<'a>>, AllocError>
     ensures { IfOk result (λ found. MatchOption found
-        ((text rest : List ℕ) → Fits text → bytes.now ≢ body before.now text ++ rest)
-        (λ block. (bytes.now ≡ body before.now block.text.now ++ block.rest.now) × Fits block.text.now
-        × (block.digest ≡ digest_behind before.now block.text.now))) }
+        ((text rest : List ℕ) → FitsInBlock text → bytes.now ≢ body before.now text ++ rest)
+        (λ block. (bytes.now ≡ body before.now block.text.now ++ block.rest.now) × FitsInBlock block.text.now
+        × (block.digest ≡ digest_after before.now block.text.now))) }
 {
-    if bytes.len() < HEAD {
+    if bytes.len() < HEAD_LEN {
         return Ok(None);
     }
-    let (found, behind) = bytes.split_at(HEAD);
-    let size = match told_size(found) {
+    let (found, after) = bytes.split_at(HEAD_LEN);
+    let size = match decode_size(found) {
         Some(size) => size,
         None => return Ok(None),
     };
-    if behind.len() < size as usize {
+    if after.len() < size as usize {
         return Ok(None);
     }
-    let (text, rest) = behind.split_at(size as usize);
-    let digest = digest_behind(before, text);
-    let line = head(alloc, size, &digest)?;
+    let (text, rest) = after.split_at(size as usize);
+    let digest = digest_after(before, text);
+    let line = encode_head(alloc, size, &digest)?;
     if found != line.as_slice() {
         return Ok(None);
     }
@@ -128,15 +129,15 @@ pub(crate) fn first_block<'a>(
     ensures { IfOk result (λ found. MatchOption found
         ((text rest : List ℕ) → ¬ (IsBlock before.now text rest bytes.now))
         (λ block. IsBlock before.now block.text.now block.rest.now bytes.now
-        × (block.digest ≡ digest_behind before.now block.text.now))) }
+        × (block.digest ≡ digest_after before.now block.text.now))) }
 {
-    let [gate, behind @ ..] = bytes else {
+    let [mark, after @ ..] = bytes else {
         return Ok(None);
     };
-    if *gate == CLOSED {
+    if *mark == CLOSED_MARK {
         return Ok(None);
     }
-    match first_body(alloc, before, behind)? {
+    match first_body(alloc, before, after)? {
         Some(block) => Ok(Some(block)),
         None => Ok(None),
     }
@@ -148,7 +149,7 @@ pub(crate) fn is_end(bytes: &[u8]) -> bool
 {
     match bytes {
         [] | [_] => true,
-        [gate, ..] => *gate == CLOSED,
+        [mark, ..] => *mark == CLOSED_MARK,
     }
 }
 
@@ -158,6 +159,6 @@ pub(crate) fn is_closed(bytes: &[u8]) -> bool
 {
     match bytes {
         [] => false,
-        [sign, ..] => *sign == CLOSED,
+        [sign, ..] => *sign == CLOSED_MARK,
     }
 }

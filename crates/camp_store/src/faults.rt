@@ -18,7 +18,7 @@ pub enum StoreFault {
     #[error("a text is too long")]
     TooLong,
     /// There is no whole block at offset `at`, after `texts` texts, although one begins there.
-    #[error("the text behind {texts} others is damaged, at byte {at}")]
+    #[error("the text after {texts} others is damaged, at byte {at}")]
     Damaged { texts: usize, at: usize },
     /// An append or a sync has failed before: the file has to be opened again.
     #[error("the file has failed before")]

@@ -11,7 +11,7 @@ mod readings;
 pub use blocks::Digest;
 pub use faults::StoreFault;
 pub use laws::{
-    batches_are_kept_at_each_moment, damaged_files_stand_for_nothing, files_stand_for_one_list,
+    batches_are_atomic_at_each_moment, damaged_files_do_not_decode, files_decode_to_one_list,
 };
 pub use logs::Log;
 pub use readings::{Reading, decode, read};

@@ -1,14 +1,14 @@
 //! The log: an open file of texts to which batches are appended.
 ghost use Rattle.std.specs.Prelude.{◌≡◌, ◌<◌, ◌+◌, ◌-◌, ◌^◌, ◌++◌, List, ℕ, Err, false, length, IfOk, IfErr, IsTrue, OnOk};
 ghost use Rattle.sqlite_disk.specs.Disk.{CountsFault, Only};
-ghost use Rattle.camp_store.specs.Blocks.{Stands, chain};
+ghost use Rattle.camp_store.specs.Blocks.{DecodesTo, chain};
 ghost use Rattle.camp_store.specs.Counting.{CountsFaults, ReportsFault};
-ghost use Rattle.camp_store.specs.Logs.{IsBatch, IsBeforeOrAfter, IsOfClosing, Keeps, StaysWithin, texts_of};
+ghost use Rattle.camp_store.specs.Logs.{IsBatch, IsBeforeOrAfter, IsMarkFault, Persists, StaysWithin, texts_of};
 ghost use Rattle.camp_store.specs.declared.faults.StoreFault.TheVariants as fault;
-ghost use Rattle.camp_store.specs.Readings.{IsReading};
+ghost use Rattle.camp_store.specs.Readings.{IsDecodedFrom};
 
-use crate::blocks::{CLOSED, Digest, OPEN, encode};
-use crate::disks::settle;
+use crate::blocks::{CLOSED_MARK, Digest, OPEN_MARK, encode};
+use crate::disks::write_and_sync;
 use crate::{Disk, Reading, StoreFault};
 use std::alloc::Global;
 use std::io;
@@ -22,17 +22,17 @@ pub struct Log<D: Disk> {
     has_failed: bool,
 }
 
-// Writes the closed mark after the texts that were read, unless it is there.
-fn close<D: Disk>(disk: &mut D, reading: &Reading) -> Result<(), StoreFault>
-    ensures keeps { OnOk result (IsReading (D.Disk.seen disk.old) reading.now → Only (D.Disk.seen disk.old) (D.Disk.may_leave disk.old)
-        → Keeps D.Disk.seen D.Disk.may_leave (texts_of reading.now.texts.items) disk.new reading.now.length reading.now.digest) }
-    ensures crash { IsReading (D.Disk.seen disk.old) reading.now → Only (D.Disk.seen disk.old) (D.Disk.may_leave disk.old)
-        → (c : List ℕ) → D.Disk.may_leave disk.new c → Stands (texts_of reading.now.texts.items) c }
+// Writes a closed mark after the texts that were read, and syncs it, unless there is one.
+fn write_closed_mark<D: Disk>(disk: &mut D, reading: &Reading) -> Result<(), StoreFault>
+    ensures persists { OnOk result (IsDecodedFrom (D.Disk.seen disk.old) reading.now → Only (D.Disk.seen disk.old) (D.Disk.may_leave disk.old)
+        → Persists D.Disk.seen D.Disk.may_leave (texts_of reading.now.texts.items) disk.new reading.now.length reading.now.digest) }
+    ensures crash { IsDecodedFrom (D.Disk.seen disk.old) reading.now → Only (D.Disk.seen disk.old) (D.Disk.may_leave disk.old)
+        → (c : List ℕ) → D.Disk.may_leave disk.new c → DecodesTo (texts_of reading.now.texts.items) c }
     ensures clean { D.Disk.is_clean disk.new ≡ D.Disk.is_clean disk.old }
     ensures long { Only (D.Disk.seen disk.old) (D.Disk.may_leave disk.old)
         → StaysWithin D.Disk.seen D.Disk.may_leave (reading.now.length + 1) disk.old disk.new }
     ensures usable { OnOk result (IsTrue (D.Disk.is_usable disk.old) → IsTrue (D.Disk.is_usable disk.new)) }
-    ensures fault { IfErr result (IsOfClosing (D.Disk.is_usable disk.old)) }
+    ensures fault { IfErr result (IsMarkFault (D.Disk.is_usable disk.old)) }
     ensures faults { CountsFaults result (D.Disk.faults disk.old) (D.Disk.faults disk.new) }
 {
     if reading.is_closed {
@@ -41,20 +41,21 @@ fn close<D: Disk>(disk: &mut D, reading: &Reading) -> Result<(), StoreFault>
     if !disk.may_be_used() {
         return Err(StoreFault::Failed);
     }
-    settle(disk, reading.length, &[CLOSED])?;
+    write_and_sync(disk, reading.length, &[CLOSED_MARK])?;
     Ok(())
 }
 
 impl<D: Disk> Log<D> {
-    ghost use Rattle.camp_store.specs.Logs.{IsOfPutting, IsOpen, KeepsTexts, LeavesAfter, disk_of, end_with, may_go_on};
+    ghost use Rattle.camp_store.specs.Logs.{IsAppendFault, IsAppendable, LeavesLog, PersistsTexts, disk_of, end_offset, may_append};
 
-    /// Opens a file that was read. Writes at most a closed mark after the texts, if there is none.
+    /// Opens a file that was read. If there is no closed mark after the texts, writes one; changes nothing
+    /// else.
     pub fn open(mut disk: D, reading: &Reading) -> Result<Log<D>, (StoreFault, D)>
-        ensures keeps { IfOk result (λ log. IsReading (D.Disk.seen disk) reading.now → Only (D.Disk.seen disk) (D.Disk.may_leave disk)
-            → KeepsTexts D.Disk.seen D.Disk.may_leave (texts_of reading.now.texts.items) log) }
+        ensures persists { IfOk result (λ log. IsDecodedFrom (D.Disk.seen disk) reading.now → Only (D.Disk.seen disk) (D.Disk.may_leave disk)
+            → PersistsTexts D.Disk.seen D.Disk.may_leave (texts_of reading.now.texts.items) log) }
         // A crash leaves the same texts.
-        ensures crash { IfErr result (λ e. IsReading (D.Disk.seen disk) reading.now → Only (D.Disk.seen disk) (D.Disk.may_leave disk)
-            → (c : List ℕ) → D.Disk.may_leave e.1 c → Stands (texts_of reading.now.texts.items) c) }
+        ensures crash { IfErr result (λ e. IsDecodedFrom (D.Disk.seen disk) reading.now → Only (D.Disk.seen disk) (D.Disk.may_leave disk)
+            → (c : List ℕ) → D.Disk.may_leave e.1 c → DecodesTo (texts_of reading.now.texts.items) c) }
         ensures clean { IfOk result (λ log. D.Disk.is_clean (disk_of log) ≡ D.Disk.is_clean disk) }
         ensures clean_err { IfErr result (λ e. D.Disk.is_clean e.1 ≡ D.Disk.is_clean disk) }
         // The file gets no longer than the texts and the mark.
@@ -62,13 +63,13 @@ impl<D: Disk> Log<D> {
             → StaysWithin D.Disk.seen D.Disk.may_leave (reading.now.length + 1) disk (disk_of log)) }
         ensures long_err { IfErr result (λ e. Only (D.Disk.seen disk) (D.Disk.may_leave disk)
             → StaysWithin D.Disk.seen D.Disk.may_leave (reading.now.length + 1) disk e.1) }
-        ensures usable { IfOk result (λ log. IsTrue (D.Disk.is_usable disk) → IsOpen D.Disk.is_usable log) }
-        ensures fault { IfErr result (λ e. IsOfClosing (D.Disk.is_usable disk) e.0) }
-        ensures goes_on { IfOk result (λ log. IsTrue (may_go_on log)) }
+        ensures usable { IfOk result (λ log. IsTrue (D.Disk.is_usable disk) → IsAppendable D.Disk.is_usable log) }
+        ensures fault { IfErr result (λ e. IsMarkFault (D.Disk.is_usable disk) e.0) }
+        ensures may_append { IfOk result (λ log. IsTrue (may_append log)) }
         ensures faults { IfOk result (λ log. D.Disk.faults (disk_of log) ≡ D.Disk.faults disk) }
         ensures faults_err { IfErr result (λ e. ReportsFault e.0 (D.Disk.faults disk) (D.Disk.faults e.1)) }
     {
-        match close(&mut disk, reading) {
+        match write_closed_mark(&mut disk, reading) {
             Ok(()) => Ok(Log {
                 disk,
                 length: reading.length,
@@ -85,9 +86,9 @@ impl<D: Disk> Log<D> {
         &self.disk
     }
 
-    /// True if no append has failed at the disk. If one has, `put` returns `Failed` from then on.
-    pub fn may_go_on(&self) -> bool
-        ensures { result ≡ may_go_on self.now }
+    /// True if no append has failed at the disk. If one has, `append` returns `Failed` from then on.
+    pub fn may_append(&self) -> bool
+        ensures { result ≡ may_append self.now }
     {
         !self.has_failed
     }
@@ -99,22 +100,22 @@ impl<D: Disk> Log<D> {
         disk
     }
 
-    /// Appends texts as a whole. `Ok` acknowledges them: from then on each crash leaves a file that has them.
-    /// If memory runs out or a text is too long, nothing has changed; after any other `Err` nothing more is
-    /// persisted here, and the file has to be opened again.
-    pub fn put(&mut self, alloc: Global, texts: &[Vec<u8>]) -> Result<(), StoreFault>
-        ensures acknowledged { (old : List (List ℕ)) → KeepsTexts D.Disk.seen D.Disk.may_leave old self.old
-            → OnOk result (KeepsTexts D.Disk.seen D.Disk.may_leave (old ++ texts_of texts.now) self.new) }
+    /// Appends a batch of texts as a whole. `Ok` acknowledges them: from then on each crash leaves a file
+    /// that has them. If memory runs out or a text is too long, nothing has changed; after any other `Err`
+    /// nothing more is persisted here, and the file has to be opened again.
+    pub fn append(&mut self, alloc: Global, texts: &[Vec<u8>]) -> Result<(), StoreFault>
+        ensures acknowledged { (old : List (List ℕ)) → PersistsTexts D.Disk.seen D.Disk.may_leave old self.old
+            → OnOk result (PersistsTexts D.Disk.seen D.Disk.may_leave (old ++ texts_of texts.now) self.new) }
         // A crash leaves the texts from before the call, with all of the new ones or none.
-        ensures crash { (old : List (List ℕ)) → KeepsTexts D.Disk.seen D.Disk.may_leave old self.old
+        ensures crash { (old : List (List ℕ)) → PersistsTexts D.Disk.seen D.Disk.may_leave old self.old
             → (c : List ℕ) → D.Disk.may_leave (disk_of self.new) c → IsBeforeOrAfter old (texts_of texts.now) c }
-        ensures long { (old : List (List ℕ)) → KeepsTexts D.Disk.seen D.Disk.may_leave old self.old
-            → StaysWithin D.Disk.seen D.Disk.may_leave (end_with self.old (texts_of texts.now)) (disk_of self.old) (disk_of self.new) }
+        ensures long { (old : List (List ℕ)) → PersistsTexts D.Disk.seen D.Disk.may_leave old self.old
+            → StaysWithin D.Disk.seen D.Disk.may_leave (end_offset self.old (texts_of texts.now)) (disk_of self.old) (disk_of self.new) }
         ensures clean { D.Disk.is_clean (disk_of self.new) ≡ D.Disk.is_clean (disk_of self.old) }
-        ensures fault { IfErr result (λ why. LeavesAfter why self.old self.new) }
-        ensures refused { IfErr result (IsOfPutting D.Disk.is_usable self.old (texts_of texts.now)) }
-        ensures stopped { may_go_on self.old ≡ false → (result ≡ Err fault.Failed) × (self.new ≡ self.old) }
-        ensures goes_on { OnOk result (IsTrue (may_go_on self.new)) }
+        ensures fault { IfErr result (λ why. LeavesLog why self.old self.new) }
+        ensures refused { IfErr result (IsAppendFault D.Disk.is_usable self.old (texts_of texts.now)) }
+        ensures stopped { may_append self.old ≡ false → (result ≡ Err fault.Failed) × (self.new ≡ self.old) }
+        ensures may_append { OnOk result (IsTrue (may_append self.new)) }
         ensures faults { CountsFaults result (D.Disk.faults (disk_of self.old)) (D.Disk.faults (disk_of self.new)) }
     {
         if self.has_failed || !self.disk.may_be_used() {
@@ -148,17 +149,17 @@ fn write_batch<D: Disk>(disk: &mut D, at: usize, bytes: &[u8]) -> io::Result<()>
     requires some { 1 < length bytes.now }
     requires room { at + length bytes.now < 2 ^ 64 }
     ensures acknowledged { (old new : List (List ℕ)) (digest : List ℕ) → IsBatch digest new bytes.now
-        → Keeps D.Disk.seen D.Disk.may_leave old disk.old at digest
-        → OnOk result (Keeps D.Disk.seen D.Disk.may_leave (old ++ new) disk.new (at + length bytes.now - 1) (chain digest new)) }
+        → Persists D.Disk.seen D.Disk.may_leave old disk.old at digest
+        → OnOk result (Persists D.Disk.seen D.Disk.may_leave (old ++ new) disk.new (at + length bytes.now - 1) (chain digest new)) }
     ensures crash { (old new : List (List ℕ)) (digest : List ℕ) → IsBatch digest new bytes.now
-        → Keeps D.Disk.seen D.Disk.may_leave old disk.old at digest
+        → Persists D.Disk.seen D.Disk.may_leave old disk.old at digest
         → (c : List ℕ) → D.Disk.may_leave disk.new c → IsBeforeOrAfter old new c }
     ensures long { Only (D.Disk.seen disk.old) (D.Disk.may_leave disk.old)
         → StaysWithin D.Disk.seen D.Disk.may_leave (at + length bytes.now) disk.old disk.new }
     ensures clean { D.Disk.is_clean disk.new ≡ D.Disk.is_clean disk.old }
     ensures faults { CountsFault result (D.Disk.faults disk.old) (D.Disk.faults disk.new) }
 {
-    settle(disk, at + 1, &bytes[1..])?;
-    settle(disk, at, &[OPEN])?;
+    write_and_sync(disk, at + 1, &bytes[1..])?;
+    write_and_sync(disk, at, &[OPEN_MARK])?;
     Ok(())
 }

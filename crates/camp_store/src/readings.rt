@@ -2,7 +2,7 @@
 ghost use Rattle.std.specs.Prelude.{◌≡◌, List, ℕ, IfErr, IfOk, IsTrue};
 ghost use Rattle.sqlite_disk.specs.Disk.{Only};
 ghost use Rattle.camp_store.specs.Counting.{CountsFaults};
-ghost use Rattle.camp_store.specs.Readings.{IsDamage, IsOfBytes, IsOfReading, IsReading};
+ghost use Rattle.camp_store.specs.Readings.{IsDecodeFault, IsDecodedFrom, IsReadingFault, ReportsDamage};
 
 use crate::blocks::{Digest, first_block, is_closed, is_end};
 use crate::disks::read_all;
@@ -14,10 +14,10 @@ use std::alloc::Global;
 pub struct Reading {
     /// The texts, in order.
     pub texts: Vec<Vec<u8>>,
-    /// Bytes of their blocks.
+    /// The length of their blocks in bytes.
     pub length: usize,
-    /// Bytes after the blocks.
-    pub behind: usize,
+    /// The number of bytes after the blocks.
+    pub tail_len: usize,
     /// The digest of the texts.
     pub digest: Digest,
     /// True if there is a closed mark after the blocks.
@@ -26,9 +26,9 @@ pub struct Reading {
 
 /// Decodes the texts of a file.
 pub fn decode(alloc: Global, bytes: &[u8]) -> Result<Reading, StoreFault>
-    ensures reading { IfOk result (λ reading. IsReading bytes.now reading) }
-    ensures damaged { IfErr result (λ why. IsDamage why bytes.now) }
-    ensures fault { IfErr result IsOfBytes }
+    ensures reading { IfOk result (λ reading. IsDecodedFrom bytes.now reading) }
+    ensures damaged { IfErr result (λ why. ReportsDamage why bytes.now) }
+    ensures fault { IfErr result IsDecodeFault }
 {
     let mut texts = Vec::new(alloc);
     let mut digest = [0; 32];
@@ -50,7 +50,7 @@ pub fn decode(alloc: Global, bytes: &[u8]) -> Result<Reading, StoreFault>
     Ok(Reading {
         texts,
         length: bytes.len() - rest.len(),
-        behind: rest.len(),
+        tail_len: rest.len(),
         digest,
         is_closed: is_closed(rest),
     })
@@ -59,12 +59,12 @@ pub fn decode(alloc: Global, bytes: &[u8]) -> Result<Reading, StoreFault>
 /// Reads and decodes a file. Changes nothing, and what it has read is durable.
 pub fn read<D: Disk>(alloc: Global, disk: &mut D) -> Result<Reading, StoreFault>
     ensures usable { IfOk result (λ _. IsTrue (D.Disk.is_usable disk.new)) }
-    ensures reading { IfOk result (λ reading. IsTrue (D.Disk.is_clean disk.new) → IsReading (D.Disk.seen disk.old) reading) }
-    ensures damaged { IsTrue (D.Disk.is_clean disk.new) → IfErr result (λ why. IsDamage why (D.Disk.seen disk.old)) }
-    ensures fault { IfErr result (IsOfReading (D.Disk.is_usable disk.old)) }
+    ensures reading { IfOk result (λ reading. IsTrue (D.Disk.is_clean disk.new) → IsDecodedFrom (D.Disk.seen disk.old) reading) }
+    ensures damaged { IsTrue (D.Disk.is_clean disk.new) → IfErr result (λ why. ReportsDamage why (D.Disk.seen disk.old)) }
+    ensures fault { IfErr result (IsReadingFault (D.Disk.is_usable disk.old)) }
     ensures seen { D.Disk.seen disk.new ≡ D.Disk.seen disk.old }
     ensures crash { (c : List ℕ) → D.Disk.may_leave disk.new c → D.Disk.may_leave disk.old c }
-    ensures settled { IfOk result (λ _. Only (D.Disk.seen disk.new) (D.Disk.may_leave disk.new)) }
+    ensures synced { IfOk result (λ _. Only (D.Disk.seen disk.new) (D.Disk.may_leave disk.new)) }
     ensures clean { IsTrue (D.Disk.is_clean disk.new) → IsTrue (D.Disk.is_clean disk.old) }
     ensures faults { CountsFaults result (D.Disk.faults disk.old) (D.Disk.faults disk.new) }
 {

@@ -2,7 +2,7 @@ use Rattle.std.proofs.Common.{◌∙◌, None, length, ap}
 use Rattle.camp_kept.proofs.Committing.{counted}
 use Rattle.camp_kept.proofs.Listing.{legal_alone}
 use Rattle.camp_kept.proofs.Refusing.{refused_at_once}
-use Rattle.camp_kept.specs.Accepting.{stored_of}
+use Rattle.camp_kept.specs.Accepting.{accepted_of}
 use Rattle.camp_store.specs.Logs.{texts_of}
 use Rattle.camp_kept.proofs.inspections.inspect.Goals as goal
 
@@ -10,17 +10,17 @@ pub returns-in_err-reading-clause-refused : goal.returns-in_err-reading-clause-r
 returns-in_err-reading-clause-refused c =
     refused_at_once None c.from_residual.result c.in_err-reading.field-0.0 c.args.bytes.now c.from_residual.ensures.1 c.in_err-reading.ensures.fault c.in_err-reading.ensures.damaged
 
-pub returns-clause-told : goal.returns-clause-told
-returns-clause-told c = record {
-  stored = stored_of c.in_ok-book.book;
+pub returns-clause-decoded : goal.returns-clause-decoded
+returns-clause-decoded c = record {
+  stored = accepted_of c.in_ok-book.book;
   accepted = record {
-    range = c.in_ok-book.ensures.recalled.range;
-    can = c.in_ok-book.ensures.recalled.can;
+    range = c.in_ok-book.ensures.recovered.range;
+    can = c.in_ok-book.ensures.recovered.can;
     legal = legal_alone c.in_ok-book.book c.history.ensures.first c.history.ensures.legal;
   };
   texts = texts_of c.in_ok-reading.reading.texts.items;
-  are = c.in_ok-book.ensures.recalled.are;
+  are = c.in_ok-book.ensures.recovered.are;
   count_is = ap length c.history.ensures.value ∙ counted c.in_ok-book.book.calls;
   digest_is = c.in_ok-reading.ensures.reading.digest_is;
-  leaves = c.left_out.ensures c.args.bytes.now c.in_ok-reading.ensures.reading c.in_ok-book.ensures.short;
+  leaves = c.torn_tail_len.ensures c.args.bytes.now c.in_ok-reading.ensures.reading c.in_ok-book.ensures.short;
 }
