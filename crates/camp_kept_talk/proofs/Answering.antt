@@ -3,7 +3,7 @@ use Rattle.std.proofs.Common.{◌≡◌, ◌⊎◌, inl, inr, ℕ, Bool, true, f
 use Rattle.std.proofs.KnownBytes.{Appends-kept, Appends-trans, Consumes-trans}
 use Rattle.std.proofs.lemmas.Grind.{flat_map-append}
 use Rattle.std.specs.Io.KnownBytes.{Appends, Consumes, IsAtEnd, Keeps, append_known}
-use Rattle.camp_kept.specs.Accepting.{IsFrontOf, Stored}
+use Rattle.camp_kept.specs.Accepting.{IsPrefixOf, StoreContents}
 use Rattle.camp_kept_talk.specs.Promises.{AnswersLast, Told, durable_at_least}
 use Rattle.camp_talk.specs.Answers.{Answers, Standing}
 use Rattle.camp_talk.specs.Cutting.{IsCommand, IsLeft}
@@ -93,8 +93,8 @@ unfolding holds_kept
 holds_kept_all a b old now after first last holds keeps = refl
 
 -- calls that include those that were durable, and those that are accepted, whatever was answered
-pub at_least_front : {Answered : Type 0} (answered : List Answered) (durable accepted calls : Stored) → IsFrontOf durable calls → IsFrontOf accepted calls
-    → IsFrontOf (durable_at_least answered durable accepted) calls
+pub at_least_front : {Answered : Type 0} (answered : List Answered) (durable accepted calls : StoreContents) → IsPrefixOf durable calls → IsPrefixOf accepted calls
+    → IsPrefixOf (durable_at_least answered durable accepted) calls
 at_least_front [] durable accepted calls still since = still
 at_least_front (one ∷ others) durable accepted calls still since = since
 

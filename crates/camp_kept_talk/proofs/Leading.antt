@@ -2,19 +2,19 @@
 use Rattle.std.proofs.Common.{◌≡◌, ◌⊎◌, inl, inr, ℕ, Bool, true, false, List, [], ◌++◌, IsErrAnd, Option, Some, OnSome, Result, Ok, Err, MatchResult, refl, sym, ◌∙◌, ap, subst}
 use Rattle.std.proofs.KnownBytes.{Appends-nil, Consumes-nil}
 use Rattle.std.specs.Io.KnownBytes.{Appends, Consumes, IsAtEnd, Keeps, append_known}
-use Rattle.camp_kept.specs.Accepting.{IsFrontOf, Stored, stored_of}
-use Rattle.camp_kept.specs.Keeping.{AreFirst, Holds, IsStoreOf, LeavesKept, stored_in, store_texts}
-use Rattle.camp_kept.specs.declared.faults.KeptFault.{KeptFault}
-use Rattle.camp_kept.specs.declared.kept.Kept.{Kept}
-use Rattle.camp_kept.proofs.Committing.{holds_leave}
+use Rattle.camp_kept.specs.Accepting.{IsPrefixOf, StoreContents, accepted_of}
+use Rattle.camp_kept.specs.Persisting.{AreFirstCalls, IsStoreOf, LeavesRepository, PersistsCalls, accepted_by, store_texts}
+use Rattle.camp_kept.specs.declared.faults.PersistenceFault.{PersistenceFault}
+use Rattle.camp_kept.specs.declared.repositories.DurableRepository.{DurableRepository}
+use Rattle.camp_kept.proofs.Committing.{crash_leaves_store}
 use Rattle.camp_kept_talk.specs.Going.{AllAreKept, Comes, ComesSettled, Goes, IsUnwritten, MayBeKept, Settles, Stays, StopsSo, StopsUnkept, StopsUnwritten, TalksKept, as_told}
 use Rattle.camp_kept_talk.specs.Promises.{Promises, Told, durable_at_least}
 use Rattle.camp_kept_talk.specs.declared.faults.StoredFault.{StoredFault}
 use Rattle.camp_kept_talk.specs.declared.faults.StoredFault.TheVariants as fault
 use Rattle.camp_kept_talk.proofs.Answering.{IsLast, appends_behind, appends_known, appends_some, at_least_front, holds_kept, holds_kept_all, holds_trans, keeps_behind, last_read, told_more, told_of, told_of_all, told_trans, told_unseen}
 use Rattle.camp_kept_talk.proofs.Stopping.{leaves_durable}
-use Rattle.camp_kept.proofs.Parts.{part_grows, part_self, part_through}
-use Rattle.camp_store.specs.Logs.{KeepsTexts}
+use Rattle.camp_kept.proofs.Prefixes.{prefix_grows, prefix_self, prefix_through}
+use Rattle.camp_store.specs.Logs.{PersistsTexts}
 use Rattle.camp_talk.specs.Accounts.{Account}
 use Rattle.camp_talk.specs.Answers.{Answers, Standing}
 use Rattle.camp_talk.specs.Entries.{Entries}
@@ -34,9 +34,9 @@ at history lines cause = record { history = history; lines = lines; cause = caus
 reads_none : (b : Option (List ℕ)) → ReadsWithin b b
 reads_none b = record { some = []; reads = Consumes-nil b; is = tt }
 
-module _ {D : Type 0} (seen : D → List ℕ) (may_leave : D → List ℕ → Type 0) (durable : Stored) (a old now : Option (List ℕ)) (first : Standing) (kept : Kept D) where
+module _ {D : Type 0} (seen : D → List ℕ) (may_leave : D → List ℕ → Type 0) (durable : StoreContents) (a old now : Option (List ℕ)) (first : Standing) (kept : DurableRepository D) where
   -- at first
-  pub begins : (lines : ℕ) (cause : Account) → AreFirst durable kept → Holds seen may_leave durable kept
+  pub begins : (lines : ℕ) (cause : Account) → AreFirstCalls durable kept → PersistsCalls seen may_leave durable kept
       → Goes seen may_leave durable a a now now [] (at kept.book lines cause) (at kept.book lines cause) kept
   begins lines cause front holds = record {
     middle = at kept.book lines cause;
@@ -45,8 +45,8 @@ module _ {D : Type 0} (seen : D → List ℕ) (may_leave : D → List ℕ → Ty
     behind = begins_so a (Some []) (at kept.book lines cause);
     calls = durable;
     holds = holds;
-    still = part_self durable;
-    since = part_self durable;
+    still = prefix_self durable;
+    since = prefix_self durable;
     within = front;
   }
 
@@ -69,30 +69,30 @@ module _ {D : Type 0} (seen : D → List ℕ) (may_leave : D → List ℕ → Ty
     }
 
     -- everything is persisted and written, and the conversation continues
-    pub settled : (new : Kept D) (after : Option (List ℕ)) (rest : List ℕ) → AllAreKept seen may_leave kept new → rest ≡ [] → Appends now after held → new.book ≡ kept.book
+    pub settled : (new : DurableRepository D) (after : Option (List ℕ)) (rest : List ℕ) → AllAreKept seen may_leave kept new → rest ≡ [] → Appends now after held → new.book ≡ kept.book
         → Goes seen may_leave durable a b old after rest first (at new.book lines cause) new
     settled new after rest keeps none grows same = record {
       middle = at new.book lines cause;
       left = b;
       told = told_now;
       behind = subst (λ (l : List ℕ). HoldsSo b b (Some []) (Some l) (at new.book lines cause) (at new.book lines cause)) (sym none) (begins_so b (Some []) (at new.book lines cause));
-      calls = stored_in kept;
+      calls = accepted_by kept;
       holds = keeps goes.calls goes.within goes.holds;
-      still = part_through goes.still goes.within;
-      since = at_least_front told_now.said durable (stored_in new) (stored_in kept) (part_through goes.still goes.within)
-          (subst (λ (h : Entries). IsFrontOf (stored_of h) (stored_in kept)) (sym same) (part_self (stored_in kept)));
-      within = subst (λ (h : Entries). IsFrontOf (stored_in kept) (stored_of h)) (sym same) (part_self (stored_in kept));
+      still = prefix_through goes.still goes.within;
+      since = at_least_front told_now.said durable (accepted_by new) (accepted_by kept) (prefix_through goes.still goes.within)
+          (subst (λ (h : Entries). IsPrefixOf (accepted_of h) (accepted_by kept)) (sym same) (prefix_self (accepted_by kept)));
+      within = subst (λ (h : Entries). IsPrefixOf (accepted_by kept) (accepted_of h)) (sym same) (prefix_self (accepted_by kept));
     }
       where
         told_now : HoldsSo a b old after first (at new.book lines cause)
         told_now = subst (λ (h : Entries). HoldsSo a b old after first (at h lines cause)) (sym same)
             (holds_trans a goes.left b old now after held first goes.middle (at kept.book lines cause) goes.told goes.behind grows)
 
-    module _ (c : Option (List ℕ)) (more : List ℕ) (new : Kept D) (same_log : new.log ≡ kept.log) (same_count : new.count ≡ kept.count) where
-      holds_still : Holds seen may_leave goes.calls new
+    module _ (c : Option (List ℕ)) (more : List ℕ) (new : DurableRepository D) (same_log : new.log ≡ kept.log) (same_count : new.durable_count ≡ kept.durable_count) where
+      holds_still : PersistsCalls seen may_leave goes.calls new
       holds_still = record {
         accepted = goes.holds.accepted;
-        keeps = subst (λ log. KeepsTexts seen may_leave (store_texts goes.calls) log) (sym same_log) goes.holds.keeps;
+        texts = subst (λ log. PersistsTexts seen may_leave (store_texts goes.calls) log) (sym same_log) goes.holds.texts;
         count_is = same_count ∙ goes.holds.count_is;
       }
 
@@ -108,7 +108,7 @@ module _ {D : Type 0} (seen : D → List ℕ) (may_leave : D → List ℕ → Ty
         holds = holds_still;
         still = goes.still;
         since = goes.since;
-        within = part_through goes.within (part_grows kept.book new.book (answers_grow (at kept.book lines cause) _ _ (at new.book after learnt) turns.answers));
+        within = prefix_through goes.within (prefix_grows kept.book new.book (answers_grow (at kept.book lines cause) _ _ (at new.book after learnt) turns.answers));
       }
 
       -- one was answered, perhaps in part
@@ -126,7 +126,7 @@ module _ {D : Type 0} (seen : D → List ℕ) (may_leave : D → List ℕ → Ty
         holds = holds_still;
         still = goes.still;
         since = goes.since;
-        within = part_through goes.within (part_grows kept.book next.history (answers_grow (at kept.book lines cause) said.command said.answer next answers));
+        within = prefix_through goes.within (prefix_grows kept.book next.history (answers_grow (at kept.book lines cause) said.command said.answer next answers));
         is = is;
       }
 
@@ -200,29 +200,29 @@ module _ {D : Type 0} (seen : D → List ℕ) (may_leave : D → List ℕ → Ty
       })
 
   module _ (come : Option (List ℕ)) (held : List ℕ) (stays : Stays seen may_leave durable a come old now held first kept) where
-    within_book : IsFrontOf stays.calls (stored_in kept)
-    within_book = subst (λ (h : Entries). IsFrontOf stays.calls (stored_of h)) stays.is stays.within
+    within_book : IsPrefixOf stays.calls (accepted_by kept)
+    within_book = subst (λ (h : Entries). IsPrefixOf stays.calls (accepted_of h)) stays.is stays.within
 
     -- all accepted calls are durable
-    pub holds_all : (new : Kept D) → new.book ≡ kept.book → AllAreKept seen may_leave kept new → Holds seen may_leave (stored_in new) new
+    pub holds_all : (new : DurableRepository D) → new.book ≡ kept.book → AllAreKept seen may_leave kept new → PersistsCalls seen may_leave (accepted_by new) new
     holds_all new same keeps =
-        subst (λ (h : Entries). Holds seen may_leave (stored_of h) new) (sym same) (keeps stays.calls within_book stays.holds)
+        subst (λ (h : Entries). PersistsCalls seen may_leave (accepted_of h) new) (sym same) (keeps stays.calls within_book stays.holds)
 
-    module _ (new : Kept D) (after : Option (List ℕ)) (same : new.book ≡ kept.book) where
+    module _ (new : DurableRepository D) (after : Option (List ℕ)) (same : new.book ≡ kept.book) where
       -- all calls are persisted, and a prefix of the buffered answers is written
       promised_all : AllAreKept seen may_leave kept new → AppendsSome now after held → Promises seen may_leave durable a old after first new
       promised_all keeps grows =
-          let all : Holds seen may_leave (stored_in kept) new = keeps stays.calls within_book stays.holds in
+          let all : PersistsCalls seen may_leave (accepted_by kept) new = keeps stays.calls within_book stays.holds in
           record {
             left = stays.right;
             last = stays.last;
             told = told_now;
             crash = λ c left. (
-              stored_in kept,
-              holds_leave seen may_leave (stored_in kept) new all c left,
-              at_least_front (told_now.said ++ told_now.more) durable (stored_of stays.last.history) (stored_in kept) (part_through stays.still within_book)
-                  (subst (λ (h : Entries). IsFrontOf (stored_of h) (stored_in kept)) (sym stays.is) (part_self (stored_in kept))),
-              subst (λ (h : Entries). IsFrontOf (stored_in kept) (stored_of h)) (sym same) (part_self (stored_in kept)),
+              accepted_by kept,
+              crash_leaves_store seen may_leave (accepted_by kept) new all c left,
+              at_least_front (told_now.said ++ told_now.more) durable (accepted_of stays.last.history) (accepted_by kept) (prefix_through stays.still within_book)
+                  (subst (λ (h : Entries). IsPrefixOf (accepted_of h) (accepted_by kept)) (sym stays.is) (prefix_self (accepted_by kept))),
+              subst (λ (h : Entries). IsPrefixOf (accepted_by kept) (accepted_of h)) (sym same) (prefix_self (accepted_by kept)),
             );
           }
         where
@@ -230,20 +230,20 @@ module _ {D : Type 0} (seen : D → List ℕ) (may_leave : D → List ℕ → Ty
           told_now = told_trans a stays.left stays.right old now after held first stays.middle stays.last stays.told stays.behind grows
 
       -- it is not known whether they are persisted
-      left_some : (answered : List Exchange) → IsFrontOf (durable_at_least answered durable (stored_of stays.middle.history)) stays.calls
-          → (c : List ℕ) → IsStoreOf stays.calls c ⊎ IsStoreOf (stored_in kept) c
-          → (calls : Stored) × IsStoreOf calls c × IsFrontOf (durable_at_least answered durable (stored_of stays.middle.history)) calls × IsFrontOf calls (stored_in new)
+      left_some : (answered : List Exchange) → IsPrefixOf (durable_at_least answered durable (accepted_of stays.middle.history)) stays.calls
+          → (c : List ℕ) → IsStoreOf stays.calls c ⊎ IsStoreOf (accepted_by kept) c
+          → (calls : StoreContents) × IsStoreOf calls c × IsPrefixOf (durable_at_least answered durable (accepted_of stays.middle.history)) calls × IsPrefixOf calls (accepted_by new)
       left_some answered since c (inl some) = (
         stays.calls,
         some,
         since,
-        subst (λ (h : Entries). IsFrontOf stays.calls (stored_of h)) (sym same) within_book,
+        subst (λ (h : Entries). IsPrefixOf stays.calls (accepted_of h)) (sym same) within_book,
       )
       left_some answered since c (inr all) = (
-        stored_in kept,
+        accepted_by kept,
         all,
-        part_through since within_book,
-        subst (λ (h : Entries). IsFrontOf (stored_in kept) (stored_of h)) (sym same) (part_self (stored_in kept)),
+        prefix_through since within_book,
+        subst (λ (h : Entries). IsPrefixOf (accepted_by kept) (accepted_of h)) (sym same) (prefix_self (accepted_by kept)),
       )
 
       -- and nothing is written
@@ -256,7 +256,7 @@ module _ {D : Type 0} (seen : D → List ℕ) (may_leave : D → List ℕ → Ty
             last = stays.middle;
             told = told_now;
             crash = λ c left. left_some (told_now.said ++ told_now.more)
-                (subst (λ (l : List Exchange). IsFrontOf (durable_at_least l durable (stored_of stays.middle.history)) stays.calls)
+                (subst (λ (l : List Exchange). IsPrefixOf (durable_at_least l durable (accepted_of stays.middle.history)) stays.calls)
                 (sym (told_of_all a stays.left old after first stays.middle told_so ∙ holds_kept_all a stays.left old now after first stays.middle stays.told keeps)) stays.since)
                 c (may stays.calls within_book stays.holds c left);
           }
@@ -276,7 +276,7 @@ module _ {D : Type 0} (seen : D → List ℕ) (may_leave : D → List ℕ → Ty
       }
 
       -- if the calls can't be persisted
-      unkept : (why : KeptFault) → MayBeKept seen may_leave kept new → Keeps now after → LeavesKept why kept new
+      unkept : (why : PersistenceFault) → MayBeKept seen may_leave kept new → Keeps now after → LeavesRepository why kept new
           → StopsUnkept seen may_leave durable a come old after first why new
       unkept why may keeps leaves = record {
         middle = stays.middle;
@@ -289,28 +289,28 @@ module _ {D : Type 0} (seen : D → List ℕ) (may_leave : D → List ℕ → Ty
         is = last_is;
         calls = stays.calls;
         still = stays.still;
-        since = subst (λ (l : List Exchange). IsFrontOf (durable_at_least l durable (stored_of stays.middle.history)) stays.calls)
+        since = subst (λ (l : List Exchange). IsPrefixOf (durable_at_least l durable (accepted_of stays.middle.history)) stays.calls)
             (sym (holds_kept_all a stays.left old now after first stays.middle stays.told keeps)) stays.since;
-        within = subst (λ (h : Entries). IsFrontOf stays.calls (stored_of h)) (sym same) within_book;
-        crash = λ c left. subst (λ (h : Entries). IsStoreOf stays.calls c ⊎ IsStoreOf (stored_of h) c) (sym same) (may stays.calls within_book stays.holds c left);
+        within = subst (λ (h : Entries). IsPrefixOf stays.calls (accepted_of h)) (sym same) within_book;
+        crash = λ c left. subst (λ (h : Entries). IsStoreOf stays.calls c ⊎ IsStoreOf (accepted_of h) c) (sym same) (may stays.calls within_book stays.holds c left);
         leaves = leaves_durable seen may_leave why stays.calls kept new stays.holds leaves;
       }
 
       -- if everything is flushed
       pub promised : (done : Unit {0}) (rest : List ℕ) → Settles seen may_leave kept held now (Ok done) new rest after
-          → Promises seen may_leave durable a old after first new × Holds seen may_leave (stored_in new) new
+          → Promises seen may_leave durable a old after first new × PersistsCalls seen may_leave (accepted_by new) new
       promised done rest settles = (promised_all settles.0 (appends_some now after held settles.2), holds_all new same settles.0)
 
       -- if flushing fails
       pub stops_so : (why : StoredFault) (rest : List ℕ) → Settles seen may_leave kept held now (Err why) new rest after
           → StopsSo seen may_leave durable a come old after first why new
-      stops_so (fault.Kept why) rest settles = (promised_some settles.0 settles.1, unkept why settles.0 settles.1 settles.2)
+      stops_so (fault.Commit why) rest settles = (promised_some settles.0 settles.1, unkept why settles.0 settles.1 settles.2)
       stops_so (fault.Talk why) rest settles = absurd settles
       stops_so (fault.Frame why) rest settles = absurd settles
       stops_so (fault.Write error) rest settles = (promised_all settles.0 settles.1, unwritten settles.0 settles.1)
 
 -- whatever the result of flushing
-pub settled_first : {D : Type 0} (seen : D → List ℕ) (may_leave : D → List ℕ → Type 0) (durable : Stored) (a b old now after : Option (List ℕ)) (first : Standing) (kept new : Kept D) (held rest : List ℕ) (lines : ℕ) (cause : Account)
+pub settled_first : {D : Type 0} (seen : D → List ℕ) (may_leave : D → List ℕ → Type 0) (durable : StoreContents) (a b old now after : Option (List ℕ)) (first : Standing) (kept new : DurableRepository D) (held rest : List ℕ) (lines : ℕ) (cause : Account)
     (result : Result (Unit {0}) StoredFault) → Goes seen may_leave durable a b old now held first (at kept.book lines cause) kept → Settles seen may_leave kept held now result new rest after
     → new.book ≡ kept.book → ComesSettled seen may_leave durable a b old after rest first (at new.book lines cause) result new
 settled_first seen may_leave durable a b old now after first kept new held rest lines cause (Ok done) goes settles same =
@@ -319,9 +319,9 @@ settled_first seen may_leave durable a b old now after first kept new held rest 
     stops_so seen may_leave durable a old now first kept b held (stays seen may_leave durable a old now first kept b held lines cause goes) new after same why rest settles
 
 -- whatever the result of a step after which everything is flushed
-module _ {D : Type 0} (seen : D → List ℕ) (may_leave : D → List ℕ → Type 0) (durable : Stored) (a b d old now : Option (List ℕ)) (first : Standing) (kept asked : Kept D) (held more : List ℕ) (lines after : ℕ) (cause learnt : Account)
-    (goes : Goes seen may_leave durable a b old now held first (at kept.book lines cause) kept) (same_log : asked.log ≡ kept.log) (same_count : asked.count ≡ kept.count)
-    (new : Kept D) (same : new.book ≡ asked.book) (rest : List ℕ) (then : Option (List ℕ)) where
+module _ {D : Type 0} (seen : D → List ℕ) (may_leave : D → List ℕ → Type 0) (durable : StoreContents) (a b d old now : Option (List ℕ)) (first : Standing) (kept asked : DurableRepository D) (held more : List ℕ) (lines after : ℕ) (cause learnt : Account)
+    (goes : Goes seen may_leave durable a b old now held first (at kept.book lines cause) kept) (same_log : asked.log ≡ kept.log) (same_count : asked.durable_count ≡ kept.durable_count)
+    (new : DurableRepository D) (same : new.book ≡ asked.book) (rest : List ℕ) (then : Option (List ℕ)) where
   module _ (turns : Turns b d (Some held) (Some more) (at kept.book lines cause) (Ok false) (at asked.book after learnt)) where
     stays_ended : Stays seen may_leave durable a d old now more first asked
     stays_ended = ended seen may_leave durable a old now first kept b held lines cause goes d more asked same_log same_count after learnt turns
@@ -363,18 +363,18 @@ module _ {D : Type 0} (seen : D → List ℕ) (may_leave : D → List ℕ → Ty
     comes_unsettled why settles = stops_so seen may_leave durable a old now first asked d more stays_stopped new then same why rest settles
 
 -- the rest of a commit
-pub settles_so : {D : Type 0} (seen : D → List ℕ) (may_leave : D → List ℕ → Type 0) (old new : Kept D) (held now : List ℕ) (before after : Option (List ℕ)) (result : Result (Unit {0}) StoredFault)
+pub settles_so : {D : Type 0} (seen : D → List ℕ) (may_leave : D → List ℕ → Type 0) (old new : DurableRepository D) (held now : List ℕ) (before after : Option (List ℕ)) (result : Result (Unit {0}) StoredFault)
     → AllAreKept seen may_leave old new
     → MatchResult result (λ done. (now ≡ []) × Appends before after held) (λ why. IsUnwritten why × AppendsSome before after held)
     → Settles seen may_leave old held before result new now after
 settles_so seen may_leave old new held now before after (Ok done) keeps goes = (keeps, goes.0, goes.1)
-settles_so seen may_leave old new held now before after (Err (fault.Kept why)) keeps goes = absurd goes.0
+settles_so seen may_leave old new held now before after (Err (fault.Commit why)) keeps goes = absurd goes.0
 settles_so seen may_leave old new held now before after (Err (fault.Talk why)) keeps goes = absurd goes.0
 settles_so seen may_leave old new held now before after (Err (fault.Frame why)) keeps goes = absurd goes.0
 settles_so seen may_leave old new held now before after (Err (fault.Write error)) keeps goes = (keeps, goes.1)
 
 -- the fault of a turn is the fault of the conversation
-pub talk_stops : {D : Type 0} (seen : D → List ℕ) (may_leave : D → List ℕ → Type 0) (durable : Stored) (a d old now : Option (List ℕ)) (first : Standing) (kept : Kept D)
+pub talk_stops : {D : Type 0} (seen : D → List ℕ) (may_leave : D → List ℕ → Type 0) (durable : StoreContents) (a d old now : Option (List ℕ)) (first : Standing) (kept : DurableRepository D)
     (result : Result (Unit {0}) StoredFault) (why : StoredFault) → IsErrAnd result (λ fault. fault ≡ why) → StopsSo seen may_leave durable a d old now first why kept
     → TalksKept seen may_leave durable a d old now first result kept
 talk_stops seen may_leave durable a d old now first kept (Ok done) why is stops = absurd is

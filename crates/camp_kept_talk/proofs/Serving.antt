@@ -2,19 +2,19 @@
 use Rattle.std.proofs.Common.{◌≡◌, ◌⊎◌, ℕ, Bool, true, false, List, [], ◌∷◌, Option, Some, Result, Ok, Err, map, sym, ◌∙◌, ap, subst}
 use Rattle.std.proofs.KnownBytes.{Keeps-refl}
 use Rattle.std.specs.Io.KnownBytes.{Appends}
-use Rattle.camp_kept.specs.Accepting.{Stored, stored_of}
-use Rattle.camp_kept.specs.Keeping.{AreFirst, Holds, IsStoreOf, LeavesKept, stored_in, store_texts}
-use Rattle.camp_kept.specs.declared.faults.KeptFault.{KeptFault}
-use Rattle.camp_kept.specs.declared.kept.Kept.{Kept}
+use Rattle.camp_kept.specs.Accepting.{StoreContents, accepted_of}
+use Rattle.camp_kept.specs.Persisting.{AreFirstCalls, IsStoreOf, LeavesRepository, PersistsCalls, accepted_by, store_texts}
+use Rattle.camp_kept.specs.declared.faults.PersistenceFault.{PersistenceFault}
+use Rattle.camp_kept.specs.declared.repositories.DurableRepository.{DurableRepository}
 use Rattle.camp_kept_talk.specs.Going.{AllAreKept, MayBeKept, Settles}
-use Rattle.camp_kept.proofs.Parts.{part_grows, part_self, part_through}
+use Rattle.camp_kept.proofs.Prefixes.{prefix_grows, prefix_self, prefix_through}
 use Rattle.camp_kept_talk.specs.Laws.{KeptRequestsAreServedInTurn}
 use Rattle.camp_kept_talk.specs.Promises.{durable_at_least}
 use Rattle.camp_kept_talk.specs.Serving.{KeptCounter, MayKeep, ServesHeld, ServesKept, ServesKeptAt, ServesUnkept, frame_told}
 use Rattle.camp_kept_talk.proofs.Stopping.{leaves_durable}
 use Rattle.camp_kept_talk.specs.declared.faults.StoredFault.{StoredFault}
 use Rattle.camp_kept_talk.specs.declared.faults.StoredFault.TheVariants as fault
-use Rattle.camp_store.specs.Logs.{KeepsTexts}
+use Rattle.camp_store.specs.Logs.{PersistsTexts}
 use Rattle.camp_talk.specs.Dialogues.{Leads}
 use Rattle.camp_talk.specs.Entries.{Entries}
 use Rattle.camp_talk.specs.Frames.{Counter, Serves, ServesAt}
@@ -24,13 +24,13 @@ use Rattle.camp_talk.specs.declared.frames.FrameFault.{FrameFault}
 use Rattle.camp_talk.proofs.Growing.{serves_grow}
 use Rattle.camp_talk.proofs.Served.{served_in_turn as served_so}
 
-module _ {D : Type 0} (seen : D → List ℕ) (may_leave : D → List ℕ → Type 0) (durable : Stored) (a b before : Option (List ℕ)) (old asked : Kept D) (held : List ℕ)
-    (same_log : asked.log ≡ old.log) (same_count : asked.count ≡ old.count) (front : AreFirst durable old) (holds : Holds seen may_leave durable old) where
+module _ {D : Type 0} (seen : D → List ℕ) (may_leave : D → List ℕ → Type 0) (durable : StoreContents) (a b before : Option (List ℕ)) (old asked : DurableRepository D) (held : List ℕ)
+    (same_log : asked.log ≡ old.log) (same_count : asked.durable_count ≡ old.durable_count) (front : AreFirstCalls durable old) (holds : PersistsCalls seen may_leave durable old) where
   -- asking the book does not change the disk
-  holds_asked : Holds seen may_leave durable asked
+  holds_asked : PersistsCalls seen may_leave durable asked
   holds_asked = record {
     accepted = holds.accepted;
-    keeps = subst (λ log. KeepsTexts seen may_leave (store_texts durable) log) (sym same_log) holds.keeps;
+    texts = subst (λ log. PersistsTexts seen may_leave (store_texts durable) log) (sym same_log) holds.texts;
     count_is = same_count ∙ holds.count_is;
   }
 
@@ -39,13 +39,13 @@ module _ {D : Type 0} (seen : D → List ℕ) (may_leave : D → List ℕ → Ty
   serves_no_more serves = (record { reads = serves.reads; ends = serves.ends; keeps = Keeps-refl before; same = serves.same }, holds_asked)
 
   module _ (came : Result Bool FrameFault) (serves : Serves a b (Some []) (Some held) old.book came asked.book) where
-    first_asked : AreFirst durable asked
-    first_asked = part_through front (part_grows old.book asked.book (serves_grow a b (Some []) (Some held) old.book came asked.book serves))
+    first_asked : AreFirstCalls durable asked
+    first_asked = prefix_through front (prefix_grows old.book asked.book (serves_grow a b (Some []) (Some held) old.book came asked.book serves))
 
-    module _ (new : Kept D) (same : new.book ≡ asked.book) where
-      pub all_kept : AllAreKept seen may_leave asked new → Holds seen may_leave (stored_in new) new
+    module _ (new : DurableRepository D) (same : new.book ≡ asked.book) where
+      pub all_kept : AllAreKept seen may_leave asked new → PersistsCalls seen may_leave (accepted_by new) new
       all_kept keeps =
-          subst (λ (h : Entries). Holds seen may_leave (stored_of h) new) (sym same) (keeps durable first_asked holds_asked)
+          subst (λ (h : Entries). PersistsCalls seen may_leave (accepted_of h) new) (sym same) (keeps durable first_asked holds_asked)
 
       held_so : ServesHeld a b old.book came new.book
       held_so = record { frame = held; serves = subst (λ (h : Entries). Serves a b (Some []) (Some held) old.book came h) (sym same) serves }
@@ -55,10 +55,10 @@ module _ {D : Type 0} (seen : D → List ℕ) (may_leave : D → List ℕ → Ty
 
       pub may_keep : MayBeKept seen may_leave asked new → MayKeep seen may_leave durable new
       may_keep may c leaves =
-          subst (λ (h : Entries). IsStoreOf durable c ⊎ IsStoreOf (stored_of h) c) (sym same)
+          subst (λ (h : Entries). IsStoreOf durable c ⊎ IsStoreOf (accepted_of h) c) (sym same)
           (may durable first_asked holds_asked c leaves)
 
-  module _ (serves : Serves a b (Some []) (Some held) old.book (Ok true) asked.book) (new : Kept D) (same : new.book ≡ asked.book) (now : List ℕ) (after : Option (List ℕ)) where
+  module _ (serves : Serves a b (Some []) (Some held) old.book (Ok true) asked.book) (new : DurableRepository D) (same : new.book ≡ asked.book) (now : List ℕ) (after : Option (List ℕ)) where
     -- an answer is written after the calls
     pub serves_so : (done : Unit {0}) → Settles seen may_leave asked held before (Ok done) new now after → ServesKept seen may_leave a b before after durable old (Ok true) new
     serves_so done settles = (
@@ -74,7 +74,7 @@ module _ {D : Type 0} (seen : D → List ℕ) (may_leave : D → List ℕ → Ty
 
     -- or not
     pub serves_not : (why : StoredFault) → Settles seen may_leave asked held before (Err why) new now after → ServesKept seen may_leave a b before after durable old (Err why) new
-    serves_not (fault.Kept why) settles = (
+    serves_not (fault.Commit why) settles = (
       settles.1,
       unkept (Ok true) serves new same,
       may_keep (Ok true) serves new same settles.0,
@@ -93,7 +93,7 @@ module _ {D : Type 0} (seen : D → List ℕ) (may_leave : D → List ℕ → Ty
       all_kept (Ok true) serves new same settles.0,
     )
 
-  module _ (why : FrameFault) (serves : Serves a b (Some []) (Some held) old.book (Err why) asked.book) (new : Kept D) (same : new.book ≡ asked.book) where
+  module _ (why : FrameFault) (serves : Serves a b (Some []) (Some held) old.book (Err why) asked.book) (new : DurableRepository D) (same : new.book ≡ asked.book) where
     -- a request could not be served
     pub serves_none : (told : FrameFault) → told ≡ frame_told why → AllAreKept seen may_leave asked new → ServesKept seen may_leave a b before before durable old (Err (fault.Frame told)) new
     serves_none told told_is keeps = (
@@ -102,8 +102,8 @@ module _ {D : Type 0} (seen : D → List ℕ) (may_leave : D → List ℕ → Ty
       all_kept (Err why) serves new same keeps,
     )
 
-    pub serves_unkept : (told : KeptFault) → MayBeKept seen may_leave asked new → LeavesKept told asked new
-        → ServesKept seen may_leave a b before before durable old (Err (fault.Kept told)) new
+    pub serves_unkept : (told : PersistenceFault) → MayBeKept seen may_leave asked new → LeavesRepository told asked new
+        → ServesKept seen may_leave a b before before durable old (Err (fault.Commit told)) new
     serves_unkept told may leaves = (
       Keeps-refl before,
       unkept (Err why) serves new same,
@@ -117,22 +117,22 @@ counter place = record { left = place.left; held = place.held; history = place.k
 
 -- once a request was served, all calls are durable
 all_served : {D : Type 0} (seen : D → List ℕ) (may_leave : D → List ℕ → Type 0) (next last : KeptCounter D) (over : List (KeptCounter D))
-    → Leads (ServesKeptAt seen may_leave) next over last → Holds seen may_leave (durable_at_least over (stored_in next.kept) (stored_in last.kept)) last.kept
-    → Holds seen may_leave (stored_in last.kept) last.kept
+    → Leads (ServesKeptAt seen may_leave) next over last → PersistsCalls seen may_leave (durable_at_least over (accepted_by next.kept) (accepted_by last.kept)) last.kept
+    → PersistsCalls seen may_leave (accepted_by last.kept) last.kept
 all_served {D = D} seen may_leave next last [] leads holds =
-    subst (λ (place : KeptCounter D). Holds seen may_leave (stored_in place.kept) last.kept) leads holds
+    subst (λ (place : KeptCounter D). PersistsCalls seen may_leave (accepted_by place.kept) last.kept) leads holds
 all_served seen may_leave next last (one ∷ over) leads holds = holds
 
 -- steps over a durable repository are steps, and persist all calls
-turns_too : {D : Type 0} (seen : D → List ℕ) (may_leave : D → List ℕ → Type 0) (durable : Stored) (first last : KeptCounter D) (over : List (KeptCounter D))
-    → AreFirst durable first.kept → Holds seen may_leave durable first.kept → Leads (ServesKeptAt seen may_leave) first over last
+turns_too : {D : Type 0} (seen : D → List ℕ) (may_leave : D → List ℕ → Type 0) (durable : StoreContents) (first last : KeptCounter D) (over : List (KeptCounter D))
+    → AreFirstCalls durable first.kept → PersistsCalls seen may_leave durable first.kept → Leads (ServesKeptAt seen may_leave) first over last
     → Leads ServesAt (counter first) (map counter over) (counter last)
-    × Holds seen may_leave (durable_at_least over durable (stored_in last.kept)) last.kept
+    × PersistsCalls seen may_leave (durable_at_least over durable (accepted_by last.kept)) last.kept
 turns_too {D = D} seen may_leave durable first last [] front holds leads =
-    (ap counter leads, subst (λ (place : KeptCounter D). Holds seen may_leave durable place.kept) leads holds)
+    (ap counter leads, subst (λ (place : KeptCounter D). PersistsCalls seen may_leave durable place.kept) leads holds)
 turns_too seen may_leave durable first last (next ∷ over) front holds leads =
     let one = leads.0 durable front holds in
-    let others = turns_too seen may_leave (stored_in next.kept) next last over (part_self (stored_in next.kept)) one.1 leads.1 in
+    let others = turns_too seen may_leave (accepted_by next.kept) next last over (prefix_self (accepted_by next.kept)) one.1 leads.1 in
     ((one.0, others.0), all_served seen may_leave next last over leads.1 others.1)
 
 pub served_in_turn : {D : Type 0} (seen : D → List ℕ) (may_leave : D → List ℕ → Type 0) → KeptRequestsAreServedInTurn seen may_leave

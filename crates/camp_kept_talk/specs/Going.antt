@@ -1,10 +1,10 @@
 -- How a conversation continues whose answers are buffered.
 use Rattle.std.specs.Prelude.{◌≡◌, ◌⊎◌, ℕ, Bool, true, false, List, [], Option, None, Some, Result, Ok, Err}
 use Rattle.std.specs.Io.KnownBytes.{Appends, Keeps}
-use Rattle.camp_kept.specs.Accepting.{IsFrontOf, Stored, stored_of}
-use Rattle.camp_kept.specs.Keeping.{AreFirst, Holds, IsStoreOf, LeavesKept, stored_in, disk_in}
-use Rattle.camp_kept.specs.declared.faults.KeptFault.{KeptFault}
-use Rattle.camp_kept.specs.declared.kept.Kept.{Kept}
+use Rattle.camp_kept.specs.Accepting.{IsPrefixOf, StoreContents, accepted_of}
+use Rattle.camp_kept.specs.Persisting.{AreFirstCalls, IsStoreOf, LeavesRepository, PersistsCalls, accepted_by, disk_in}
+use Rattle.camp_kept.specs.declared.faults.PersistenceFault.{PersistenceFault}
+use Rattle.camp_kept.specs.declared.repositories.DurableRepository.{DurableRepository}
 use Rattle.camp_kept_talk.specs.Promises.{Promises, Told, durable_at_least}
 use Rattle.camp_kept_talk.specs.Stopping.{LeavesDurable}
 use Rattle.camp_kept_talk.specs.declared.faults.StoredFault.{StoredFault}
@@ -18,7 +18,7 @@ use Rattle.camp_talk.specs.declared.faults.TalkFault.TheVariants.{Internal, Memo
 
 -- the writer failed
 abbrev pub IsUnwritten : StoredFault → Type 0
-IsUnwritten (fault.Kept why) = ⊥
+IsUnwritten (fault.Commit why) = ⊥
 IsUnwritten (fault.Talk why) = ⊥
 IsUnwritten (fault.Frame why) = ⊥
 IsUnwritten (fault.Write error) = Unit {0}
@@ -33,14 +33,14 @@ as_told Internal = Internal
 
 -- what a step writes that can't persist the calls: all answers buffered before it, or nothing
 abbrev pub WritesAllOrNone : List ℕ → Option (List ℕ) → Option (List ℕ) → StoredFault → Type 0
-WritesAllOrNone held before after (fault.Kept why) = Appends before after held ⊎ Keeps before after
+WritesAllOrNone held before after (fault.Commit why) = Appends before after held ⊎ Keeps before after
 WritesAllOrNone held before after (fault.Talk why) = Unit {0}
 WritesAllOrNone held before after (fault.Frame why) = Unit {0}
 WritesAllOrNone held before after (fault.Write error) = Unit {0}
 
 -- if the calls can't be persisted nothing is written
 abbrev pub WritesNone : Option (List ℕ) → Option (List ℕ) → StoredFault → Type 0
-WritesNone before after (fault.Kept why) = Keeps before after
+WritesNone before after (fault.Commit why) = Keeps before after
 WritesNone before after (fault.Talk why) = Unit {0}
 WritesNone before after (fault.Frame why) = Unit {0}
 WritesNone before after (fault.Write error) = Unit {0}
@@ -53,25 +53,25 @@ pub record EndsTold (remaining rest old now : Option (List ℕ)) (first : Standi
 
 module _ {D : Type 0} (seen : D → List ℕ) (may_leave : D → List ℕ → Type 0) where
   -- all accepted calls are durable, if some prefix of them was
-  abbrev pub AllAreKept : Kept D → Kept D → Type 0
-  AllAreKept old new = (calls : Stored) → AreFirst calls old → Holds seen may_leave calls old → Holds seen may_leave (stored_in old) new
+  abbrev pub AllAreKept : DurableRepository D → DurableRepository D → Type 0
+  AllAreKept old new = (calls : StoreContents) → AreFirstCalls calls old → PersistsCalls seen may_leave calls old → PersistsCalls seen may_leave (accepted_by old) new
 
   -- a crash leaves a store of those that were durable, or of all
-  abbrev pub MayBeKept : Kept D → Kept D → Type 0
+  abbrev pub MayBeKept : DurableRepository D → DurableRepository D → Type 0
   MayBeKept old new =
-      (calls : Stored) → AreFirst calls old → Holds seen may_leave calls old → (c : List ℕ) → may_leave (disk_in new) c → IsStoreOf calls c ⊎ IsStoreOf (stored_in old) c
+      (calls : StoreContents) → AreFirstCalls calls old → PersistsCalls seen may_leave calls old → (c : List ℕ) → may_leave (disk_in new) c → IsStoreOf calls c ⊎ IsStoreOf (accepted_by old) c
 
   -- buffered answers are flushed to a writer. Ok: all calls are persisted, and then exactly the answers were written.
-  -- Kept: nothing was written, and the repository is as the commit left it. Write: all calls are persisted, and a
+  -- Commit: nothing was written, and the repository is as the commit left it. Write: all calls are persisted, and a
   -- prefix of the answers was written.
-  abbrev pub Settles : Kept D → List ℕ → Option (List ℕ) → Result (Unit {0}) StoredFault → Kept D → List ℕ → Option (List ℕ) → Type 0
+  abbrev pub Settles : DurableRepository D → List ℕ → Option (List ℕ) → Result (Unit {0}) StoredFault → DurableRepository D → List ℕ → Option (List ℕ) → Type 0
   Settles old held before (Ok done) new now after = AllAreKept old new × (now ≡ []) × Appends before after held
-  Settles old held before (Err (fault.Kept why)) new now after = MayBeKept old new × Keeps before after × LeavesKept why old new
+  Settles old held before (Err (fault.Commit why)) new now after = MayBeKept old new × Keeps before after × LeavesRepository why old new
   Settles old held before (Err (fault.Talk why)) new now after = ⊥
   Settles old held before (Err (fault.Frame why)) new now after = ⊥
   Settles old held before (Err (fault.Write error)) new now after = AllAreKept old new × AppendsSome before after held
 
-  module _ (durable : Stored) (remaining rest old now : Option (List ℕ)) (held : List ℕ) (first last : Standing) (kept : Kept D) where
+  module _ (durable : StoreContents) (remaining rest old now : Option (List ℕ)) (held : List ℕ) (first last : Standing) (kept : DurableRepository D) where
     -- where these first calls were durable: commands were answered up to a place, and all calls that were accepted
     -- until then are durable; before the first answer the same calls are, at least. The answers to the commands after
     -- the place are buffered.
@@ -80,15 +80,15 @@ module _ {D : Type 0} (seen : D → List ℕ) (may_leave : D → List ℕ → Ty
       pub left : Option (List ℕ)
       pub told : HoldsSo remaining left old now first middle
       pub behind : HoldsSo left rest (Some []) (Some held) middle last
-      pub calls : Stored
-      pub holds : Holds seen may_leave calls kept
-      pub still : IsFrontOf durable calls
-      pub since : IsFrontOf (durable_at_least told.said durable (stored_of middle.history)) calls
-      pub within : IsFrontOf calls (stored_of last.history)
+      pub calls : StoreContents
+      pub holds : PersistsCalls seen may_leave calls kept
+      pub still : IsPrefixOf durable calls
+      pub since : IsPrefixOf (durable_at_least told.said durable (accepted_of middle.history)) calls
+      pub within : IsPrefixOf calls (accepted_of last.history)
 
   -- a step has failed: the answers to the commands after the place are buffered, perhaps in part; and no more was
   -- read after them than a command has
-  pub record Stays (durable : Stored) (remaining rest old now : Option (List ℕ)) (held : List ℕ) (first : Standing) (kept : Kept D) : Type 0 where
+  pub record Stays (durable : StoreContents) (remaining rest old now : Option (List ℕ)) (held : List ℕ) (first : Standing) (kept : DurableRepository D) : Type 0 where
     pub middle : Standing
     pub last : Standing
     pub left : Option (List ℕ)
@@ -96,11 +96,11 @@ module _ {D : Type 0} (seen : D → List ℕ) (may_leave : D → List ℕ → Ty
     pub told : HoldsSo remaining left old now first middle
     pub behind : Told left right (Some []) (Some held) middle last
     pub reads : ReadsWithin right rest
-    pub calls : Stored
-    pub holds : Holds seen may_leave calls kept
-    pub still : IsFrontOf durable calls
-    pub since : IsFrontOf (durable_at_least told.said durable (stored_of middle.history)) calls
-    pub within : IsFrontOf calls (stored_of last.history)
+    pub calls : StoreContents
+    pub holds : PersistsCalls seen may_leave calls kept
+    pub still : IsPrefixOf durable calls
+    pub since : IsPrefixOf (durable_at_least told.said durable (accepted_of middle.history)) calls
+    pub within : IsPrefixOf calls (accepted_of last.history)
     pub is : last.history ≡ kept.book
 
   -- the calls could not be persisted: commands were answered up to a place, and all of their answers were written;
@@ -108,7 +108,7 @@ module _ {D : Type 0} (seen : D → List ℕ) (may_leave : D → List ℕ → Ty
   -- accepted calls are those of all these commands. Whatever a crash leaves is a store of some prefix of them, the
   -- same each time, with all those up to the place, or at least those that were durable at first; or it is a store of
   -- all. Either no commit is possible any more, or that prefix is durable.
-  pub record StopsUnkept (durable : Stored) (remaining rest old now : Option (List ℕ)) (first : Standing) (why : KeptFault) (kept : Kept D) : Type 0 where
+  pub record StopsUnkept (durable : StoreContents) (remaining rest old now : Option (List ℕ)) (first : Standing) (why : PersistenceFault) (kept : DurableRepository D) : Type 0 where
     pub middle : Standing
     pub last : Standing
     pub left : Option (List ℕ)
@@ -117,53 +117,53 @@ module _ {D : Type 0} (seen : D → List ℕ) (may_leave : D → List ℕ → Ty
     pub behind : Told left right None None middle last
     pub reads : ReadsWithin right rest
     pub is : last.history ≡ kept.book
-    pub calls : Stored
-    pub still : IsFrontOf durable calls
-    pub since : IsFrontOf (durable_at_least told.said durable (stored_of middle.history)) calls
-    pub within : IsFrontOf calls (stored_in kept)
-    pub crash : (c : List ℕ) → may_leave (disk_in kept) c → IsStoreOf calls c ⊎ IsStoreOf (stored_in kept) c
+    pub calls : StoreContents
+    pub still : IsPrefixOf durable calls
+    pub since : IsPrefixOf (durable_at_least told.said durable (accepted_of middle.history)) calls
+    pub within : IsPrefixOf calls (accepted_by kept)
+    pub crash : (c : List ℕ) → may_leave (disk_in kept) c → IsStoreOf calls c ⊎ IsStoreOf (accepted_by kept) c
     pub leaves : LeavesDurable seen may_leave why calls kept
 
   -- the writer failed: commands were answered, and a prefix of their answers was written; no more was read than a
   -- further one has. The accepted calls are those of all these commands, and they are durable.
-  pub record StopsUnwritten (remaining rest old now : Option (List ℕ)) (first : Standing) (kept : Kept D) : Type 0 where
+  pub record StopsUnwritten (remaining rest old now : Option (List ℕ)) (first : Standing) (kept : DurableRepository D) : Type 0 where
     pub last : Standing
     pub right : Option (List ℕ)
     pub told : Told remaining right old now first last
     pub reads : ReadsWithin right rest
     pub is : last.history ≡ kept.book
-    pub holds : Holds seen may_leave (stored_in kept) kept
+    pub holds : PersistsCalls seen may_leave (accepted_by kept) kept
 
-  -- a conversation has stopped at a fault: the promise holds. Kept: the calls could not be persisted. Write: the
+  -- a conversation has stopped at a fault: the promise holds. Commit: the calls could not be persisted. Write: the
   -- writer failed. Talk: a step had this fault, all accepted calls are durable, and all answers were written before
   -- it.
-  abbrev pub StopsSo : Stored → (remaining rest old now : Option (List ℕ)) → Standing → StoredFault → Kept D → Type 0
-  StopsSo durable remaining rest old now first (fault.Kept why) kept =
+  abbrev pub StopsSo : StoreContents → (remaining rest old now : Option (List ℕ)) → Standing → StoredFault → DurableRepository D → Type 0
+  StopsSo durable remaining rest old now first (fault.Commit why) kept =
       Promises seen may_leave durable remaining old now first kept × StopsUnkept durable remaining rest old now first why kept
   StopsSo durable remaining rest old now first (fault.Talk why) kept =
       Promises seen may_leave durable remaining old now first kept × EndsTold remaining rest old now first why kept.book
-      × Holds seen may_leave (stored_in kept) kept
+      × PersistsCalls seen may_leave (accepted_by kept) kept
   StopsSo durable remaining rest old now first (fault.Frame why) kept = ⊥
   StopsSo durable remaining rest old now first (fault.Write error) kept =
       Promises seen may_leave durable remaining old now first kept × StopsUnwritten remaining rest old now first kept
 
   -- the result of a step
-  abbrev pub Comes : Stored → (remaining rest old now : Option (List ℕ)) → List ℕ → Standing → Standing → Result Bool StoredFault → Kept D → Type 0
+  abbrev pub Comes : StoreContents → (remaining rest old now : Option (List ℕ)) → List ℕ → Standing → Standing → Result Bool StoredFault → DurableRepository D → Type 0
   Comes durable remaining rest old now held first last (Ok true) kept = Goes durable remaining rest old now held first last kept
   Comes durable remaining rest old now held first last (Ok false) kept =
       Promises seen may_leave durable remaining old now first kept × EndsSo remaining rest old now first (Ok false) last.history
-      × Holds seen may_leave (stored_in kept) kept
+      × PersistsCalls seen may_leave (accepted_by kept) kept
   Comes durable remaining rest old now held first last (Err why) kept = StopsSo durable remaining rest old now first why kept
 
   -- the result of flushing
-  abbrev pub ComesSettled : Stored → (remaining rest old now : Option (List ℕ)) → List ℕ → Standing → Standing → Result (Unit {0}) StoredFault → Kept D → Type 0
+  abbrev pub ComesSettled : StoreContents → (remaining rest old now : Option (List ℕ)) → List ℕ → Standing → Standing → Result (Unit {0}) StoredFault → DurableRepository D → Type 0
   ComesSettled durable remaining rest old now held first last (Ok done) kept = Goes durable remaining rest old now held first last kept
   ComesSettled durable remaining rest old now held first last (Err why) kept = StopsSo durable remaining rest old now first why kept
 
   -- a conversation over a repository of which these first calls are durable, from its start: the promise holds. After
   -- Ok it was held to its end, and all accepted calls are durable.
-  abbrev pub TalksKept : Stored → (remaining rest old now : Option (List ℕ)) → Standing → Result (Unit {0}) StoredFault → Kept D → Type 0
+  abbrev pub TalksKept : StoreContents → (remaining rest old now : Option (List ℕ)) → Standing → Result (Unit {0}) StoredFault → DurableRepository D → Type 0
   TalksKept durable remaining rest old now first (Ok done) kept =
       Promises seen may_leave durable remaining old now first kept × EndsSo remaining rest old now first (Ok false) kept.book
-      × Holds seen may_leave (stored_in kept) kept
+      × PersistsCalls seen may_leave (accepted_by kept) kept
   TalksKept durable remaining rest old now first (Err why) kept = StopsSo durable remaining rest old now first why kept

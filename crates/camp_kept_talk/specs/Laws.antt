@@ -1,7 +1,7 @@
 -- The law of requests over a durable repository.
 use Rattle.std.specs.Prelude.{ℕ, List}
-use Rattle.camp_kept.specs.Accepting.{Stored}
-use Rattle.camp_kept.specs.Keeping.{AreFirst, Holds, stored_in}
+use Rattle.camp_kept.specs.Accepting.{StoreContents}
+use Rattle.camp_kept.specs.Persisting.{AreFirstCalls, PersistsCalls, accepted_by}
 use Rattle.camp_kept_talk.specs.Promises.{durable_at_least}
 use Rattle.camp_kept_talk.specs.Serving.{KeptCounter, ServesKeptAt}
 use Rattle.camp_talk.specs.Dialogues.{Leads}
@@ -11,7 +11,7 @@ use Rattle.camp_talk.specs.Frames.{ServesInTurn}
 -- each the answer after those before it; and then, if a request was served, all accepted calls are durable
 abbrev pub KeptRequestsAreServedInTurn : {D : Type 0} → (D → List ℕ) → (D → List ℕ → Type 0) → Type 0
 KeptRequestsAreServedInTurn {D = D} seen may_leave =
-    (durable : Stored) (first last : KeptCounter D) (over : List (KeptCounter D)) → AreFirst durable first.kept → Holds seen may_leave durable first.kept
+    (durable : StoreContents) (first last : KeptCounter D) (over : List (KeptCounter D)) → AreFirstCalls durable first.kept → PersistsCalls seen may_leave durable first.kept
     → Leads (ServesKeptAt seen may_leave) first over last
     → ServesInTurn first.left last.left first.held last.held first.kept.book last.kept.book
-    × Holds seen may_leave (durable_at_least over durable (stored_in last.kept)) last.kept
+    × PersistsCalls seen may_leave (durable_at_least over durable (accepted_by last.kept)) last.kept

@@ -2,9 +2,9 @@
 use Rattle.std.specs.Prelude.{◌≡◌, ◌⊎◌, ℕ, List, [], ◌∷◌, ◌++◌, Option, OnSome}
 use Rattle.std.specs.List.{flat_map}
 use Rattle.std.specs.Io.KnownBytes.{Consumes, IsAtEnd}
-use Rattle.camp_kept.specs.Accepting.{IsFrontOf, Stored, stored_of}
-use Rattle.camp_kept.specs.Keeping.{IsStoreOf, stored_in, disk_in}
-use Rattle.camp_kept.specs.declared.kept.Kept.{Kept}
+use Rattle.camp_kept.specs.Accepting.{IsPrefixOf, StoreContents, accepted_of}
+use Rattle.camp_kept.specs.Persisting.{IsStoreOf, accepted_by, disk_in}
+use Rattle.camp_kept.specs.declared.repositories.DurableRepository.{DurableRepository}
 use Rattle.camp_talk.specs.Answers.{Answers, Standing}
 use Rattle.camp_talk.specs.Cutting.{IsCommand, IsLeft}
 use Rattle.camp_talk.specs.Talks.{AppendsSome, Exchange, Follow}
@@ -29,7 +29,7 @@ pub record Told (remaining left old new : Option (List ℕ)) (first last : Stand
 
 -- the calls that are durable at least: before anything was answered those that were durable at first, and after that
 -- all that were accepted until then
-abbrev pub durable_at_least : {Answered : Type 0} → List Answered → Stored → Stored → Stored
+abbrev pub durable_at_least : {Answered : Type 0} → List Answered → StoreContents → StoreContents → StoreContents
 durable_at_least [] durable accepted = durable
 durable_at_least (answered ∷ others) durable accepted = accepted
 
@@ -38,10 +38,10 @@ module _ {D : Type 0} (seen : D → List ℕ) (may_leave : D → List ℕ → Ty
   -- where these first calls were durable: nothing but answers to commands was written; and whatever a crash leaves is
   -- a store of a prefix of the accepted calls. It includes those that were durable and, once a command was answered,
   -- all that were accepted up to the last of these commands.
-  pub record Promises (durable : Stored) (remaining old new : Option (List ℕ)) (first : Standing) (kept : Kept D) : Type 0 where
+  pub record Promises (durable : StoreContents) (remaining old new : Option (List ℕ)) (first : Standing) (kept : DurableRepository D) : Type 0 where
     pub left : Option (List ℕ)
     pub last : Standing
     pub told : Told remaining left old new first last
     pub crash : (c : List ℕ) → may_leave (disk_in kept) c
-        → (calls : Stored) × IsStoreOf calls c × IsFrontOf (durable_at_least (told.said ++ told.more) durable (stored_of last.history)) calls
-        × IsFrontOf calls (stored_in kept)
+        → (calls : StoreContents) × IsStoreOf calls c × IsPrefixOf (durable_at_least (told.said ++ told.more) durable (accepted_of last.history)) calls
+        × IsPrefixOf calls (accepted_by kept)

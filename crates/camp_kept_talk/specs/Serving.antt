@@ -1,9 +1,9 @@
 -- Requests in frames over a durable repository: each is a batch.
 use Rattle.std.specs.Prelude.{◌≡◌, ◌⊎◌, ℕ, Bool, true, false, List, [], Option, Some, Result, Ok, Err}
 use Rattle.std.specs.Io.KnownBytes.{Keeps}
-use Rattle.camp_kept.specs.Accepting.{Stored}
-use Rattle.camp_kept.specs.Keeping.{AreFirst, Holds, IsStoreOf, stored_in, disk_in}
-use Rattle.camp_kept.specs.declared.kept.Kept.{Kept}
+use Rattle.camp_kept.specs.Accepting.{StoreContents}
+use Rattle.camp_kept.specs.Persisting.{AreFirstCalls, IsStoreOf, PersistsCalls, accepted_by, disk_in}
+use Rattle.camp_kept.specs.declared.repositories.DurableRepository.{DurableRepository}
 use Rattle.camp_kept_talk.specs.Going.{as_told}
 use Rattle.camp_kept_talk.specs.Stopping.{LeavesDurable}
 use Rattle.camp_kept_talk.specs.declared.faults.StoredFault.{StoredFault}
@@ -39,30 +39,30 @@ pub record ServesUnkept (remaining rest : Option (List ℕ)) (before after : Ent
 
 module _ {D : Type 0} (seen : D → List ℕ) (may_leave : D → List ℕ → Type 0) where
   -- whatever a crash leaves is a store of the calls that were durable before, or of all
-  abbrev pub MayKeep : Stored → Kept D → Type 0
-  MayKeep durable new = (c : List ℕ) → may_leave (disk_in new) c → IsStoreOf durable c ⊎ IsStoreOf (stored_in new) c
+  abbrev pub MayKeep : StoreContents → DurableRepository D → Type 0
+  MayKeep durable new = (c : List ℕ) → may_leave (disk_in new) c → IsStoreOf durable c ⊎ IsStoreOf (accepted_by new) c
 
   -- the service of one request over a repository of which these first calls are durable. Ok: it is served as over a
-  -- book, and all accepted calls are durable; or there is none, and the same calls are durable. Kept: it was served, or
+  -- book, and all accepted calls are durable; or there is none, and the same calls are durable. Commit: it was served, or
   -- had a fault, and nothing was written; the calls that were not durable before, and those that it asked, are durable
   -- all or not at all. Frame: it had this fault, and nothing was written; all accepted calls are durable. Write: it was
   -- answered, and all accepted calls are durable; a prefix of its answer was written.
-  abbrev pub ServesKept : (remaining rest before after : Option (List ℕ)) → Stored → Kept D → Result Bool StoredFault → Kept D → Type 0
+  abbrev pub ServesKept : (remaining rest before after : Option (List ℕ)) → StoreContents → DurableRepository D → Result Bool StoredFault → DurableRepository D → Type 0
   ServesKept remaining rest before after durable old (Ok true) new =
-      Serves remaining rest before after old.book (Ok true) new.book × Holds seen may_leave (stored_in new) new
+      Serves remaining rest before after old.book (Ok true) new.book × PersistsCalls seen may_leave (accepted_by new) new
   ServesKept remaining rest before after durable old (Ok false) new =
-      Serves remaining rest before after old.book (Ok false) new.book × Holds seen may_leave durable new
-  ServesKept remaining rest before after durable old (Err (fault.Kept why)) new =
+      Serves remaining rest before after old.book (Ok false) new.book × PersistsCalls seen may_leave durable new
+  ServesKept remaining rest before after durable old (Err (fault.Commit why)) new =
       Keeps before after × ServesUnkept remaining rest old.book new.book × MayKeep durable new × LeavesDurable seen may_leave why durable new
   ServesKept remaining rest before after durable old (Err (fault.Talk why)) new = ⊥
   ServesKept remaining rest before after durable old (Err (fault.Frame why)) new =
-      Keeps before after × ServesNone remaining rest old.book why new.book × Holds seen may_leave (stored_in new) new
+      Keeps before after × ServesNone remaining rest old.book why new.book × PersistsCalls seen may_leave (accepted_by new) new
   ServesKept remaining rest before after durable old (Err (fault.Write error)) new =
-      WritesNot remaining rest before after old.book new.book × Holds seen may_leave (stored_in new) new
+      WritesNot remaining rest before after old.book new.book × PersistsCalls seen may_leave (accepted_by new) new
 
 -- a framed conversation over a durable repository: that, a reader and a writer, and the number of requests that were
 -- served
-abbrev pub kept_of : {D R W : Type 0} → FramedStore D R W → Kept D
+abbrev pub kept_of : {D R W : Type 0} → FramedStore D R W → DurableRepository D
 kept_of it = it.kept
 
 abbrev pub reader_of : {D R W : Type 0} → FramedStore D R W → R
@@ -79,10 +79,10 @@ served_of it = it.served
 pub record KeptCounter (D : Type 0) : Type 0 where
   pub left : Option (List ℕ)
   pub held : Option (List ℕ)
-  pub kept : Kept D
+  pub kept : DurableRepository D
 
 -- the service of one request, from one place to another, whichever first calls are durable
 abbrev pub ServesKeptAt : {D : Type 0} → (D → List ℕ) → (D → List ℕ → Type 0) → KeptCounter D → Result Bool StoredFault → KeptCounter D → Type 0
 ServesKeptAt seen may_leave from answer to =
-    (durable : Stored) → AreFirst durable from.kept → Holds seen may_leave durable from.kept
+    (durable : StoreContents) → AreFirstCalls durable from.kept → PersistsCalls seen may_leave durable from.kept
     → ServesKept seen may_leave from.left to.left from.held to.held durable from.kept answer to.kept

@@ -1,44 +1,44 @@
 -- Commits that fail, and a repository after one that has failed at its disk.
 use Rattle.std.specs.Prelude.{◌≡◌, ℕ, false, List, Result, MatchResult}
-use Rattle.camp_kept.specs.Accepting.{Stored}
-use Rattle.camp_kept.specs.Faults.{IsUnkept, ReportsDisk}
-use Rattle.camp_kept.specs.Keeping.{Holds, disk_in, known_in, may_commit}
-use Rattle.camp_kept.specs.declared.faults.KeptFault.{KeptFault}
-use Rattle.camp_kept.specs.declared.faults.KeptFault.TheVariants as kept_fault
-use Rattle.camp_kept.specs.declared.kept.Kept.{Kept}
+use Rattle.camp_kept.specs.Accepting.{StoreContents}
+use Rattle.camp_kept.specs.Faults.{IsCommitFault, ReportsDiskFault}
+use Rattle.camp_kept.specs.Persisting.{PersistsCalls, disk_in, durable_count_in, may_commit}
+use Rattle.camp_kept.specs.declared.faults.PersistenceFault.{PersistenceFault}
+use Rattle.camp_kept.specs.declared.faults.PersistenceFault.TheVariants as kept_fault
+use Rattle.camp_kept.specs.declared.repositories.DurableRepository.{DurableRepository}
 use Rattle.camp_kept_talk.specs.declared.faults.StoredFault.{StoredFault}
 use Rattle.camp_kept_talk.specs.declared.faults.StoredFault.TheVariants as fault
 use Rattle.camp_store.specs.declared.faults.StoreFault.TheVariants as store_fault
 
 module _ {D : Type 0} (seen : D → List ℕ) (may_leave : D → List ℕ → Type 0) where
   -- after a commit that has failed at the disk no other is possible; after any other failure the same calls are durable
-  abbrev pub LeavesDurable : KeptFault → Stored → Kept D → Type 0
+  abbrev pub LeavesDurable : PersistenceFault → StoreContents → DurableRepository D → Type 0
   LeavesDurable (kept_fault.Store (store_fault.Disk error)) durable new = may_commit new ≡ false
-  LeavesDurable (kept_fault.Store store_fault.Memory) durable new = Holds seen may_leave durable new
-  LeavesDurable (kept_fault.Store store_fault.TooLong) durable new = Holds seen may_leave durable new
-  LeavesDurable (kept_fault.Store (store_fault.Damaged texts at)) durable new = Holds seen may_leave durable new
-  LeavesDurable (kept_fault.Store store_fault.Failed) durable new = Holds seen may_leave durable new
-  LeavesDurable kept_fault.Memory durable new = Holds seen may_leave durable new
-  LeavesDurable kept_fault.NoStore durable new = Holds seen may_leave durable new
-  LeavesDurable (kept_fault.Damaged call at) durable new = Holds seen may_leave durable new
-  LeavesDurable (kept_fault.OtherLimits catches branches) durable new = Holds seen may_leave durable new
+  LeavesDurable (kept_fault.Store store_fault.Memory) durable new = PersistsCalls seen may_leave durable new
+  LeavesDurable (kept_fault.Store store_fault.TooLong) durable new = PersistsCalls seen may_leave durable new
+  LeavesDurable (kept_fault.Store (store_fault.Damaged texts at)) durable new = PersistsCalls seen may_leave durable new
+  LeavesDurable (kept_fault.Store store_fault.Failed) durable new = PersistsCalls seen may_leave durable new
+  LeavesDurable kept_fault.Memory durable new = PersistsCalls seen may_leave durable new
+  LeavesDurable kept_fault.NoStore durable new = PersistsCalls seen may_leave durable new
+  LeavesDurable (kept_fault.Damaged call at) durable new = PersistsCalls seen may_leave durable new
+  LeavesDurable (kept_fault.OtherLimits catches branches) durable new = PersistsCalls seen may_leave durable new
 
 -- the fault of a commit after one that has failed at the disk
 abbrev pub stopped_fault : StoredFault
-stopped_fault = fault.Kept (kept_fault.Store store_fault.Failed)
+stopped_fault = fault.Commit (kept_fault.Store store_fault.Failed)
 
 -- a repository that commits no more is left so: its disk is not used, and nothing is written; the book may have more
 -- calls
-pub record StaysStopped {D W : Type 0} (old new : Kept D) (before after : W) : Type 0 where
+pub record StaysStopped {D W : Type 0} (old new : DurableRepository D) (before after : W) : Type 0 where
   pub unwritten : after ≡ before
   pub disk : disk_in new ≡ disk_in old
-  pub known : known_in new ≡ known_in old
+  pub known : durable_count_in new ≡ durable_count_in old
   pub stopped : may_commit new ≡ false
 
 -- a fault of the store is one of a commit, and one of its disk only if a call of that has failed; any other fault is
 -- reported only if none has
 abbrev pub ReportsStored : StoredFault → ℕ → ℕ → Type 0
-ReportsStored (fault.Kept why) old new = IsUnkept why × ReportsDisk why old new
+ReportsStored (fault.Commit why) old new = IsCommitFault why × ReportsDiskFault why old new
 ReportsStored (fault.Talk why) old new = new ≡ old
 ReportsStored (fault.Frame why) old new = new ≡ old
 ReportsStored (fault.Write error) old new = new ≡ old

@@ -2,7 +2,7 @@
 ghost use Rattle.std.specs.Prelude.{◌≡◌};
 ghost use Rattle.camp_kept_talk.specs.declared.faults.StoredFault.TheVariants as fault;
 
-use camp_kept::KeptFault;
+use camp_kept::PersistenceFault;
 use camp_talk::{FrameFault, TalkFault};
 use std::io;
 
@@ -10,7 +10,7 @@ use std::io;
 #[derive(Clone, Copy, Debug)]
 pub enum StoredFault {
     /// The accepted calls were not persisted. None of the buffered answers was written.
-    Kept(KeptFault),
+    Commit(PersistenceFault),
     /// No more commands could be read, or memory ran out for an answer. All accepted calls are persisted.
     Talk(TalkFault),
     /// A request could not be read, or not be answered whole. All accepted calls are persisted.
@@ -20,11 +20,11 @@ pub enum StoredFault {
     Write(io::Error),
 }
 
-impl From<KeptFault> for StoredFault {
-    ghost from_gives = { λ why result. result ≡ fault.Kept why };
+impl From<PersistenceFault> for StoredFault {
+    ghost from_gives = { λ why result. result ≡ fault.Commit why };
 
-    fn from(why: KeptFault) -> StoredFault {
-        StoredFault::Kept(why)
+    fn from(why: PersistenceFault) -> StoredFault {
+        StoredFault::Commit(why)
     }
 }
 

@@ -1,14 +1,14 @@
 //! Requests in frames over a durable repository.
 ghost use Rattle.std.specs.Prelude.{◌≡◌, ◌-◌, ◌^◌, true, false, IfOk, MatchResult};
-ghost use Rattle.camp_kept.specs.Accepting.{Stored};
-ghost use Rattle.camp_kept.specs.Keeping.{AreFirst, Holds, disk_in, may_commit};
+ghost use Rattle.camp_kept.specs.Accepting.{StoreContents};
+ghost use Rattle.camp_kept.specs.Persisting.{AreFirstCalls, PersistsCalls, disk_in, may_commit};
 ghost use Rattle.camp_kept_talk.specs.Serving.{ServesKept, frame_told};
 ghost use Rattle.camp_kept_talk.specs.Stopping.{CountsStored, StaysStopped, stopped_fault};
 ghost use Rattle.camp_talk.specs.Talks.{HasRisen};
 
 use crate::StoredFault;
 use crate::settling::settle;
-use camp_kept::{Disk, Kept};
+use camp_kept::{Disk, DurableRepository};
 use camp_talk::{Dialogue, FrameFault, TalkFault, serve};
 use std::alloc::Global;
 use std::io::{BufRead, Write};
@@ -18,12 +18,12 @@ use std::io::{BufRead, Write};
 /// served. If a commit has failed at the disk before, no request is answered.
 pub fn serve_kept<D: Disk, R: BufRead, W: Write>(
     alloc: Global,
-    kept: &mut Kept<D>,
+    kept: &mut DurableRepository<D>,
     served: &mut u64,
     reader: &mut R,
     writer: &mut W,
 ) -> Result<bool, StoredFault>
-    ensures serves { (durable : Stored) → AreFirst durable kept.old → Holds D.Disk.seen D.Disk.may_leave durable kept.old
+    ensures serves { (durable : StoreContents) → AreFirstCalls durable kept.old → PersistsCalls D.Disk.seen D.Disk.may_leave durable kept.old
         → ServesKept D.Disk.seen D.Disk.may_leave (R.remaining reader.old) (R.remaining reader.new) (W.contents writer.old) (W.contents writer.new)
         durable kept.old result kept.new }
     ensures stopped { may_commit kept.old ≡ false → StaysStopped kept.old kept.new writer.old writer.new
@@ -41,7 +41,7 @@ pub fn serve_kept<D: Disk, R: BufRead, W: Write>(
         Ok(false) => Ok(false),
         Err(why) => match kept.commit(alloc) {
             Ok(()) => Err(StoredFault::Frame(without_room(why))),
-            Err(fault) => Err(StoredFault::Kept(fault)),
+            Err(fault) => Err(StoredFault::Commit(fault)),
         },
     }
 }
@@ -61,7 +61,7 @@ fn without_room(why: FrameFault) -> FrameFault
 #[derive(Drop)]
 pub struct FramedStore<D: Disk, R, W> {
     alloc: Global,
-    kept: Kept<D>,
+    kept: DurableRepository<D>,
     /// The number of requests that were served.
     served: u64,
     reader: R,
@@ -72,7 +72,12 @@ impl<D: Disk, R: BufRead, W: Write> FramedStore<D, R, W> {
     ghost use Rattle.camp_kept_talk.specs.Serving.{kept_of, reader_of, served_of, writer_of};
 
     /// Starts before the first request.
-    pub fn new(alloc: Global, kept: Kept<D>, reader: R, writer: W) -> FramedStore<D, R, W>
+    pub fn new(
+        alloc: Global,
+        kept: DurableRepository<D>,
+        reader: R,
+        writer: W,
+    ) -> FramedStore<D, R, W>
         ensures kept { kept_of result ≡ kept }
         ensures reader { reader_of result ≡ reader }
         ensures writer { writer_of result ≡ writer }
@@ -91,7 +96,7 @@ impl<D: Disk, R: BufRead, W: Write> FramedStore<D, R, W> {
 impl<D: Disk, R: BufRead, W: Write> Dialogue for FramedStore<D, R, W> {
     type Fault = StoredFault;
 
-    ghost comes_to = { λ old result new. ((durable : Stored) → AreFirst durable old.kept → Holds D.Disk.seen D.Disk.may_leave durable old.kept
+    ghost comes_to = { λ old result new. ((durable : StoreContents) → AreFirstCalls durable old.kept → PersistsCalls D.Disk.seen D.Disk.may_leave durable old.kept
         → ServesKept D.Disk.seen D.Disk.may_leave (R.remaining old.reader) (R.remaining new.reader) (W.contents old.writer) (W.contents new.writer)
         durable old.kept result new.kept)
         × (may_commit old.kept ≡ false → StaysStopped old.kept new.kept old.writer new.writer

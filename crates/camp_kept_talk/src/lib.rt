@@ -10,7 +10,7 @@ mod settling;
 mod talks;
 mod turns;
 
-pub use camp_kept::{Disk, Inspection, Kept, KeptFault, inspect};
+pub use camp_kept::{Disk, DurableRepository, Inspection, PersistenceFault, inspect};
 pub use faults::StoredFault;
 pub use frames::{FramedStore, serve_kept};
 pub use laws::kept_requests_are_served_in_turn;

@@ -1,13 +1,13 @@
 //! Answers that are buffered until the calls before them are persisted.
 ghost use Rattle.std.specs.Prelude.{◌≡◌, [], Err, false, MatchResult};
 ghost use Rattle.std.specs.Io.KnownBytes.{Appends};
-ghost use Rattle.camp_kept.specs.Keeping.{disk_in, may_commit};
+ghost use Rattle.camp_kept.specs.Persisting.{disk_in, may_commit};
 ghost use Rattle.camp_kept_talk.specs.Going.{IsUnwritten, Settles};
 ghost use Rattle.camp_kept_talk.specs.Stopping.{CountsStored, stopped_fault};
 ghost use Rattle.camp_talk.specs.Talks.{AppendsSome};
 
 use crate::StoredFault;
-use camp_kept::{Disk, Kept};
+use camp_kept::{Disk, DurableRepository};
 use camp_talk::write_answer;
 use std::alloc::Global;
 use std::io::Write;
@@ -17,7 +17,7 @@ use std::io::Write;
 #[tactic(auto, using(crate::proofs::Leading::settles_so))]
 pub(crate) fn settle<D: Disk, W: Write>(
     alloc: Global,
-    kept: &mut Kept<D>,
+    kept: &mut DurableRepository<D>,
     held: &mut Vec<u8>,
     writer: &mut W,
 ) -> Result<(), StoredFault>

@@ -1,8 +1,8 @@
 //! Conversations over a durable repository.
 ghost use Rattle.std.specs.Prelude.{◌≡◌, [], Err, false};
 ghost use Rattle.std.specs.Io.Buffered.{reader_remaining};
-ghost use Rattle.camp_kept.specs.Accepting.{Stored};
-ghost use Rattle.camp_kept.specs.Keeping.{AreFirst, Holds, disk_in, may_commit};
+ghost use Rattle.camp_kept.specs.Accepting.{StoreContents};
+ghost use Rattle.camp_kept.specs.Persisting.{AreFirstCalls, PersistsCalls, disk_in, may_commit};
 ghost use Rattle.camp_kept_talk.specs.Going.{TalksKept};
 ghost use Rattle.camp_kept_talk.specs.Stopping.{CountsStored, StaysStopped, stopped_fault};
 ghost use Rattle.camp_talk.specs.Accounts.{no_account};
@@ -10,7 +10,7 @@ ghost use Rattle.camp_talk.specs.Accounts.{no_account};
 use crate::StoredFault;
 use crate::readiness::begin_with_command;
 use crate::turns::{HeldBack, stored_turn};
-use camp_kept::{Disk, Kept};
+use camp_kept::{Disk, DurableRepository};
 use std::alloc::Global;
 use std::io::{BufReader, Read, Write};
 
@@ -21,11 +21,11 @@ use std::io::{BufReader, Read, Write};
 /// a commit.
 pub fn talk_kept<D: Disk, R: Read, W: Write>(
     alloc: Global,
-    kept: &mut Kept<D>,
+    kept: &mut DurableRepository<D>,
     reader: &mut BufReader<R>,
     writer: &mut W,
 ) -> Result<(), StoredFault>
-    ensures promises { (durable : Stored) → AreFirst durable kept.old → Holds D.Disk.seen D.Disk.may_leave durable kept.old
+    ensures promises { (durable : StoreContents) → AreFirstCalls durable kept.old → PersistsCalls D.Disk.seen D.Disk.may_leave durable kept.old
         → TalksKept D.Disk.seen D.Disk.may_leave durable (reader_remaining R.remaining reader.old) (reader_remaining R.remaining reader.new) (W.contents writer.old) (W.contents writer.new)
         (record { history = kept.old.book; lines = 0; cause = no_account }) result kept.new }
     ensures stopped { may_commit kept.old ≡ false → StaysStopped kept.old kept.new writer.old writer.new × (result ≡ Err stopped_fault) }

@@ -1,8 +1,8 @@
 //! Steps of a conversation whose answers are buffered.
 ghost use Rattle.std.specs.Prelude.{◌≡◌, ◌⊎◌, [], true, false, IfErr, IfOk, List, MatchResult, OnOk, Option, ℕ};
 ghost use Rattle.std.specs.Io.KnownBytes.{Appends, Keeps};
-ghost use Rattle.camp_kept.specs.Accepting.{Stored};
-ghost use Rattle.camp_kept.specs.Keeping.{disk_in, may_commit};
+ghost use Rattle.camp_kept.specs.Accepting.{StoreContents};
+ghost use Rattle.camp_kept.specs.Persisting.{disk_in, may_commit};
 ghost use Rattle.camp_kept_talk.specs.Going.{Comes, ComesSettled, Goes, WritesAllOrNone, WritesNone, as_told};
 ghost use Rattle.camp_kept_talk.specs.Stopping.{CountsStored, StaysStopped, stopped_fault};
 ghost use Rattle.camp_talk.specs.Accounts.{no_account};
@@ -11,7 +11,7 @@ ghost use Rattle.camp_talk.specs.Talks.{HasRisen, ReadsWithin};
 
 use crate::StoredFault;
 use crate::settling::settle;
-use camp_kept::{Disk, Kept};
+use camp_kept::{Disk, DurableRepository};
 use camp_talk::{Account, TalkFault, turn};
 use std::alloc::Global;
 use std::io::{BufRead, Write};
@@ -52,13 +52,13 @@ impl HeldBack {
 /// If no command is ready, or much is buffered, all of it is flushed first; also at the end of the input.
 pub fn stored_turn<D: Disk, R: BufRead, W: Write>(
     alloc: Global,
-    kept: &mut Kept<D>,
+    kept: &mut DurableRepository<D>,
     held: &mut HeldBack,
     is_ready: bool,
     reader: &mut R,
     writer: &mut W,
 ) -> Result<bool, StoredFault>
-    ensures goes { (durable : Stored) (remaining old : Option (List ℕ)) (first : Standing)
+    ensures goes { (durable : StoreContents) (remaining old : Option (List ℕ)) (first : Standing)
         → Goes D.Disk.seen D.Disk.may_leave durable remaining (R.remaining reader.old) old (W.contents writer.old) held.old.answers.items first
         (record { history = kept.old.book; lines = held.old.lines; cause = held.old.cause }) kept.old
         → Comes D.Disk.seen D.Disk.may_leave durable remaining (R.remaining reader.new) old (W.contents writer.new) held.new.answers.items first
@@ -83,12 +83,12 @@ pub fn stored_turn<D: Disk, R: BufRead, W: Write>(
 // Flushes the buffered answers, if no command is ready or many are pending.
 fn settle_first<D: Disk, W: Write>(
     alloc: Global,
-    kept: &mut Kept<D>,
+    kept: &mut DurableRepository<D>,
     held: &mut HeldBack,
     is_ready: bool,
     writer: &mut W,
 ) -> Result<(), StoredFault>
-    ensures goes { (durable : Stored) (remaining rest old : Option (List ℕ)) (first : Standing)
+    ensures goes { (durable : StoreContents) (remaining rest old : Option (List ℕ)) (first : Standing)
         → Goes D.Disk.seen D.Disk.may_leave durable remaining rest old (W.contents writer.old) held.old.answers.items first
         (record { history = kept.old.book; lines = held.old.lines; cause = held.old.cause }) kept.old
         → ComesSettled D.Disk.seen D.Disk.may_leave durable remaining rest old (W.contents writer.new) held.new.answers.items first
@@ -109,7 +109,7 @@ fn settle_first<D: Disk, W: Write>(
 }
 
 // True if the buffered answers may wait: a command is ready, and not many are pending.
-fn may_wait<D: Disk>(kept: &Kept<D>, held: &HeldBack, is_ready: bool) -> bool
+fn may_wait<D: Disk>(kept: &DurableRepository<D>, held: &HeldBack, is_ready: bool) -> bool
     ensures { is_ready ≡ false → result ≡ false }
 {
     is_ready && kept.waiting() < MAX_CALLS && held.answers.len() < MAX_ANSWERS
@@ -119,12 +119,12 @@ fn may_wait<D: Disk>(kept: &Kept<D>, held: &HeldBack, is_ready: bool) -> bool
 #[tactic(auto, using(crate::proofs::Writing::turns_within))]
 fn turn_on<D: Disk, R: BufRead, W: Write>(
     alloc: Global,
-    kept: &mut Kept<D>,
+    kept: &mut DurableRepository<D>,
     held: &mut HeldBack,
     reader: &mut R,
     writer: &mut W,
 ) -> Result<bool, StoredFault>
-    ensures goes { (durable : Stored) (remaining old : Option (List ℕ)) (first : Standing)
+    ensures goes { (durable : StoreContents) (remaining old : Option (List ℕ)) (first : Standing)
         → Goes D.Disk.seen D.Disk.may_leave durable remaining (R.remaining reader.old) old (W.contents writer.old) held.old.answers.items first
         (record { history = kept.old.book; lines = held.old.lines; cause = held.old.cause }) kept.old
         → Comes D.Disk.seen D.Disk.may_leave durable remaining (R.remaining reader.new) old (W.contents writer.new) held.new.answers.items first

@@ -1,6 +1,6 @@
 //! Why the program ends before its input does, and what it says of that.
 use camp_git::Unexported;
-use camp_kept_talk::KeptFault;
+use camp_kept_talk::PersistenceFault;
 use camp_options::{WordsFault, tell_fault, tell_unwritten};
 use camp_talk::{FrameFault, LoadFault, TalkFault};
 use std::alloc::AllocError;
@@ -24,7 +24,7 @@ pub(crate) enum Stop<'a> {
     /// A branch was not written for git.
     Export(Unexported),
     /// A store was not opened, or its calls were not persisted.
-    Store(&'a str, KeptFault),
+    Store(&'a str, PersistenceFault),
     /// Another process has the store.
     InUse(&'a str),
     /// The path of the store is a folder, a device or a pipe; or a file with several hard links, which only a

@@ -6,7 +6,8 @@ use crate::stops::Stop;
 use crate::words::{Form, Wish};
 use crate::{buffered, export_branch, form_at, load_file};
 use camp_kept_talk::{
-    Disk, FramedStore, HeldBack, Kept, KeptFault, StoredFault, inspect, stored_turn, talk_kept,
+    Disk, DurableRepository, FramedStore, HeldBack, PersistenceFault, StoredFault, inspect,
+    stored_turn, talk_kept,
 };
 use camp_talk::{Dialogue, Limits, TalkFault, talk};
 use sqlite_std_file::{File, OpenError, Unknown, open};
@@ -34,15 +35,19 @@ pub(crate) fn hold_stored<'a>(
     }
     match converse(rt, kept, wish.form) {
         Ok(()) => Ok(()),
-        Err(StoredFault::Kept(fault)) => Err(Stop::Store(store, fault)),
+        Err(StoredFault::Commit(fault)) => Err(Stop::Store(store, fault)),
         Err(StoredFault::Talk(fault)) => Err(Stop::Talk(fault)),
         Err(StoredFault::Frame(fault)) => Err(Stop::Frame(fault)),
         Err(StoredFault::Write(error)) => Err(Stop::Talk(TalkFault::Write(error))),
     }
 }
 
-// Holds a conversation over a durable repository.
-fn converse(rt: &HostRuntime, kept: Kept<File>, form: Form) -> Result<(), StoredFault> {
+// PersistsCalls a conversation over a durable repository.
+fn converse(
+    rt: &HostRuntime,
+    kept: DurableRepository<File>,
+    form: Form,
+) -> Result<(), StoredFault> {
     match form_at(rt, form) {
         Form::Lines => talk_in_lines(rt, kept),
         Form::Prompts => talk_at_prompts(rt, kept),
@@ -50,13 +55,13 @@ fn converse(rt: &HostRuntime, kept: Kept<File>, form: Form) -> Result<(), Stored
     }
 }
 
-fn talk_in_lines(rt: &HostRuntime, mut kept: Kept<File>) -> Result<(), StoredFault> {
+fn talk_in_lines(rt: &HostRuntime, mut kept: DurableRepository<File>) -> Result<(), StoredFault> {
     let mut reader = buffered(rt, rt.stdin())?;
     let mut writer = rt.stdout();
     talk_kept(rt.alloc(), &mut kept, &mut reader, &mut writer)
 }
 
-fn talk_at_prompts(rt: &HostRuntime, kept: Kept<File>) -> Result<(), StoredFault> {
+fn talk_at_prompts(rt: &HostRuntime, kept: DurableRepository<File>) -> Result<(), StoredFault> {
     let reader = buffered(rt, rt.stdin())?;
     talk(&mut PromptedStore {
         alloc: rt.alloc(),
@@ -67,16 +72,16 @@ fn talk_at_prompts(rt: &HostRuntime, kept: Kept<File>) -> Result<(), StoredFault
     })
 }
 
-fn talk_in_frames(rt: &HostRuntime, kept: Kept<File>) -> Result<(), StoredFault> {
+fn talk_in_frames(rt: &HostRuntime, kept: DurableRepository<File>) -> Result<(), StoredFault> {
     let reader = buffered(rt, rt.stdin())?;
     talk(&mut FramedStore::new(rt.alloc(), kept, reader, rt.stdout()))
 }
 
-// Holds a conversation over a durable repository, with prompts.
+// PersistsCalls a conversation over a durable repository, with prompts.
 #[derive(Drop)]
 struct PromptedStore<D: Disk, R, W> {
     alloc: Global,
-    kept: Kept<D>,
+    kept: DurableRepository<D>,
     held: HeldBack,
     reader: Prompting<R, W>,
     writer: W,
@@ -108,9 +113,9 @@ fn open_store<'a>(
     rt: &HostRuntime,
     store: &'a str,
     wanted: Option<Limits>,
-) -> Result<Kept<File>, Stop<'a>> {
+) -> Result<DurableRepository<File>, Stop<'a>> {
     let has_log = has_log(rt, store)?;
-    let kept = match Kept::open(rt.alloc(), open_file(rt, store)?, wanted) {
+    let kept = match DurableRepository::open(rt.alloc(), open_file(rt, store)?, wanted) {
         Ok(kept) => kept,
         Err((fault, _disk)) => {
             if !has_log {
@@ -120,10 +125,10 @@ fn open_store<'a>(
         }
     };
     remove_empty_log(rt, store)?;
-    if kept.left_out() > 0 {
+    if kept.torn_tail_len() > 0 {
         let _ = eprintln!(rt;
             "camp_shell: {store}: {} bytes behind the end count for nothing",
-            kept.left_out()
+            kept.torn_tail_len()
         );
     }
     Ok(kept)
@@ -140,7 +145,7 @@ fn open_file<'a>(rt: &HostRuntime, store: &'a str) -> Result<File, Stop<'a>> {
         }
         Err(OpenError::Io(error)) => Err(Stop::Open(store, error)),
         Err(OpenError::OutOfMemory) => Err(Stop::Talk(TalkFault::Memory)),
-        Err(OpenError::HotJournal) => Err(Stop::Store(store, KeptFault::NoStore)),
+        Err(OpenError::HotJournal) => Err(Stop::Store(store, PersistenceFault::NoStore)),
     }
 }
 
@@ -183,10 +188,10 @@ pub(crate) fn check_store<'a>(rt: &HostRuntime, store: &'a str) -> Result<(), St
     let digest = hex::encode(rt.alloc(), &found.digest)?;
     let calls = found.calls;
     let len = bytes.len();
-    let told = if found.left_out > 0 {
+    let told = if found.torn_tail_len > 0 {
         println!(rt;
             "calls {calls}\nbytes {len}\ndigest {digest}\nend {}",
-            found.left_out
+            found.torn_tail_len
         )
     } else {
         println!(rt; "calls {calls}\nbytes {len}\ndigest {digest}\nend whole")
