@@ -3,7 +3,7 @@ mod Listing
 mod Numbering
 mod Opening
 pub mod Prefixes
-mod Replays
+mod ReplayLemmas
 mod Refusing
 mod Reopening
 mod TitleLemmas

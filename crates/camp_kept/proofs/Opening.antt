@@ -4,7 +4,7 @@ use Rattle.camp_kept.specs.Accepting.{StoreContents, empty_within}
 use Rattle.camp_kept.specs.Persisting.{AreTexts, DecodesToCalls, max_untitled_len, store_texts}
 use Rattle.camp_repo.specs.Limits.{Bounds}
 use Rattle.camp_kept.proofs.Committing.{store_decodes}
-use Rattle.camp_kept.proofs.Replays.{no_texts}
+use Rattle.camp_kept.proofs.ReplayLemmas.{no_texts}
 use Rattle.camp_store.specs.Blocks.{AreBlocks, DecodesTo, first_digest}
 use Rattle.camp_store.specs.Logs.{IsBeforeOrAfter, PersistsTexts, disk_of, texts_of}
 use Rattle.camp_store.specs.Readings.{IsDecodedFrom}

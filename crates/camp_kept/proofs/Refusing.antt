@@ -10,7 +10,7 @@ use Rattle.camp_kept.specs.Replaying.{AreReplayed, ReplaysText}
 use Rattle.camp_kept.specs.declared.faults.PersistenceFault.{PersistenceFault}
 use Rattle.camp_kept.specs.declared.faults.PersistenceFault.TheVariants as persistence
 use Rattle.camp_kept.specs.declared.repositories.DurableRepository.{DurableRepository}
-use Rattle.camp_kept.proofs.Replays.{accepted_call_after, decoded_texts, no_texts}
+use Rattle.camp_kept.proofs.ReplayLemmas.{accepted_call_after, decoded_texts, no_texts}
 use Rattle.camp_kept.proofs.TitleLemmas.{one_title, title_short}
 use Rattle.camp_object.specs.Histories.{IsAccepted}
 use Rattle.camp_repo.specs.Limits.{Bounds}

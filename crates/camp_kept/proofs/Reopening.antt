@@ -11,7 +11,7 @@ use Rattle.camp_kept.specs.Laws.{StoresAreOpened}
 use Rattle.camp_kept.specs.declared.faults.PersistenceFault.{PersistenceFault}
 use Rattle.camp_kept.specs.declared.faults.PersistenceFault.TheVariants as persistence
 use Rattle.camp_kept.proofs.Committing.{store_decodes}
-use Rattle.camp_kept.proofs.Replays.{decoded_texts, first_text, no_texts, other_texts}
+use Rattle.camp_kept.proofs.ReplayLemmas.{decoded_texts, first_text, no_texts, other_texts}
 use Rattle.camp_kept.proofs.Refusing.{begins_with}
 use Rattle.camp_kept.proofs.TitleLemmas.{one_title}
 use Rattle.camp_repo.specs.Limits.{Bounds}

@@ -18,7 +18,7 @@ const BEFORE_TEXT: usize = 27;
 
 /// Replays the calls with these texts on a new book. The first text is the title; if limits are wanted, it
 /// has to say these. Without texts the book is empty.
-#[tactic(auto, using(crate::proofs::Replays::none_recovered))]
+#[tactic(auto, using(crate::proofs::ReplayLemmas::none_recovered))]
 pub(crate) fn replay(
     alloc: Global,
     texts: &[Vec<u8>],
@@ -90,7 +90,7 @@ fn replay_call(alloc: Global, book: &mut Book<State>, text: &[u8]) -> Result<boo
 }
 
 // Executes a call; true if it was accepted.
-#[tactic(auto, using(crate::proofs::Replays::executes_call))]
+#[tactic(auto, using(crate::proofs::ReplayLemmas::executes_call))]
 fn execute(book: &mut Book<State>, call: &Call) -> Result<bool, AllocError>
     ensures { IfOk result (λ yes. ExecutesCall book.old call.now yes book.new) }
 {

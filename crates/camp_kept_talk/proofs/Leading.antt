@@ -3,7 +3,7 @@ use Rattle.std.proofs.Common.{◌≡◌, ◌⊎◌, inl, inr, ℕ, Bool, true, f
 use Rattle.std.proofs.KnownBytes.{Appends-nil, Consumes-nil}
 use Rattle.std.specs.Io.KnownBytes.{Appends, Consumes, IsAtEnd, Keeps, append_known}
 use Rattle.camp_kept.specs.Accepting.{IsPrefixOf, StoreContents, accepted_of}
-use Rattle.camp_kept.specs.Persisting.{AreFirstCalls, PersistsCalls, IsStoreOf, LeavesRepository, accepted_by, store_texts}
+use Rattle.camp_kept.specs.Persisting.{AreFirstCalls, IsStoreOf, LeavesRepository, PersistsCalls, accepted_by, store_texts}
 use Rattle.camp_kept.specs.declared.faults.PersistenceFault.{PersistenceFault}
 use Rattle.camp_kept.specs.declared.repositories.DurableRepository.{DurableRepository}
 use Rattle.camp_kept.proofs.Committing.{crash_leaves_store}

@@ -3,7 +3,7 @@ use Rattle.std.proofs.Common.{◌≡◌, ◌⊎◌, ℕ, Bool, true, false, List
 use Rattle.std.proofs.KnownBytes.{Keeps-refl}
 use Rattle.std.specs.Io.KnownBytes.{Appends}
 use Rattle.camp_kept.specs.Accepting.{StoreContents, accepted_of}
-use Rattle.camp_kept.specs.Persisting.{AreFirstCalls, PersistsCalls, IsStoreOf, LeavesRepository, accepted_by, store_texts}
+use Rattle.camp_kept.specs.Persisting.{AreFirstCalls, IsStoreOf, LeavesRepository, PersistsCalls, accepted_by, store_texts}
 use Rattle.camp_kept.specs.declared.faults.PersistenceFault.{PersistenceFault}
 use Rattle.camp_kept.specs.declared.repositories.DurableRepository.{DurableRepository}
 use Rattle.camp_kept_talk.specs.Buffering.{AllAreDurable, FlushesAnswers, MayBeDurable}

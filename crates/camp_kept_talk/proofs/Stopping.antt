@@ -1,7 +1,7 @@
 -- What a commit that has failed leaves.
 use Rattle.std.proofs.Common.{◌≡◌, ◌∙◌, ℕ, false, List, refl, sym, subst}
 use Rattle.camp_kept.specs.Accepting.{StoreContents}
-use Rattle.camp_kept.specs.Persisting.{PersistsCalls, LeavesRepository, may_commit}
+use Rattle.camp_kept.specs.Persisting.{LeavesRepository, PersistsCalls, may_commit}
 use Rattle.camp_kept.specs.declared.faults.PersistenceFault.{PersistenceFault}
 use Rattle.camp_kept.specs.declared.faults.PersistenceFault.TheVariants as kept_fault
 use Rattle.camp_kept.specs.declared.repositories.DurableRepository.{DurableRepository}

@@ -2,7 +2,7 @@
 use Rattle.std.specs.Prelude.{◌≡◌, ◌⊎◌, ℕ, Bool, true, false, List, [], Option, None, Some, Result, Ok, Err}
 use Rattle.std.specs.Io.KnownBytes.{Appends, Keeps}
 use Rattle.camp_kept.specs.Accepting.{IsPrefixOf, StoreContents, accepted_of}
-use Rattle.camp_kept.specs.Persisting.{AreFirstCalls, PersistsCalls, IsStoreOf, LeavesRepository, accepted_by, disk_in}
+use Rattle.camp_kept.specs.Persisting.{AreFirstCalls, IsStoreOf, LeavesRepository, PersistsCalls, accepted_by, disk_in}
 use Rattle.camp_kept.specs.declared.faults.PersistenceFault.{PersistenceFault}
 use Rattle.camp_kept.specs.declared.repositories.DurableRepository.{DurableRepository}
 use Rattle.camp_kept_talk.specs.Promises.{AnswersWritten, Promises, durable_at_least}

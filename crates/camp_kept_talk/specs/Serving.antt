@@ -2,7 +2,7 @@
 use Rattle.std.specs.Prelude.{◌≡◌, ◌⊎◌, ℕ, Bool, true, false, List, [], Option, Some, Result, Ok, Err}
 use Rattle.std.specs.Io.KnownBytes.{Keeps}
 use Rattle.camp_kept.specs.Accepting.{StoreContents}
-use Rattle.camp_kept.specs.Persisting.{AreFirstCalls, PersistsCalls, IsStoreOf, accepted_by, disk_in}
+use Rattle.camp_kept.specs.Persisting.{AreFirstCalls, IsStoreOf, PersistsCalls, accepted_by, disk_in}
 use Rattle.camp_kept.specs.declared.repositories.DurableRepository.{DurableRepository}
 use Rattle.camp_kept_talk.specs.Buffering.{write_as_memory}
 use Rattle.camp_kept_talk.specs.Stopping.{LeavesDurable}

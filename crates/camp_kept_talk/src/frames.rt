@@ -72,7 +72,12 @@ impl<D: Disk, R: BufRead, W: Write> FramedStore<D, R, W> {
     ghost use Rattle.camp_kept_talk.specs.Serving.{kept_of, reader_of, served_of, writer_of};
 
     /// Starts before the first request.
-    pub fn new(alloc: Global, kept: DurableRepository<D>, reader: R, writer: W) -> FramedStore<D, R, W>
+    pub fn new(
+        alloc: Global,
+        kept: DurableRepository<D>,
+        reader: R,
+        writer: W,
+    ) -> FramedStore<D, R, W>
         ensures kept { kept_of result ≡ kept }
         ensures reader { reader_of result ≡ reader }
         ensures writer { writer_of result ≡ writer }

@@ -43,7 +43,11 @@ pub(crate) fn hold_stored<'a>(
 }
 
 // PersistsCalls a conversation over a durable repository.
-fn converse(rt: &HostRuntime, kept: DurableRepository<File>, form: Form) -> Result<(), StoredFault> {
+fn converse(
+    rt: &HostRuntime,
+    kept: DurableRepository<File>,
+    form: Form,
+) -> Result<(), StoredFault> {
     match form_at(rt, form) {
         Form::Lines => talk_in_lines(rt, kept),
         Form::Prompts => talk_at_prompts(rt, kept),

@@ -2,7 +2,7 @@ use Rattle.std.proofs.Common.{◌≡◌, ◌∙◌, ◌∷◌, ap, subst, sym}
 use Rattle.std.proofs.lemmas.Result.{IfOk-weaker}
 use Rattle.camp_kept.specs.Replaying.{AreRecovered}
 use Rattle.camp_kept.specs.Titles.{title_of}
-use Rattle.camp_kept.proofs.Replays.{recovered}
+use Rattle.camp_kept.proofs.ReplayLemmas.{recovered}
 use Rattle.camp_kept.proofs.Refusing.{refused_so}
 use Rattle.camp_store.specs.Blocks.{DecodesTo}
 use Rattle.camp_store.specs.Logs.{texts_of}

@@ -1,5 +1,5 @@
 use Rattle.std.proofs.lemmas.Result.{IfOk-weaker}
-use Rattle.camp_kept.proofs.Replays.{replays_text}
+use Rattle.camp_kept.proofs.ReplayLemmas.{replays_text}
 use Rattle.camp_kept.proofs.replays.replay_call.Goals as goal
 
 pub returns-in-Some : goal.returns-in-Some

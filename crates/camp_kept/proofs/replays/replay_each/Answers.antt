@@ -4,7 +4,7 @@ use Rattle.camp_kept.specs.Replaying.{AreReplayed, ReplaysText}
 use Rattle.camp_kept.specs.Titles.{title_of}
 use Rattle.camp_kept.specs.Faults.{ReportsNumber}
 use Rattle.camp_kept.proofs.Numbering.{damaged_there, replayed_count, size, size-push, stops}
-use Rattle.camp_kept.proofs.Replays.{none_replayed, replayed_more}
+use Rattle.camp_kept.proofs.ReplayLemmas.{none_replayed, replayed_more}
 use Rattle.camp_kept.proofs.Refusing.{not_accepted}
 use Rattle.camp_store.specs.Blocks.{DecodesTo}
 use Rattle.camp_store.specs.Logs.{texts_of}
