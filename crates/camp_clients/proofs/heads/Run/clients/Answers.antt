@@ -1,5 +1,5 @@
 use Rattle.camp_clients.proofs.Words.{sym, ◌∙◌, IfOk-weaker, Ran, lists_of, begun}
-use Rattle.camp_clients.proofs.Synchronising.{zip_granted}
+use Rattle.camp_clients.proofs.SynchronisedRuns.{zip_granted}
 use Rattle.camp_clients.proofs.heads.Run.clients.Goals as goal
 
 pub returns : goal.returns
