@@ -19,7 +19,7 @@ pub use Rattle.camp_clients.specs.Synchronising.{AreNew, IsSynchronised, HasAllO
 pub use Rattle.camp_clients.specs.Positions.{done_at, own_at, where_done}
 pub use Rattle.camp_clients.specs.Runs.{HasPrefixes, HasOpening, InTurn, IsExactly, IsShared, OneByOne, OwnDone, SaysSomewhere, lists_of, section_of}
 pub use Rattle.camp_clients.specs.Sections.{Section}
-pub use Rattle.camp_history.proofs.Versioned.{all_unmap, left_first}
+pub use Rattle.camp_history.proofs.SnapshotLemmas.{all_unmap, left_first}
 pub use Rattle.camp_history.specs.Seats.{HeadId, IsSeatOf, SeatState, calls_per_seat, history_of, seat_number}
 pub use Rattle.camp_object.proofs.Beginnings.{begins_through, begins_longer, begins_self, begins_whole, length-beginning}
 pub use Rattle.camp_object.proofs.Replays.{legal_front, length-own-all, length-own-within, own-append, own_mine, run-append}
