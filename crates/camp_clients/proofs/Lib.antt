@@ -4,7 +4,7 @@ pub mod Comparing
 pub mod SectionSteps
 pub mod Gathering
 pub mod Histories
-pub mod Synchronising
+pub mod SynchronisedRuns
 pub mod OneSection
 pub mod Opening
 pub mod OpeningAlone

@@ -26,7 +26,7 @@ loop-before-preserved g c =
     let m = c.if-not-matches_next.ensures in
     let inside : length (lists_of c.args.sections.now) ≡ length c.args.sections.now = length-lists_of c.args.sections.now in
     record {
-      indexes = rw (m.matches_next, length-set) c.loop-before.invariant.indexes;
+      indexes = rw (m.moves, length-set) c.loop-before.invariant.indexes;
       seats = each_more (λ e. e.0 < length c.args.sections.now) c.args.history.now c.loop-before.before c.index-history-before.result c.loop-before-test.true
           c.index-history-before.is (subst (λ n. c.index-history-before.result.0 < n) inside m.is_section) c.loop-before.invariant.seats;
       found = found_more (reported_position g.State.Object.object) (lists_of c.args.sections.now) (lists_of c.args.answers.now) c.args.history.now

@@ -1,5 +1,5 @@
 use Rattle.camp_clients.proofs.Words.{sym, subst, arith, All, IsSeatOf, history_of, WasSynchronised, HasAllOfSeat}
-use Rattle.camp_clients.proofs.Synchronising.{zip_all, all_synchronised, all_synchronised_again}
+use Rattle.camp_clients.proofs.SynchronisedRuns.{zip_all, all_synchronised, all_synchronised_again}
 use Rattle.camp_clients.proofs.synchronising.synchronise_with_all.Goals as goal
 
 pub synchronise_each_with-requires-clause-seats : goal.synchronise_each_with-requires-clause-seats

@@ -1,6 +1,6 @@
 use Rattle.camp_clients.proofs.Words.{All-rest, left_first, ◌≡◌, ◌⊎◌, ◌≤◌, inl, inr, sym, ap, ◌∙◌, subst, arith, length, IsBeginning, own, IsSeatOf, history_of, begins_through, begins_self, length-beginning}
 use Rattle.std.proofs.Common.{eqb-true}
-use Rattle.camp_clients.proofs.Synchronising.{one_synchronised, ok_holds}
+use Rattle.camp_clients.proofs.SynchronisedRuns.{one_synchronised, ok_holds}
 use Rattle.camp_clients.proofs.synchronising.synchronise_with_each.Goals.{else-is_empty, then-is_empty}
 use Rattle.camp_clients.proofs.synchronising.synchronise_with_each.Goals as goal
 

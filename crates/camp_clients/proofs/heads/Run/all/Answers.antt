@@ -1,5 +1,5 @@
 use Rattle.camp_clients.proofs.Words.{◌≡◌, ℕ, ◌<◌, [], length, sym, ◌∙◌, ap, subst, arith, All, All-map, AllZip-long, all_unmap, map-map, IsBeginning, own, SectionStep, IsSeatOf, history_of, lists_of, vec_items, section_of, Section, IsSynchronised, HasAllOfSeat, Ran, begun, IsLegal}
-use Rattle.camp_clients.proofs.Synchronising.{caller_of, can_begin, clients_hold, shared_run, zip_all}
+use Rattle.camp_clients.proofs.SynchronisedRuns.{caller_of, can_begin, clients_hold, shared_run, zip_all}
 use Rattle.camp_clients.proofs.Vectors.{length-lists_of}
 use Rattle.camp_clients.proofs.heads.Run.all.Goals as goal
 
