@@ -62,9 +62,10 @@ def python_with(modules):
 
 
 def environment(folder, who="anna", **more):
-    """The environment of a command: `campvc` is on the PATH, and names and dates are the same each time."""
+    """The environment of a command: `campvc` is on the PATH, and names and dates are the same each time. Beside proofs a log may get
+    little of a processor, so it is waited for."""
     own = {"PATH": f"{folder}/bin:{os.environ['PATH']}", "PYTHONPATH": ":".join(PACKAGES), "PYTHONDONTWRITEBYTECODE": "1", "HOME": folder,
-           "CAMPVC_COPY": who, "CAMPVC_AUTHOR": AUTHORS.get(who, who), "CAMPVC_DATE": DATE, "CAMPVC_PATIENCE": "1", "LC_ALL": "C.UTF-8"}
+           "CAMPVC_COPY": who, "CAMPVC_AUTHOR": AUTHORS.get(who, who), "CAMPVC_DATE": DATE, "CAMPVC_PATIENCE": "1", "CAMP_PATIENCE": "120", "LC_ALL": "C.UTF-8"}
     return {**os.environ, **own, **more}
 
 
@@ -185,10 +186,7 @@ def etcd(report, folder):
     """The shared sessions over three members of etcd."""
     with servers(report, folder) as endpoints:
         if endpoints:
-            # Beside proofs the members of etcd may get little of a processor.
-            os.environ["CAMP_PATIENCE"] = "120"
             play_all(report, folder, f"etcd:{endpoints}/s{{number}}", lambda words: "shared" in words)
-            del os.environ["CAMP_PATIENCE"]
 
 
 # Mishaps.
