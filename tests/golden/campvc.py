@@ -46,6 +46,8 @@ def run(report, words):
         report.skip("Python 3.11")
         return
     os.environ["CAMP_LIB_DIR"] = library
+    # Beside proofs a log may get little of a processor.
+    os.environ["CAMP_PATIENCE"] = "120"
     sys.path[:0] = PACKAGES
     for name in words or PARTS:
         with temporary("campvc-") as folder:
@@ -62,10 +64,9 @@ def python_with(modules):
 
 
 def environment(folder, who="anna", **more):
-    """The environment of a command: `campvc` is on the PATH, and names and dates are the same each time. Beside proofs a log may get
-    little of a processor, so it is waited for."""
+    """The environment of a command: `campvc` is on the PATH, and names and dates are the same each time."""
     own = {"PATH": f"{folder}/bin:{os.environ['PATH']}", "PYTHONPATH": ":".join(PACKAGES), "PYTHONDONTWRITEBYTECODE": "1", "HOME": folder,
-           "CAMPVC_COPY": who, "CAMPVC_AUTHOR": AUTHORS.get(who, who), "CAMPVC_DATE": DATE, "CAMPVC_PATIENCE": "1", "CAMP_PATIENCE": "120", "LC_ALL": "C.UTF-8"}
+           "CAMPVC_COPY": who, "CAMPVC_AUTHOR": AUTHORS.get(who, who), "CAMPVC_DATE": DATE, "CAMPVC_PATIENCE": "1", "LC_ALL": "C.UTF-8"}
     return {**os.environ, **own, **more}
 
 
