@@ -61,8 +61,8 @@ class Progress:
         """Notes the processor seconds of what runs in the folders of the tree's crates: a check, which ends unseen."""
         for process in os.listdir("/proc") if self.tree else ():
             with contextlib.suppress(OSError, IndexError):
-                folder = os.readlink(f"/proc/{process}/cwd").removeprefix(f"{self.tree}/crates/")
-                if not folder.startswith("/"):
+                _, is_inside, folder = os.readlink(f"/proc/{process}/cwd").partition(f"{self.tree}/crates/")
+                if is_inside:
                     times = read(f"/proc/{process}/stat").rpartition(b")")[2].split()[11:13]
                     self.proving[folder.split("/")[0], process] = sum(map(int, times)) / os.sysconf("SC_CLK_TCK")
 

@@ -1,4 +1,4 @@
-"""./build says of each crate whether it is proved or kept, leaves what it made in out/, and proves no text twice.
+"""./build says of each crate whether it is proved or kept, leaves what it made in out/, and proves no text twice; clients/build is not silent.
 
 Words: none. A few crates, and stand-ins for the kit's `rt` and for clients/build.
 """
@@ -6,6 +6,7 @@ Words: none. A few crates, and stand-ins for the kit's `rt` and for clients/buil
 import os
 import re
 import shutil
+import subprocess
 import sys
 
 from tests.harness import programs
@@ -16,7 +17,13 @@ SECONDS, GATE = 5, "beside"
 CRATES = "camp_base:\ncamp: camp_base\ncamp_shell: camp_base\ncamp_c staticlib: camp_base\nworked: camp_base\n"
 # Proves the crates of crates.txt, but for the one that UNPROVED names; a crate is kept where KEPT has it.
 KIT = """#!/bin/bash
-if [ "$1" = version ]; then echo kit; exit; fi
+case $1 in version) echo kit; exit ;; doc) echo "$(dirname "$0")/page"; exit ;; esac
+if [ "$1" = lib ]; then
+    echo "rt: camp_base proved"
+    if [ "$UNPROVED" ]; then echo "rt: $UNPROVED NOT PROVED"; exit 1; fi
+    mkdir -p out && cp "$(dirname "$0")/libcamp_c.a" out/ && echo "rt: camp_c proved"
+    exit
+fi
 [ ! -e crates/worked ] || { echo "worked is not needed"; exit 1; }
 status=0
 for crate in $(sed 's/[: ].*//' crates.txt); do
@@ -44,6 +51,31 @@ def run(report, words):
         report.expect_run("the same text", call(folder, environment), f"{ENDING}: they are of this text, and proved\n".encode())
         changed(report, folder, environment)
         wrong(report, folder, environment)
+        library(report, folder, environment)
+
+
+def library(report, folder, environment):
+    """clients/build says on standard error what the kit says, and puts the library where it says; it ends where the kit ends badly."""
+    if not (shutil.which("cc") and shutil.which("ar")):
+        return report.skip("a C compiler")
+    for it in ("clients/build", "clients/c/texts.c", "clients/c/include/camp.h"):
+        shutil.copy(f"{TOP}/{it}", f"{folder}/{it}")
+    os.makedirs(f"{folder}/kit/c", exist_ok=True)
+    build_archive(f"{folder}/kit/c/liblibc_c.a", "int of_the_kit;")
+    build_archive(f"{folder}/kit/libcamp_c.a", "int of_the_crate;")
+    done = programs.run(["clients/build"], cwd=folder, env=environment)
+    said = b"".join(b"rt: %s proved\n" % it for it in (b"camp_base", b"camp_c"))
+    report.expect_run("clients/build", done, f"{folder}/out/clients\n".encode(), said)
+    report.expect("what it has left", sorted(os.listdir(f"{folder}/out/clients")), ["camp.h", "libcamp.a", "libcamp.so"])
+    done = programs.run(["clients/build"], cwd=folder, env={**environment, "UNPROVED": "camp_c"})
+    report.expect_run("clients/build without a proof", done, b"", b"rt: camp_base proved\nrt: camp_c NOT PROVED\n", 1)
+    report.count("builds", 2)
+
+
+def build_archive(path, text):
+    write_text(f"{path}.c", f"{text}\n")
+    subprocess.run(["cc", "-c", "-fPIC", f"{path}.c", "-o", f"{path}.o"], check=True)
+    subprocess.run(["ar", "rcs", path, f"{path}.o"], check=True)
 
 
 def make(folder):

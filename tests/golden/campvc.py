@@ -46,6 +46,8 @@ def run(report, words):
         report.skip("Python 3.11")
         return
     os.environ["CAMP_LIB_DIR"] = library
+    # Beside proofs a log may get little of a processor.
+    os.environ["CAMP_PATIENCE"] = "120"
     sys.path[:0] = PACKAGES
     for name in words or PARTS:
         with temporary("campvc-") as folder:
@@ -185,10 +187,7 @@ def etcd(report, folder):
     """The shared sessions over three members of etcd."""
     with servers(report, folder) as endpoints:
         if endpoints:
-            # Beside proofs the members of etcd may get little of a processor.
-            os.environ["CAMP_PATIENCE"] = "120"
             play_all(report, folder, f"etcd:{endpoints}/s{{number}}", lambda words: "shared" in words)
-            del os.environ["CAMP_PATIENCE"]
 
 
 # Mishaps.

@@ -37,7 +37,8 @@ def run(report, words):
         return report.skip("the library for C")
     with temporary("shared-") as folder:
         client = {"PYTHONPATH": f"{TOP}/clients/python", "PYTHONDONTWRITEBYTECODE": "1", "CAMP_LIB_DIR": library}
-        environment = {**os.environ, **client, "HOME": folder, "TERM": "xterm", "NO_COLOR": "1", "LC_ALL": "C.UTF-8"}
+        # Beside proofs a log may get little of a processor.
+        environment = {**os.environ, **client, "CAMP_PATIENCE": "120", "HOME": folder, "TERM": "xterm", "NO_COLOR": "1", "LC_ALL": "C.UTF-8"}
         for text in re.findall(r"^```terminals\n(.*?)^```$", read_text(PAGE), re.M | re.S):
             report.expect("docs/shared.md", run_together(text, environment, folder), [])
             report.count("lines of two terminals", text.count("\n"))
@@ -46,8 +47,7 @@ def run(report, words):
         wrong_addresses(report, environment, folder)
         with etcd.servers(report, folder) as endpoints:
             if endpoints:
-                # Beside proofs the members of etcd may get little of a processor.
-                over_etcd(report, {**environment, "CAMP_PATIENCE": "120"}, folder, endpoints)
+                over_etcd(report, environment, folder, endpoints)
 
 
 def page_is_short(report):
@@ -80,7 +80,8 @@ def locked(report, environment, folder):
     """While another process holds the file it is said that nobody knows what comes of a call; afterwards it is there, once."""
     with sqlite3.connect(f"{folder}/notes.db", isolation_level=None) as base:
         base.execute("BEGIN IMMEDIATE")
-        peer = programs.start([*CAMP, "shell", "--log", "sqlite:notes.db"], env=environment, cwd=folder)
+        # It is held for longer than that is waited for.
+        peer = programs.start([*CAMP, "shell", "--log", "sqlite:notes.db"], env={**environment, "CAMP_PATIENCE": "5"}, cwd=folder)
         programs.send(peer, b"record main late add late\n")
         said = peer.stdout.readline()
         base.execute("ROLLBACK")

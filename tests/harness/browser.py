@@ -16,7 +16,7 @@ import sys
 import tempfile
 
 # Seconds after which a browser counts as hanging.
-LIMIT = 600
+LIMIT = 1800
 FACTS = """JSON.stringify({
   title: document.title, text: document.body.innerText, headings: [...document.querySelectorAll('h1')].length, lang: document.documentElement.lang,
   scripts: document.scripts.length, width: document.documentElement.scrollWidth,

@@ -57,7 +57,8 @@ class Clients:
     def __enter__(self):
         self.temporary = tempfile.TemporaryDirectory(prefix="clients-")
         self.folder = self.temporary.name
-        self.environment = {**os.environ, "CARGO_TARGET_DIR": f"{self.folder}/target", "PYTHONDONTWRITEBYTECODE": "1"}
+        # Beside proofs a log may get little of a processor.
+        self.environment = {**os.environ, "CARGO_TARGET_DIR": f"{self.folder}/target", "PYTHONDONTWRITEBYTECODE": "1", "CAMP_PATIENCE": "120"}
         return self
 
     def __exit__(self, *_):

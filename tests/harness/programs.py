@@ -10,7 +10,7 @@ from tests.harness import unproved
 from tests.harness.paths import TOP
 
 # Seconds after which a program counts as hanging. A machine with other work is slow, so this is no measurement.
-TIMEOUT = 600
+TIMEOUT = 1800
 # How many programs run at once.
 JOBS = int(os.environ.get("JOBS", 0)) or len(os.sched_getaffinity(0))
 

@@ -27,7 +27,7 @@ COLUMNS = 130
 # The line that says how long something takes, written anew each second, and then taken away.
 PROGRESS = re.compile(r"(\\rworking: [^\\]*)+\\r *\\r")
 # Seconds without a prompt after which a program counts as hanging.
-TIMEOUT = 600
+TIMEOUT = 1800
 # Seconds after which Ctrl-C is typed once more, if nothing is at work: Python does not see one that comes between a key and its wait for the next.
 REPEAT = 3
 
