@@ -30,6 +30,9 @@ class State:
         self.db.execute("PRAGMA journal_mode = WAL")
         self.db.executescript(TABLES)
 
+    def close(self) -> None:
+        self.db.close()
+
     def get(self, key: str, default: str = "") -> str:
         row = self.db.execute("SELECT value FROM settings WHERE key = ?", (key,)).fetchone()
         return row[0] if row else default
