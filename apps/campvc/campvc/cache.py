@@ -8,15 +8,17 @@ from __future__ import annotations
 
 import contextlib
 import hashlib
+import marshal
 import os
 import sqlite3
 import sys
 import threading
-from typing import Dict
+from typing import Dict, Tuple
 
 import camp
 from camp.offline import Offline
 from camp.questions import Questions
+from camp.worktree import Stamp
 
 from . import __version__
 
@@ -83,15 +85,19 @@ class Answers(Questions):
 
     def __init__(self, of: Offline, path: str) -> None:
         self.of, self.cache, self._lock = of, Cache(path), threading.Lock()
+        # The state and the notes, each with where the repository was then.
+        self._state, self._notes = ((), b""), ((), {})  # type: Tuple[Tuple, bytes], Tuple[Tuple, Dict[str, bytes]]
 
     def close(self) -> None:
         self.cache.close()
 
     def state(self) -> bytes:
         """What stands for all that answers depend on: versions, the log up to its last entry, and the calls behind it."""
-        entries, last, behind = self.of.position()
-        versions = "{} {} {}".format(__version__, camp.__version__, sys.version_info[:2])
-        return digest(versions.encode(), b"%d" % entries, last, *(part for call in behind for part in call))
+        if self._state[0] != self.of.at():
+            entries, last, behind = self.of.position()
+            versions = "{} {}".format(__version__, camp.__version__)
+            self._state = self.of.at(), digest(versions.encode(), b"%d" % entries, last, *(part for call in behind for part in call))
+        return self._state[1]
 
     def _respond(self, text: bytes) -> bytes:
         is_kept = text.decode("ascii", "replace").split(None, 1)[0] in KEPT
@@ -105,8 +111,12 @@ class Answers(Questions):
     @property
     def notes(self) -> Dict[str, bytes]:
         """The notes, by the names of their patches."""
-        found = None if self.of.is_loaded else self.cache.get(self.state(), NOTES)
-        return read_notes(found) if found is not None else self._keep_notes()
+        if self.of.is_loaded:
+            return self.of.shared.notes
+        if self._notes[0] != self.of.at():
+            found = self.cache.get(self.state(), NOTES)
+            self._notes = self.of.at(), self._keep_notes() if found is None else read_notes(found)
+        return self._notes[1]
 
     def _keep_notes(self) -> Dict[str, bytes]:
         notes = self.of.shared.notes
@@ -123,6 +133,26 @@ class Answers(Questions):
             self.ask("missing {} {}\n".format(own, branch))
             self.ask("missing {} {}\n".format(branch, own))
             self._keep_notes()
+
+
+class Stamps:
+    """The stamps of files of the working tree that were found to be as in the base, each with a digest of what the base had: a file with the
+    same stamp and the same digest need not be read again."""
+
+    def __init__(self, path: str) -> None:
+        self.cache, self.state = Cache(path), sys.version.encode()
+
+    def read(self, digests: Dict[bytes, bytes]) -> Dict[bytes, Stamp]:
+        """The stamps of files whose digests in the base are as they were."""
+        try:
+            kept = marshal.loads(self.cache.get(self.state, b"files") or b"")
+            return {path: stamp for path, (stamp, found) in kept.items() if digests.get(path) == found}
+        except (EOFError, ValueError, TypeError):
+            return {}
+
+    def write(self, digests: Dict[bytes, bytes], stamps: Dict[bytes, Stamp]) -> None:
+        self.cache.put(self.state, b"files", marshal.dumps({path: (stamp, digests[path]) for path, stamp in stamps.items()}))
+        self.cache.close()
 
 
 def read_notes(text: bytes) -> Dict[str, bytes]:

@@ -22,7 +22,7 @@ from camp.offline import Calls, Loaded, Offline
 from camp.shared import NOT_TAKEN, Stopped
 
 from . import Failure, show
-from .cache import Answers
+from .cache import Answers, Stamps, digest
 from .state import State, locked
 
 # What a repository on a new log holds at most: changes in a branch, and branches, of which each copy has one.
@@ -71,10 +71,14 @@ class Copy(Offline):
         super().__init__(path, LOADED.pop(path, None))
         self.repository = Answers(self, os.path.join(os.fsdecode(top), ".camp", "cache.db"))
 
-    def close(self) -> None:
-        loaded = self.detach()
+    def __exit__(self, kind: object = None, *_: object) -> None:
+        # What was interrupted may have been left half done.
+        loaded = self.detach() if kind is None else None
         if loaded:
             LOADED[self.path] = loaded
+        self.close()
+
+    def close(self) -> None:
         super().close()
         self.repository.close()
         self.state.close()
@@ -161,7 +165,14 @@ class Copy(Offline):
 
     def scan(self) -> Files:
         """The files as they are in the working tree."""
-        return worktree.scan(self.top, self.state.base())
+        base, stamps = self.state.base(), Stamps(os.path.join(os.fsdecode(self.top), ".camp", "files.db"))
+        digests = {path: digest(file.mode.encode(), file.content) for path, file in base.items()}
+        unchanged = stamps.read(digests)
+        before = dict(unchanged)
+        found = worktree.scan(self.top, base, unchanged)
+        if unchanged != before:
+            stamps.write(digests, unchanged)
+        return found
 
     def check_clean(self, what: str) -> None:
         """A `Failure` with the names of files that were changed and not recorded."""

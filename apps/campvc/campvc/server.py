@@ -25,6 +25,7 @@ from .client import identity
 
 # For how many seconds a server waits for a command, and between two looks at its socket.
 IDLE, LOOK = 600.0, 5.0
+SOCKET = "server"
 
 
 def start() -> None:
@@ -50,7 +51,7 @@ class Server:
 
     def __init__(self, path: str, loaded: Loaded) -> None:
         self.path, self.loaded, self.identity, self.library = path, loaded, identity(), library_time()
-        self.socket = os.path.join(os.path.dirname(path), "server")
+        os.chdir(os.path.dirname(path))
         null = os.open(os.devnull, os.O_RDWR)
         for number in (0, 1, 2):
             os.dup2(null, number)
@@ -63,12 +64,12 @@ class Server:
         """Runs commands until nobody wants any."""
         with socket.socket(socket.AF_UNIX) as listener:
             with contextlib.suppress(OSError):
-                os.remove(self.socket)
+                os.remove(SOCKET)
             os.umask(0o077)
-            listener.bind(self.socket)
+            listener.bind(SOCKET)
             listener.listen(16)
             listener.settimeout(LOOK)
-            own, end = os.stat(self.socket).st_ino, time.monotonic() + IDLE
+            own, end = os.stat(SOCKET).st_ino, time.monotonic() + IDLE
             while time.monotonic() < end and self._is_own(own):
                 with contextlib.suppress(TimeoutError):
                     connection = listener.accept()[0]
@@ -77,11 +78,11 @@ class Server:
                         if not self._answer(connection):
                             break
             if self._is_own(own):
-                os.remove(self.socket)
+                os.remove(SOCKET)
 
     def _is_own(self, own: int) -> bool:
         with contextlib.suppress(OSError):
-            return os.stat(self.socket).st_ino == own
+            return os.stat(SOCKET).st_ino == own
         return False
 
     def _answer(self, connection: socket.socket) -> bool:

@@ -51,6 +51,8 @@ class Page:
         self.token, self.copy = token, Copy(top)
         self.copy.open()
         self.version = self.copy.version()
+        # Loaded before the first request, so that none waits for that.
+        self.copy.shared.accepted
         loader = jinja2.FileSystemLoader(TEMPLATES)
         self.templates = jinja2.Environment(loader=loader, autoescape=True, trim_blocks=True, lstrip_blocks=True)
         self.templates.filters["readable"] = readable

@@ -44,7 +44,7 @@ class Offline:
         self.path, self.away = path, "not asked"
         self.log: Optional[RememberedLog] = None
         self._shared: Optional[Shared] = None
-        self._known, self._loaded = 0, loaded
+        self._known, self._loaded, self._openings = 0, loaded, 0
         # The calls that wait: they are executed behind those of the log.
         self._behind: Calls = []
         self._base = sqlite3.connect(path, timeout=10.0, isolation_level=None, check_same_thread=False)
@@ -60,6 +60,7 @@ class Offline:
         """Reads from an engine what is new. Without one there is what is known, and what waits."""
         loaded, self._loaded = self._loaded or self.detach(), None
         self._close()
+        self._openings += 1
         self.log = RememberedLog(self.path, engine)
         self._known = self.log.fetch()
         self._behind = [] if engine else self.waiting()
@@ -95,6 +96,10 @@ class Offline:
             return None
         shared, self._shared = self._shared, None
         return Loaded(shared, self.log.entry(shared.entries - 1))
+
+    def at(self) -> Tuple[int, int, int]:
+        """What changes whenever `position` may: how often it was opened, how many entries it has, and how many calls are behind."""
+        return self._openings, self._shared.entries if self._shared else self._known, len(self._behind)
 
     def position(self) -> Tuple[int, bytes, Calls]:
         """Where the repository is, or will be once it is loaded: how many entries of the log it has, the last of them, and the calls behind."""
