@@ -124,9 +124,9 @@ def with_change(content, folder, change):
 
 def of_another_version(folder):
     """What another version keeps, which here has wrong answers."""
-    from campvc import cache
+    from camp import cached
     from campvc.copy import LOADED, Copy
-    path, version, cache.__version__ = f"{folder}/anna/.camp/cache.db", cache.__version__, "another"
+    path, version, cached.VERSION = f"{folder}/anna/.camp/cache.db", cached.VERSION, "another"
     remove(path)
     with Copy(os.fsencode(f"{folder}/anna")) as copy:
         copy.open()
@@ -134,7 +134,7 @@ def of_another_version(folder):
         for question in QUESTIONS:
             copy.repository.cache.put(state, question.format(own=copy.own).encode() + b"\n", b"names main 0\n")
     LOADED.clear()
-    cache.__version__ = version
+    cached.VERSION = version
     with open(path, "rb") as file:
         return file.read()
 
@@ -146,7 +146,7 @@ def remove(path):
 
 def read_only(report, folder):
     """A cache that can't be written, as one of somebody else, is read where it fits and left alone."""
-    from campvc.cache import Cache
+    from camp.cached import Cache
     os.chmod(folder, 0o755)
     os.makedirs(f"{folder}/closed")
     path, states = f"{folder}/closed/cache.db", (b"state", b"other")

@@ -51,7 +51,7 @@ def ask_server(words: List[str]) -> int | None:
             socket.send_fds(connection, [b"%9d" % len(text)], [0, 1, 2])
             connection.sendall(text)
             child = int(answers.readline())
-        except (OSError, ValueError):
+        except (OSError, ValueError, AttributeError):
             return None
         return follow(child, answers)
 

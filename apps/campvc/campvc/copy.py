@@ -13,6 +13,7 @@ import sqlite3
 from typing import Dict, Iterator, List, Sequence
 
 from camp import Conflict, NoBranch, sides, worktree
+from camp.cached import CachedAnswers, Stamps, digest
 from camp.changes import command
 from camp.coding import Files, decode, places
 from camp.errors import error_of
@@ -22,7 +23,6 @@ from camp.offline import Calls, Loaded, Offline
 from camp.shared import NOT_TAKEN, Stopped
 
 from . import Failure, show
-from .cache import Answers, Stamps, digest
 from .state import State, locked
 
 # What a repository on a new log holds at most: changes in a branch, and branches, of which each copy has one.
@@ -69,7 +69,7 @@ class Copy(Offline):
             raise Failure("{} is not complete: its making was interrupted; remove it, and try again".format(folder), 128)
         path = os.path.join(os.fsdecode(top), ".camp", "seen.db")
         super().__init__(path, LOADED.pop(path, None))
-        self.repository = Answers(self, os.path.join(os.fsdecode(top), ".camp", "cache.db"))
+        self.repository = CachedAnswers(self, os.path.join(os.fsdecode(top), ".camp", "cache.db"))
 
     def __exit__(self, kind: object = None, *_: object) -> None:
         # What was interrupted may have been left half done.

@@ -1,8 +1,14 @@
-"""Answers that were given before, in `.camp/cache.db`: a command that only shows something need not load the repository.
+"""What was found before, in SQLite files: answers of a shared repository, so that a program that only shows something need not load it, and stamps
+of files, so that those that did not change are not read again.
 
-Each row has a digest of the state of the repository, the question and the answer. A row of another state or of another version, or one
-that is damaged, has another digest and counts for nothing, so the file may be cut, copied or removed at any time. It answers
-questions alone: calls are decided by the repository."""
+    with Offline("seen.db") as repository:
+        repository.open()
+        answers = CachedAnswers(repository, "cache.db")
+        print(answers.names("main"))                   # loads the repository the first time, and when the log has grown
+
+Each row has a digest of the state, the question and the answer. A row of another state or of another version, or one that is damaged, has
+another digest and counts for nothing, so the file may be cut, copied or removed at any time. It answers questions alone: calls are decided by
+the repository."""
 
 from __future__ import annotations
 
@@ -13,14 +19,12 @@ import os
 import sqlite3
 import sys
 import threading
-from typing import Dict, Tuple
+from typing import Dict, Optional, Tuple
 
-import camp
-from camp.offline import Offline
-from camp.questions import Questions
-from camp.worktree import Stamp
-
-from . import __version__
+from ._library import VERSION
+from .offline import Offline
+from .questions import Questions
+from .worktree import Stamp
 
 # The questions whose answers are kept, up to so many bytes; and a word that is no question, for all notes.
 KEPT, MOST, NOTES = ("annotate", "branches", "conflicts", "held", "missing", "names", "needs", "open", "show", "side"), 1 << 22, b"notes"
@@ -39,7 +43,7 @@ class Cache:
 
     def __init__(self, path: str) -> None:
         self.path, self.state = path, b""
-        self.base: sqlite3.Connection | None = None
+        self.base: Optional[sqlite3.Connection] = None
 
     def _open(self) -> sqlite3.Connection:
         if self.base is None:
@@ -48,7 +52,7 @@ class Cache:
             self.base.execute(TABLE)
         return self.base
 
-    def get(self, state: bytes, question: bytes) -> bytes | None:
+    def get(self, state: bytes, question: bytes) -> Optional[bytes]:
         """The answer to a question at a state, if it is kept."""
         try:
             row = self._open().execute("SELECT answer, digest FROM answers WHERE question = ?", (question,)).fetchone()
@@ -80,7 +84,7 @@ class Cache:
         self.base = None
 
 
-class Answers(Questions):
+class CachedAnswers(Questions):
     """What a shared repository answers: out of a cache where that has it, else the repository is loaded for it."""
 
     def __init__(self, of: Offline, path: str) -> None:
@@ -92,11 +96,10 @@ class Answers(Questions):
         self.cache.close()
 
     def state(self) -> bytes:
-        """What stands for all that answers depend on: versions, the log up to its last entry, and the calls behind it."""
+        """What stands for all that answers depend on: the version, the log up to its last entry, and the calls behind it."""
         if self._state[0] != self.of.at():
             entries, last, behind = self.of.position()
-            versions = "{} {}".format(__version__, camp.__version__)
-            self._state = self.of.at(), digest(versions.encode(), b"%d" % entries, last, *(part for call in behind for part in call))
+            self._state = self.of.at(), digest(VERSION.encode(), b"%d" % entries, last, *(part for call in behind for part in call))
         return self._state[1]
 
     def _respond(self, text: bytes) -> bytes:
