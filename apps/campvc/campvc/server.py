@@ -1,9 +1,9 @@
 """A command server: a process that remains when a command had to load a large repository, and runs the next commands in this copy.
 
-Each runs in a child of the server, which has the repository loaded already, and reads what the log has beyond that: it does just what it
-would do in a process of its own, in the caller's folder, environment, files and terminal. The server listens at `.camp/server`, which its user alone
-can open. It ends after ten minutes without a command, and when its socket, the program or the library is another one. CAMPVC_SERVER=0 turns it off; with 1 each
-command that has loaded a repository leaves one behind, however small that is."""
+Each runs in a child of the server, which has the repository loaded already, and reads what the log has beyond that. It does what it would do
+in a process of its own, with the caller's folder, environment, files and terminal. The server listens at `.camp/server`, which its user alone
+can open. It ends after ten minutes without a command, and when its socket, the program or the library is another one. CAMPVC_SERVER=0 turns
+it off; with 1 each command that has loaded a repository leaves one behind, however small that is."""
 
 from __future__ import annotations
 
