@@ -88,7 +88,7 @@ module _ {D : Type 0} (seen : D → List ℕ) (may_leave : D → List ℕ → Ty
         written_now = subst (λ (h : Entries). HasAnswered a b old after first (at h lines diagnostic)) (sym same)
             (holds_trans a buffers.left b old now after buffered first buffers.middle (at kept.book lines diagnostic) buffers.written buffers.pending grows)
 
-    module _ (c : Option (List ℕ)) (more : List ℕ) (new : DurableRepository D) (same_log : new.log ≡ kept.log) (same_count : new.count ≡ kept.count) where
+    module _ (c : Option (List ℕ)) (more : List ℕ) (new : DurableRepository D) (same_log : new.log ≡ kept.log) (same_count : new.durable_count ≡ kept.durable_count) where
       holds_still : PersistsCalls seen may_leave buffers.calls new
       holds_still = record {
         accepted = buffers.holds.accepted;
@@ -320,7 +320,7 @@ flushed_first seen may_leave durable a b old now after first kept new buffered r
 
 -- whatever the result of a step after which everything is flushed
 module _ {D : Type 0} (seen : D → List ℕ) (may_leave : D → List ℕ → Type 0) (durable : StoreContents) (a b d old now : Option (List ℕ)) (first : SessionState) (kept executed : DurableRepository D) (buffered more : List ℕ) (lines after : ℕ) (diagnostic learnt : Diagnostic)
-    (buffers : BuffersAnswers seen may_leave durable a b old now buffered first (at kept.book lines diagnostic) kept) (same_log : executed.log ≡ kept.log) (same_count : executed.count ≡ kept.count)
+    (buffers : BuffersAnswers seen may_leave durable a b old now buffered first (at kept.book lines diagnostic) kept) (same_log : executed.log ≡ kept.log) (same_count : executed.durable_count ≡ kept.durable_count)
     (new : DurableRepository D) (same : new.book ≡ executed.book) (rest : List ℕ) (then : Option (List ℕ)) where
   module _ (takes_step : TakesStep b d (Some buffered) (Some more) (at kept.book lines diagnostic) (Ok false) (at executed.book after learnt)) where
     ended_with_buffer : FailsBuffered seen may_leave durable a d old now more first executed

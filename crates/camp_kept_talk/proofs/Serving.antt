@@ -25,7 +25,7 @@ use Rattle.camp_talk.proofs.Growing.{serves_grow}
 use Rattle.camp_talk.proofs.Served.{served_in_turn as served_so}
 
 module _ {D : Type 0} (seen : D → List ℕ) (may_leave : D → List ℕ → Type 0) (durable : StoreContents) (a b before : Option (List ℕ)) (old executed : DurableRepository D) (held : List ℕ)
-    (same_log : executed.log ≡ old.log) (same_count : executed.count ≡ old.count) (front : AreFirstCalls durable old) (holds : PersistsCalls seen may_leave durable old) where
+    (same_log : executed.log ≡ old.log) (same_count : executed.durable_count ≡ old.durable_count) (front : AreFirstCalls durable old) (holds : PersistsCalls seen may_leave durable old) where
   -- asking the book does not change the disk
   holds_executed : PersistsCalls seen may_leave durable executed
   holds_executed = record {
