@@ -1,4 +1,3 @@
 pub mod Asking
 pub mod Inside
-pub mod Laws
 pub mod Sharing
