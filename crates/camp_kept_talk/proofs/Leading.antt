@@ -92,7 +92,7 @@ module _ {D : Type 0} (seen : D → List ℕ) (may_leave : D → List ℕ → Ty
       holds_still : PersistsCalls seen may_leave buffers.calls new
       holds_still = record {
         accepted = buffers.holds.accepted;
-        keeps = subst (λ log. PersistsTexts seen may_leave (store_texts buffers.calls) log) (sym same_log) buffers.holds.keeps;
+        texts = subst (λ log. PersistsTexts seen may_leave (store_texts buffers.calls) log) (sym same_log) buffers.holds.texts;
         count_is = same_count ∙ buffers.holds.count_is;
       }
 
@@ -164,7 +164,7 @@ module _ {D : Type 0} (seen : D → List ℕ) (may_leave : D → List ℕ → Ty
           → EndsWithStep a c old then first take_step new.book
       ends_as after learnt then take_step takes_step = record {
         left = b;
-        buffered = append_known now buffered;
+        held = append_known now buffered;
         middle = at kept.book lines diagnostic;
         last = at new.book after learnt;
         holds = holds_trans a buffers.left b old now (append_known now buffered) buffered first buffers.middle (at kept.book lines diagnostic) buffers.written buffers.pending (appends_known now buffered);
