@@ -32,6 +32,11 @@ def limits_of(title: bytes) -> Dict[str, int]:
     return {"catches": int(found[1]), "branches": int(found[2])} if found[1] else {}
 
 
+def default_patience() -> float:
+    """For how many seconds an engine may be silent: those that CAMP_PATIENCE says, or 5."""
+    return float(os.environ.get("CAMP_PATIENCE", 5.0))
+
+
 class AppendOutcome(enum.Enum):
     """What is known of an append."""
     APPENDED = "appended"
@@ -160,13 +165,15 @@ class SqliteLog:
 
 
 class RememberedLog:
-    """A log, and what of it was read before, in a SQLite file. Without an engine it has just that, and appends nothing."""
+    """A log, and what of it was read before, in a SQLite file. Without an engine it has just that, as it is at first, and appends
+    nothing."""
 
     def __init__(self, path: str, engine: Optional[Log] = None):
         self.engine = engine
         self._base = sqlite3.connect(os.fspath(path), timeout=10.0, isolation_level=None, check_same_thread=False)
         try:
             self._base.execute("CREATE TABLE IF NOT EXISTS entries (at INTEGER PRIMARY KEY, text BLOB NOT NULL)")
+            self._end = self.known()
             self._check()
         except BaseException:
             self._base.close()
@@ -176,13 +183,18 @@ class RememberedLog:
         """How many entries were read before."""
         return self._base.execute("SELECT count(*) FROM entries").fetchone()[0]
 
+    def entry(self, index: int) -> bytes:
+        """An entry that was read before; empty where it was not."""
+        found = self._base.execute("SELECT text FROM entries WHERE at = ?", (index,)).fetchone()
+        return found[0] if found else b""
+
     def _check(self) -> None:
         """`Foreign` where the engine does not have what was read last."""
-        last = self.known() - 1
+        last = self._end - 1
         if last < 0 or self.engine is None:
             return
         found = self.engine.read(last, 1.0) if self.engine.length() > last else []
-        if found[:1] != [row[0] for row in self._base.execute("SELECT text FROM entries WHERE at = ?", (last,))]:
+        if found[:1] != [self.entry(last)]:
             raise Foreign("this log is another one than that which was read before, or it was cut")
 
     def append(self, tag: str, text: bytes) -> AppendOutcome:
@@ -191,7 +203,8 @@ class RememberedLog:
         return self.engine.append(tag, text)
 
     def read(self, index: int, wait: float = 0.0) -> List[bytes]:
-        known = [row[0] for row in self._base.execute("SELECT text FROM entries WHERE at >= ? ORDER BY at LIMIT 1024", (index,))]
+        rows = self._base.execute("SELECT at, text FROM entries WHERE at >= ? ORDER BY at LIMIT 1024", (index,))
+        known = [text for at, text in rows if self.engine or at < self._end]
         if known or self.engine is None:
             return known
         found = self.engine.read(index, wait)
@@ -200,8 +213,19 @@ class RememberedLog:
         self._base.execute("COMMIT")
         return found
 
+    def fetch(self) -> int:
+        """Reads all that the engine has and was not read before, and returns how many entries are known then. `Away` where the engine
+        sends nothing for a while."""
+        known, length, end = self._end, self.length(), time.monotonic() + default_patience()
+        while known < length:
+            found = self.read(known, 0.2)
+            known, end = known + len(found), time.monotonic() + default_patience() if found else end
+            if time.monotonic() > end:
+                raise Away("the log says that it has more, and does not send it")
+        return known
+
     def length(self) -> int:
-        return self.engine.length() if self.engine else self.known()
+        return self.engine.length() if self.engine else self._end
 
     def close(self) -> None:
         self._base.close()

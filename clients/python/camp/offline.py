@@ -9,8 +9,9 @@ is back.
 
 from __future__ import annotations
 
+import contextlib
 import sqlite3
-from typing import Callable, List, Optional, Sequence, Tuple
+from typing import Callable, List, NamedTuple, Optional, Sequence, Tuple
 
 from .errors import OutcomeUnknown
 from .logs import Away, Log, RememberedLog
@@ -20,12 +21,32 @@ from .shared import Shared
 Calls = List[Tuple[bytes, bytes]]
 
 
-class Offline:
-    """`shared` answers questions: at what was read of the log, and what waits. `away` says why the log can't be asked, if so."""
+class Loaded(NamedTuple):
+    """A repository that has what a log has up to an entry, and that entry."""
+    shared: Shared
+    last: bytes
 
-    def __init__(self, path: str) -> None:
+    def advance(self, path: str) -> Optional[Loaded]:
+        """The repository with what was read since, as it is remembered at a path; None where that is another log."""
+        with contextlib.closing(RememberedLog(path)) as log:
+            if log.entry(self.shared.entries - 1) != self.last:
+                return None
+            self.shared.go_on_with(log)
+            self.shared.sync()
+            return Loaded(self.shared, log.entry(self.shared.entries - 1))
+
+
+class Offline:
+    """`shared` answers questions: at what was read of the log, and what waits. It is loaded when it is first used, or goes on from what was
+    loaded before, of the same path. `away` says why the log can't be asked, if so."""
+
+    def __init__(self, path: str, loaded: Optional[Loaded] = None) -> None:
         self.path, self.away = path, "not asked"
-        self.log, self.shared = None, None  # type: Optional[RememberedLog], Shared
+        self.log: Optional[RememberedLog] = None
+        self._shared: Optional[Shared] = None
+        self._known, self._loaded, self._openings = 0, loaded, 0
+        # The calls that wait: they are executed behind those of the log.
+        self._behind: Calls = []
         self._base = sqlite3.connect(path, timeout=10.0, isolation_level=None, check_same_thread=False)
         self._base.execute("CREATE TABLE IF NOT EXISTS waiting (at INTEGER PRIMARY KEY, call BLOB NOT NULL, note BLOB NOT NULL)")
 
@@ -36,12 +57,55 @@ class Offline:
         self.close()
 
     def open(self, engine: Optional[Log] = None) -> None:
-        """Reads what is known, and from an engine what is new. Without one, what waits is executed here."""
+        """Reads from an engine what is new. Without one there is what is known, and what waits."""
+        loaded, self._loaded = self._loaded or self.detach(), None
+        self._close()
+        self._openings += 1
         self.log = RememberedLog(self.path, engine)
-        self.shared = Shared(self.log)
-        self.shared.sync()
-        if engine is None:
-            self.shared.execute_here(self.waiting())
+        self._known = self.log.fetch()
+        self._behind = [] if engine else self.waiting()
+        if loaded and self.log.entry(loaded.shared.entries - 1) == loaded.last:
+            loaded.shared.go_on_with(self.log)
+            self._load(loaded.shared)
+        elif loaded:
+            loaded.shared.close()
+
+    @property
+    def shared(self) -> Shared:
+        """The repository. The first use loads it."""
+        if self._shared is None:
+            assert self.log
+            self._load(Shared(self.log))
+        assert self._shared
+        return self._shared
+
+    def _load(self, shared: Shared) -> None:
+        shared.sync()
+        if self._behind:
+            shared.execute_here(self._behind)
+        self._shared = shared
+
+    @property
+    def is_loaded(self) -> bool:
+        """Whether the repository is loaded."""
+        return self._shared is not None
+
+    def detach(self) -> Optional[Loaded]:
+        """Gives the loaded repository away, for another object with this path; None where it has more than the log, or may have."""
+        if self._shared is None or self.log is None or not self._shared.is_settled:
+            return None
+        shared, self._shared = self._shared, None
+        return Loaded(shared, self.log.entry(shared.entries - 1))
+
+    def at(self) -> Tuple[int, int, int]:
+        """What changes whenever `position` may: how often it was opened, how many entries it has, and how many calls are behind."""
+        return self._openings, self._shared.entries if self._shared else self._known, len(self._behind)
+
+    def position(self) -> Tuple[int, bytes, Calls]:
+        """Where the repository is, or will be once it is loaded: how many entries of the log it has, the last of them, and the calls behind."""
+        assert self.log
+        entries = self._shared.entries if self._shared else self._known
+        return entries, self.log.entry(entries - 1), self._behind
 
     def connect(self, open_engine: Callable[[], Log]) -> List[Tuple[bytes, bytes]]:
         """Asks the log for what is new, and for all that waits, unless it is away. Returns the calls that it refuses, each with the answer;
@@ -50,7 +114,7 @@ class Offline:
             self.open(open_engine())
             self.away = ""
             waiting = self.waiting()
-            answers = self.shared.write_all(waiting)
+            answers = self.shared.write_all(waiting) if waiting else []
         except (Away, OutcomeUnknown) as error:
             self._leave(str(error))
             return []
@@ -70,6 +134,7 @@ class Offline:
         self._base.execute("BEGIN IMMEDIATE")
         self._base.executemany("INSERT INTO waiting (call, note) VALUES (?, ?)", accepted)
         self._base.execute("COMMIT")
+        self._behind += accepted
         return answers
 
     def waiting(self) -> Calls:
@@ -81,16 +146,17 @@ class Offline:
         return (self.log.known() if self.log else 0), self.waiting()
 
     def _leave(self, why: str) -> None:
-        self._close_log()
         self.away = why
+        self._close()
         self.open()
 
-    def _close_log(self) -> None:
-        for one in (self.shared, self.log):
+    def _close(self) -> None:
+        for one in (self._shared, self.log):
             if one is not None:
                 one.close()
+        self._shared, self.log = None, None
 
     def close(self) -> None:
         """Gives up what it holds."""
-        self._close_log()
+        self._close()
         self._base.close()

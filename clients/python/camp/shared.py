@@ -21,14 +21,13 @@ from __future__ import annotations
 import collections
 import os
 import re
-import secrets
 import time
 from typing import Any, Deque, Dict, List, NamedTuple, Optional, Sequence, Tuple
 
 from .answers import AcceptedCall, Answer
 from .changes import Change, Text, record_command, to_bytes
 from .errors import Error, OutcomeUnknown, error_of
-from .logs import AppendOutcome, Away, Log, limits_of
+from .logs import AppendOutcome, Away, Log, default_patience, limits_of
 from .repository import Calls, Repository
 
 MAX_CALLS = 256
@@ -114,7 +113,7 @@ class Member:
     a place is an index of the log and which call of the entry, or for what was answered at what was read the index alone."""
 
     def __init__(self, seat: Optional[str] = None):
-        self.repository, self.seat = Repository(), seat or secrets.token_hex(16)
+        self.repository, self.seat = Repository(), seat or os.urandom(16).hex()
         self.index, self.count, self.numbers = 0, 0, {}  # type: int, int, Dict[str, int]
         self.under_way: List[Request] = []
         self.queue: Deque[Request] = collections.deque()
@@ -264,7 +263,7 @@ class Shared(Calls):
     def __init__(self, log: Log, seat: Optional[str] = None, patience: Optional[float] = None) -> None:
         super().__init__()
         self._log, self._member = log, Member(seat)
-        self._patience = float(os.environ.get("CAMP_PATIENCE", 5.0)) if patience is None else patience
+        self._patience = default_patience() if patience is None else patience
         # How many calls were asked of the member: each has its number, since an answer may come after nobody waits for it.
         self._asked = 0
         self._handle, self._lock = self._member.repository._handle, self._member.repository._lock
@@ -283,6 +282,16 @@ class Shared(Calls):
     def accepted(self) -> int:
         """How many calls were accepted in what was read."""
         return self._member.count
+
+    @property
+    def is_settled(self) -> bool:
+        """Whether it has just what was read of the log, and nothing is under way."""
+        return not self._member.under_way and not self._member.queue and self._member.stopped is None
+
+    def go_on_with(self, log: Log) -> None:
+        """Takes another connection to the same log, and a new seat: a process that was forked may go on with the old one."""
+        assert self.is_settled
+        self._log, self._member.seat = log, os.urandom(16).hex()
 
     def sync(self) -> int:
         """Reads all that the log has now, and returns how many calls were accepted in that. `Away` is raised where no engine
