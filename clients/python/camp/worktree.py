@@ -7,13 +7,16 @@ from __future__ import annotations
 import os
 import shutil
 import stat
+import time
 from fnmatch import fnmatchcase
-from typing import Dict, Iterator, List, Optional, Set
+from typing import Dict, Iterator, List, Optional, Set, Tuple
 
 from .coding import EXECUTABLE, LINK, PLAIN, SUBMODULE, File, Files
 from .errors import Error
 
 OWN = b".camp"
+# What is another one once a file is changed: its mode, size, two times and number.
+Stamp = Tuple[int, ...]
 # Names that are never files of a tree: what stands there is of the program that keeps the folder, or of git.
 RESERVED = (OWN, b".git")
 
@@ -71,26 +74,56 @@ def read_file(top: bytes, path: bytes) -> Optional[File]:
         raise Unusable("{} can't be read: chmod u+r it, or list it in .campignore".format(text(path))) from None
 
 
-def scan(top: bytes, base: Files) -> Files:
-    """The files of the working tree; those that are ignored count where the base has them."""
-    ignored, folders = Ignored(top), {path[:at] for path in base for at, byte in enumerate(path) if byte == 0x2F}
+def _stamp_of(entry: os.DirEntry[bytes]) -> Stamp:
+    """The stamp of a file; nothing where it is gone."""
+    try:
+        status = entry.stat(follow_symlinks=False)
+    except FileNotFoundError:
+        return ()
+    return status.st_mode, status.st_size, status.st_mtime_ns, status.st_ctime_ns, status.st_ino
+
+
+def scan(top: bytes, base: Files, unchanged: Optional[Dict[bytes, Stamp]] = None) -> Files:
+    """The files of the working tree; those that are ignored count where the base has them. A file whose stamp is in `unchanged` is as in
+    the base and is not read; the stamps of those that were read and are so are put there."""
+    ignored, folders, stamps = Ignored(top), _folders(base), {} if unchanged is None else unchanged
     found = {path: file for path, file in base.items() if file.mode == SUBMODULE}
-    for path in _walk(top, b"", ignored, folders):
-        if path in base or not ignored.has(path, False):
-            file = read_file(top, path)
-            if file is not None:
-                found[path] = file
+    # A file that was changed just now may be changed once more within the resolution of its times.
+    latest = time.time_ns() - 3_000_000_000
+    for path, entry in _walk(top, b"", ignored, folders):
+        if path not in base and ignored.has(path, False):
+            continue
+        stamp = _stamp_of(entry) if path in base else ()
+        if stamp and stamps.get(path) == stamp:
+            found[path] = base[path]
+            continue
+        file = read_file(top, path)
+        if file is not None:
+            found[path] = file
+        if stamp and file == base[path] and max(stamp[2:4]) < latest:
+            stamps[path] = stamp
     return found
 
 
-def _walk(top: bytes, folder: bytes, ignored: Ignored, folders: Set[bytes]) -> Iterator[bytes]:
+def _folders(base: Files) -> Set[bytes]:
+    """The folders that have files of the base."""
+    folders: Set[bytes] = set()
+    for path in base:
+        at = path.rfind(b"/")
+        while at > 0 and path[:at] not in folders:
+            folders.add(path[:at])
+            at = path.rfind(b"/", 0, at)
+    return folders
+
+
+def _walk(top: bytes, folder: bytes, ignored: Ignored, folders: Set[bytes]) -> Iterator[Tuple[bytes, os.DirEntry[bytes]]]:
     with os.scandir(os.path.join(top, folder)) as entries:
         for entry in entries:
-            path = os.path.join(folder, entry.name)
+            path = folder + b"/" + entry.name if folder else entry.name
             if entry.name.lower() in RESERVED:
                 continue
             if not entry.is_dir(follow_symlinks=False):
-                yield path
+                yield path, entry
             elif path in folders or not ignored.has(path, True):
                 yield from _walk(top, path, ignored, folders)
 
