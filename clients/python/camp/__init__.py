@@ -17,7 +17,7 @@ where the system's loader looks. `python3 -m camp shell`, camp at a terminal, wo
 A line is bytes without its line feed. Wherever lines or texts are given, a string may stand, too: it is encoded as UTF-8.
 """
 
-from ._library import VERSION, require_library
+from ._library import VERSION, library_path, require_library
 from .answers import AcceptedCall, AnnotatedLine, Conflict, Hunk, HunkSide, Outcome, Shown, Tree
 from .changes import Add, Change, Edit, Remove, Text, join_lines, split_lines
 from .diffs import Content, diff
@@ -33,6 +33,6 @@ __all__ = [
     "AcceptedCall", "Add", "AnnotatedLine", "BranchExists", "Change", "Closed", "Conflict", "Content", "Depends", "Diverged",
     "DoesNotApply", "Edit", "Error", "Fault", "Hunk", "HunkSide", "NoBranch", "NoMerge", "NoPatch", "NothingToDo", "OutOfMemory",
     "Outcome", "OutcomeUnknown", "PatchExists", "Questions", "Refused", "Remove", "Repository", "SameBranch", "Shown", "Text",
-    "TooLarge", "Tree", "Unexpected", "View", "WhatIf", "diff", "join_lines", "require_library",
-    "split_lines",
+    "TooLarge", "Tree", "Unexpected", "View", "WhatIf", "diff", "join_lines", "library_path",
+    "require_library", "split_lines",
 ]

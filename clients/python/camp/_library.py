@@ -91,3 +91,9 @@ def require_library() -> None:
     """Loads the library now, and not when the first repository is opened: a program that works with none says so at its start.
     The ImportError says what to run."""
     LIBRARY.camp_open
+
+
+def library_path() -> str:
+    """The path of the library that is loaded; its bare name where the system's loader has found it."""
+    require_library()
+    return LIBRARY._loaded._name

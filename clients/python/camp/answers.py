@@ -91,11 +91,10 @@ class Answer:
 
     def signed(self, count: int, sign: bytes) -> List[bytes]:
         """So many lines, each after a sign, which is taken off."""
-        found = self._next_lines(count)
-        for line in found:
-            if not line.startswith(sign):
-                raise Unexpected("no line after {!r}: {!r}".format(sign, line))
-        return [line[1:] for line in found]
+        first, *found = b"\n".join([b"", *self._next_lines(count)]).split(b"\n" + sign)
+        if first or len(found) != count:
+            raise Unexpected("no line after {!r}".format(sign))
+        return found
 
 
 def number(text: str) -> int:

@@ -3,7 +3,6 @@
 from __future__ import annotations
 
 import re
-from dataclasses import dataclass
 from typing import Iterable, List, Optional, Sequence, Tuple, Union
 
 Text = Union[str, bytes]
@@ -57,29 +56,64 @@ def _lines(what: str, lines: Iterable[Text]) -> Tuple[bytes, ...]:
     return found
 
 
-@dataclass(frozen=True)
-class Add:
+class _Value:
+    """A value of some parts. It does not change, and equals those of its class with equal parts."""
+
+    __slots__ = ()
+    __match_args__: Tuple[str, ...] = ()
+
+    def _parts(self) -> Tuple[object, ...]:
+        return tuple(getattr(self, name) for name in self.__match_args__)
+
+    def __eq__(self, other: object) -> bool:
+        return self._parts() == other._parts() if isinstance(other, _Value) and type(other) is type(self) else NotImplemented
+
+    def __hash__(self) -> int:
+        return hash((type(self).__name__, *self._parts()))
+
+    def __repr__(self) -> str:
+        named = ("{}={!r}".format(name, value) for name, value in zip(self.__match_args__, self._parts()))
+        return "{}({})".format(type(self).__name__, ", ".join(named))
+
+    def __reduce__(self) -> Tuple[object, ...]:
+        return type(self), self._parts()
+
+    def __setattr__(self, name: str, value: object) -> None:
+        raise AttributeError("{} does not change".format(type(self).__name__))
+
+    def __delattr__(self, name: str) -> None:
+        raise AttributeError("{} does not change".format(type(self).__name__))
+
+
+class Add(_Value):
     """Adds a file without lines."""
+    __slots__ = __match_args__ = ("path",)
     path: str
+
+    def __init__(self, path: str) -> None:
+        object.__setattr__(self, "path", path)
 
     def text(self) -> bytes:
         """The change as a command has it."""
         return b"add " + word(self.path) + b"\n"
 
 
-@dataclass(frozen=True)
-class Remove:
+class Remove(_Value):
     """Removes a file, which has to have no lines."""
+    __slots__ = __match_args__ = ("path",)
     path: str
+
+    def __init__(self, path: str) -> None:
+        object.__setattr__(self, "path", path)
 
     def text(self) -> bytes:
         """The change as a command has it."""
         return b"remove " + word(self.path) + b"\n"
 
 
-@dataclass(frozen=True, init=False)
-class Edit:
+class Edit(_Value):
     """Replaces the old lines of a file, which stand from `line` on, by new ones. Lines count from 1."""
+    __slots__ = __match_args__ = ("path", "line", "old", "new")
     path: str
     line: int
     old: Tuple[bytes, ...]
