@@ -5,7 +5,7 @@ import sys
 
 HERE = os.path.dirname(os.path.abspath(__file__))
 sys.path[:0] = [HERE, os.path.join(HERE, "..", "..", "clients", "python")]
-sys.dont_write_bytecode = True
+sys.pycache_prefix = os.path.join(HERE, "..", "..", "out", "pycache")
 
 from campvc.__main__ import main  # noqa: E402
 

@@ -62,7 +62,7 @@ def python_with(modules):
 def environment(folder, who="anna", **more):
     """The environment of a command: `campvc` is on the PATH, and names and dates are the same each time."""
     own = {"PATH": f"{folder}/bin:{os.environ['PATH']}", "PYTHONPATH": ":".join(PACKAGES), "PYTHONDONTWRITEBYTECODE": "1", "HOME": folder,
-           "CAMPVC_COPY": who, "CAMPVC_AUTHOR": AUTHORS.get(who, who), "CAMPVC_DATE": DATE, "CAMPVC_PATIENCE": "1", "LC_ALL": "C.UTF-8"}
+           "CAMPVC_COPY": who, "CAMPVC_AUTHOR": AUTHORS.get(who, who), "CAMPVC_DATE": DATE, "CAMPVC_PATIENCE": "1", "CAMPVC_SERVER": os.environ.get("CAMPVC_SERVER", "0"), "LC_ALL": "C.UTF-8"}
     return {**os.environ, **own, **more}
 
 

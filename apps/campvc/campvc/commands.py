@@ -5,7 +5,6 @@ from __future__ import annotations
 import argparse
 import contextlib
 import os
-import secrets
 import shutil
 from typing import Collection, List, Optional
 
@@ -37,7 +36,7 @@ def new_copy(folder: bytes, address: str, name: Optional[str], branch: str, must
     if must_exist and os.path.isdir(top) and os.listdir(top):
         raise Failure("{} is not empty: name a new folder, `campvc clone LOG FOLDER`".format(text(top)), 128)
     author = default_author()
-    name = name or os.environ.get("CAMPVC_COPY") or "{}-{}".format(slug(author.split(" ")[0], 10), secrets.token_hex(2))
+    name = name or os.environ.get("CAMPVC_COPY") or "{}-{}".format(slug(author.split(" ")[0], 10), os.urandom(2).hex())
     if slug(name, 12) != name:
         raise Failure("{} is no name of a copy: take up to 12 of a to z, 0 to 9 and `-`".format(name), 128)
     is_new = not os.path.isdir(top)
@@ -82,7 +81,7 @@ def absolute(address: str) -> str:
 def status(words: Words) -> int:
     with reading() as copy:
         emit("on branch {} (copy {})".format(copy.branch, copy.name))
-        here, there = copy.shared.missing(copy.own, copy.branch), copy.shared.missing(copy.branch, copy.own)
+        here, there = copy.repository.missing(copy.own, copy.branch), copy.repository.missing(copy.branch, copy.own)
         if copy.waiting():
             emit("  {} wait for the log: `campvc sync` sends them".format(counted(len(copy.waiting()), "call")))
         if there:
@@ -129,7 +128,7 @@ def diff_command(words: Words) -> int:
 def record(words: Words) -> int:
     with writing() as copy:
         base, files, marked = copy.state.base(), copy.scan(), marked_files(copy)
-        found = {path: pairs for path, pairs in sides.unresolved(copy.shared, copy.own).items() if file_name(path) in marked}
+        found = {path: pairs for path, pairs in sides.unresolved(copy.repository, copy.own).items() if file_name(path) in marked}
         in_conflict = {file_name(path) for path in found}
         paths = chosen(copy, words.paths, sorted({*changed(base, files), *in_conflict}), {*files, *base, *in_conflict})
         for path in paths:
@@ -139,15 +138,15 @@ def record(words: Words) -> int:
         changes = [file_changes(old, files, path) for path in paths]
         changes = select(changes) if words.interactive else changes
         decided, all_changes = [path for path in found if file_name(path) in paths], [it for some in changes for it in some]
-        changes.append(sides.decisions(copy.shared, copy.own, decided, found, all_changes))
+        changes.append(sides.decisions(copy.repository, copy.own, decided, found, all_changes))
         if not any(changes):
             emit("nothing to record")
             return 1
         message = words.message if words.message is not None else show.ask("What is it for? ")
-        before = set(copy.shared.open(copy.own))
+        before = set(copy.repository.open(copy.own))
         record_changes(copy, in_patches(changes), new_note(message, copy.state.get("author")), paths)
         remember_marked(copy, [path for path in marked if path not in paths])
-        for pair in sorted(before - set(copy.shared.open(copy.own))):
+        for pair in sorted(before - set(copy.repository.open(copy.own))):
             emit("resolves the conflict of {} and {}".format(*pair))
     return 0
 
@@ -156,11 +155,11 @@ def record_changes(copy: Copy, parts: List[List[Change]], note: Note, paths: Lis
     """Records patches of these files, and publishes them."""
     name = patch_name(note, [it for part in parts for it in part], copy.name)
     names = ["{}-{}".format(name, at + 1) for at in range(len(parts) - 1)] + [name]
-    others = set(copy.shared.open(copy.branch))
+    others = set(copy.repository.open(copy.branch))
     copy.record([(record_command(copy.own, one, part), note.text()) for one, part in zip(names, parts)], paths)
     copy.publish(names)
     emit("recorded {}{}".format(name, " in {} patches".format(len(names)) if len(names) > 1 else ""))
-    if any(set(pair) & set(names) for pair in set(copy.shared.open(copy.branch)) - others):
+    if any(set(pair) & set(names) for pair in set(copy.repository.open(copy.branch)) - others):
         emit("in {} it is in conflict with what others recorded: `campvc sync` takes that over".format(copy.branch))
 
 
@@ -175,17 +174,17 @@ def show_command(words: Words) -> int:
         name = copy.name_of(words.patch)
         state = show.states_of(copy, copy.own).get(name, "")
         show.print_patch(copy, name, state)
-        for title, names in (("needs", copy.shared.needs(copy.own, [name])), ("holds", copy.shared.held(copy.own, [name]))):
+        for title, names in (("needs", copy.repository.needs(copy.own, [name])), ("holds", copy.repository.held(copy.own, [name]))):
             emit("{:7} {}".format(title, ", ".join(it for it in names if it != name) or "no other patch"))
         emit("\nits side, as changes of what is there now:" if state else "")
-        show.print_changes(copy.shared.side(copy.own, name) if state else copy.shared.show(copy.own, name).changes)
+        show.print_changes(copy.repository.side(copy.own, name) if state else copy.repository.show(copy.own, name).changes)
     return 0
 
 
 def annotate(words: Words) -> int:
     with reading() as copy:
         path = os.path.relpath(os.path.abspath(os.fsencode(words.path)), copy.top)
-        lines = copy.shared.annotate(copy.own, encode_path(path))
+        lines = copy.repository.annotate(copy.own, encode_path(path))
         if lines is None:
             raise Failure("{}: there is no such file in {}".format(words.path, copy.branch))
         width = max([len(line.name) for line in lines] or [0])
@@ -198,9 +197,9 @@ def annotate(words: Words) -> int:
 
 def branches(words: Words) -> int:
     with reading() as copy:
-        for name in copy.shared.branches():
+        for name in copy.repository.branches():
             if words.all or "--" not in name:
-                count, pairs = len(copy.shared.names(name)), len(copy.shared.open(name))
+                count, pairs = len(copy.repository.names(name)), len(copy.repository.open(name))
                 more = ", " + counted(pairs, "unresolved conflict") if pairs else ""
                 emit("{} {}  {}{}".format("*" if name == copy.branch else " ", name, counted(count, "patch"), more))
     return 0
@@ -218,13 +217,13 @@ def branch(words: Words) -> int:
 def switch(words: Words) -> int:
     with writing() as copy:
         own = copy.own_of(words.name)
-        if words.name not in copy.shared.branches():
+        if words.name not in copy.repository.branches():
             raise NoBranch(words.name)
         copy.check_clean("switch")
-        is_new = own not in copy.shared.branches()
+        is_new = own not in copy.repository.branches()
         calls = [(command("branch", own, words.name), b"")] if is_new else []
-        copy.bring(calls, decode(copy.shared.tree(words.name if is_new else own)), words.name)
-        lacks = copy.shared.missing(copy.branch, copy.own)
+        copy.bring(calls, decode(copy.repository.tree(words.name if is_new else own)), words.name)
+        lacks = copy.repository.missing(copy.branch, copy.own)
         more = "; {} of it not here: `campvc sync` takes over".format(counted(len(lacks), "patch")) if lacks else ""
         emit("on branch {}{}".format(copy.branch, more))
     return 0
@@ -239,7 +238,7 @@ def take(copy: Copy, branch: str, names: List[str], yes: bool, publish: bool = T
     if more and not show.agreed("{} of these come along, since the others need them. Pull all?".format(len(more)), yes):
         raise Failure("nothing is pulled")
     before = copy.unresolved()
-    outcome = copy.shared.whatif.pull(branch, copy.own, listed)
+    outcome = copy.repository.whatif.pull(branch, copy.own, listed)
     copy.bring([(command("pull", branch, copy.own, *listed), b"")], decode(outcome.tree))
     if publish:
         copy.publish(listed)
@@ -254,7 +253,7 @@ def take(copy: Copy, branch: str, names: List[str], yes: bool, publish: bool = T
 def pull(words: Words) -> int:
     with writing() as copy:
         copy.check_clean("pull")
-        missing = copy.shared.missing(words.branch, copy.own)
+        missing = copy.repository.missing(words.branch, copy.own)
         names = [copy.name_of(it, words.branch) for it in words.patches] or missing
         if not set(names) & set(missing):
             emit("nothing to pull: all of it is here")
@@ -264,11 +263,11 @@ def pull(words: Words) -> int:
 
 def sync(words: Words) -> int:
     with writing(absolute(words.log)) as copy:
-        names, status = copy.shared.missing(copy.branch, copy.own), 0
+        names, status = copy.repository.missing(copy.branch, copy.own), 0
         if names:
             copy.check_clean("{} of {} not taken over".format(counted(len(names), "patch"), copy.branch))
             status = take(copy, copy.branch, names, True, False)
-        lacks = copy.shared.missing(copy.own, copy.branch)
+        lacks = copy.repository.missing(copy.own, copy.branch)
         if lacks and words.publish:
             copy.publish(lacks)
         elif lacks:
@@ -292,12 +291,12 @@ def take_out(words: Words, patches: List[str], keeps_files: bool) -> int:
     with writing() as copy:
         if not keeps_files:
             copy.check_clean("obliterate")
-        names = [copy.name_of(it) for it in patches] or copy.shared.names(copy.own)[-1:]
+        names = [copy.name_of(it) for it in patches] or copy.repository.names(copy.own)[-1:]
         if not names:
             raise Failure("there is no patch to take out")
-        held = copy.shared.held(copy.own, names)
-        there = [name for name in held if name in copy.shared.names(copy.branch)]
-        others = [name for name in copy.shared.held(copy.branch, there) if name not in held]
+        held = copy.repository.held(copy.own, names)
+        there = [name for name in held if name in copy.repository.names(copy.branch)]
+        others = [name for name in copy.repository.held(copy.branch, there) if name not in held]
         if others:
             problem = "in {} patches of others need this: {}; `campvc sync`, and name them too"
             raise Failure(problem.format(copy.branch, ", ".join(others)))
@@ -309,7 +308,7 @@ def take_out(words: Words, patches: List[str], keeps_files: bool) -> int:
         if keeps_files:
             copy.record(calls)
         else:
-            copy.bring(calls, decode(copy.shared.whatif.obliterate(copy.own, held).tree))
+            copy.bring(calls, decode(copy.repository.whatif.obliterate(copy.own, held).tree))
     return 0
 
 

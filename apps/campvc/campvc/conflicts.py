@@ -63,7 +63,7 @@ def conflicts(words: argparse.Namespace) -> int:
 def resolve(words: argparse.Namespace) -> int:
     """Writes marks, or one side, into files in conflict."""
     with writing() as copy:
-        files, base, found = copy.scan(), copy.state.base(), sides.unresolved(copy.shared, copy.own)
+        files, base, found = copy.scan(), copy.state.base(), sides.unresolved(copy.repository, copy.own)
         name = words.take and copy.name_of(words.take)
         wanted = [path for path, pairs in sides.by_file(found).items() if not name or any(name in pair for pair in pairs)]
         named = sorted({os.path.relpath(os.path.abspath(os.fsencode(path)), copy.top) for path in words.paths} or wanted)
@@ -75,7 +75,7 @@ def resolve(words: argparse.Namespace) -> int:
         after = dict(files)
         for path in named:
             if name:
-                side = sides.take_side(copy.shared, copy.own, path, name, found)
+                side = sides.take_side(copy.repository, copy.own, path, name, found)
                 after.update({path: side}) if side else after.pop(path, None)
             else:
                 write_marks(copy, path, found, after)
@@ -92,7 +92,7 @@ def write_marks(copy: Copy, path: bytes, found: sides.Unresolved, files: Files) 
     if place not in found:
         emit("{}: the sides differ in its mode or its end: make it as it is to be, and record".format(shown))
         return
-    hunks = sides.hunks(copy.shared, copy.own, place, found[place])
+    hunks = sides.hunks(copy.repository, copy.own, place, found[place])
     old = files.get(path, File(PLAIN, b""))
     if not any(isinstance(hunk, Hunk) and hunk.sides for hunk in hunks) or b"\0" in old.content:
         emit("{}: no lines to compare: say `campvc resolve --take PATCH {}`, or record it as it is".format(shown, shown))

@@ -13,12 +13,13 @@ import sqlite3
 from typing import Dict, Iterator, List, Sequence
 
 from camp import Conflict, NoBranch, sides, worktree
+from camp.cached import CachedAnswers, Stamps, digest
 from camp.changes import command
 from camp.coding import Files, decode, places
 from camp.errors import error_of
 from camp.logs import Away, Damaged, Foreign, Log, open_log, title_with
 from camp.notes import Note, read_note
-from camp.offline import Calls, Offline
+from camp.offline import Calls, Loaded, Offline
 from camp.shared import NOT_TAKEN, Stopped
 
 from . import Failure, show
@@ -30,6 +31,8 @@ CATCHES, BRANCHES = 1_000_000, 16_384
 DONE_ALREADY = ("5", "6", "7", "8")
 # What a command is doing, as `recover` of the next one finds it.
 UPDATE, RECORD, NOTHING = "update", "record", "nothing"
+# Repositories that are loaded, for the next object with their path.
+LOADED: Dict[str, Loaded] = {}
 
 
 def find_top() -> bytes:
@@ -64,7 +67,21 @@ class Copy(Offline):
         if not self.name:
             folder = worktree.text(os.path.join(top, b".camp"))
             raise Failure("{} is not complete: its making was interrupted; remove it, and try again".format(folder), 128)
-        super().__init__(os.path.join(os.fsdecode(top), ".camp", "seen.db"))
+        path = os.path.join(os.fsdecode(top), ".camp", "seen.db")
+        super().__init__(path, LOADED.pop(path, None))
+        self.repository = CachedAnswers(self, os.path.join(os.fsdecode(top), ".camp", "cache.db"))
+
+    def __exit__(self, kind: object = None, *_: object) -> None:
+        # What was interrupted may have been left half done.
+        loaded = self.detach() if kind is None else None
+        if loaded:
+            LOADED[self.path] = loaded
+        self.close()
+
+    def close(self) -> None:
+        super().close()
+        self.repository.close()
+        self.state.close()
 
     @property
     def branch(self) -> str:
@@ -99,8 +116,8 @@ class Copy(Offline):
 
     def along(self, origin: str, to: str, names: Sequence[str]) -> List[str]:
         """What a pull of these patches lists. The library is asked only where something else is missing, too."""
-        missing = self.shared.missing(origin, to)
-        return missing if set(missing) <= set(names) else self.shared.along(origin, to, names)
+        missing = self.repository.missing(origin, to)
+        return missing if set(missing) <= set(names) else self.repository.along(origin, to, names)
 
     def publish(self, names: Sequence[str]) -> None:
         """Pulls patches of the own branch into the one that all share. Where that is refused they stay here."""
@@ -125,7 +142,7 @@ class Copy(Offline):
 
     def recover(self) -> None:
         """Ends what an interrupted command began: makes the own branch, and brings the working tree to it."""
-        if self.own not in self.shared.branches():
+        if self.own not in self.repository.branches():
             self.ask("branch", self.own, self.branch)
         elif not self.state.get("doing"):
             raise Failure("there is a copy {} on this log already: name this one with --copy".format(self.name))
@@ -148,7 +165,14 @@ class Copy(Offline):
 
     def scan(self) -> Files:
         """The files as they are in the working tree."""
-        return worktree.scan(self.top, self.state.base())
+        base, stamps = self.state.base(), Stamps(os.path.join(os.fsdecode(self.top), ".camp", "files.db"))
+        digests = {path: digest(file.mode.encode(), file.content) for path, file in base.items()}
+        unchanged = stamps.read(digests)
+        before = dict(unchanged)
+        found = worktree.scan(self.top, base, unchanged)
+        if unchanged != before:
+            stamps.write(digests, unchanged)
+        return found
 
     def check_clean(self, what: str) -> None:
         """A `Failure` with the names of files that were changed and not recorded."""
@@ -185,11 +209,11 @@ class Copy(Offline):
                 self.state.update({**others, **decode(self.own_tree(paths))}, doing=NOTHING)
 
     def note(self, name: str) -> Note:
-        return read_note(self.shared.notes.get(name, b""))
+        return read_note(self.repository.notes.get(name, b""))
 
     def name_of(self, word: str, branch: str = "") -> str:
         """The patch that a word names: its name, or the beginning of one alone."""
-        names = self.shared.names(branch or self.own)
+        names = self.repository.names(branch or self.own)
         found = [word] if word in names else [name for name in names if name.startswith(word)]
         if len(found) != 1:
             several = "several patches begin with {}: {}".format(word, ", ".join(found[:5]))
@@ -198,7 +222,7 @@ class Copy(Offline):
 
     def unresolved(self) -> Dict[bytes, List[Conflict]]:
         """The unresolved conflicts of the own branch, by the files that they are about."""
-        return sides.by_file(sides.unresolved(self.shared, self.own))
+        return sides.by_file(sides.unresolved(self.repository, self.own))
 
 
 def error_in(answer: bytes) -> Exception:
@@ -238,9 +262,10 @@ def reading() -> Iterator[Copy]:
     """The working copy as it is known, for commands that change nothing."""
     with Copy(find_top()) as copy, named_troubles(copy.address):
         copy.open()
-        if copy.own not in copy.shared.branches():
+        if copy.own not in copy.repository.branches():
             raise Failure("this copy is not complete: `campvc sync` completes it", 128)
         yield copy
+        copy.repository.keep(copy.own, copy.branch)
 
 
 @contextlib.contextmanager
@@ -257,4 +282,5 @@ def writing(address: str = "") -> Iterator[Copy]:
                 copy.state.set("doing", copy.state.get("doing") and UPDATE)
             copy.recover()
             yield copy
+            copy.repository.keep(copy.own, copy.branch)
         show.tell(copy)

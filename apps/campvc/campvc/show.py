@@ -10,7 +10,6 @@ from camp import Change
 from camp.coding import Files
 from camp.described import Kind, change_lines, unified
 from camp.lanes import joints, lanes
-from camp.pictures import listed, read_needs
 
 if TYPE_CHECKING:
     from .copy import Copy
@@ -61,8 +60,8 @@ def print_patch(copy: Copy, name: str, state: str = "") -> None:
 
 def states_of(copy: Copy, branch: str) -> Dict[str, str]:
     """Of patches in conflict with which others they are."""
-    is_open, found = set(copy.shared.open(branch)), {}  # type: set, Dict[str, List[str]]
-    for pair in copy.shared.conflicts(branch):
+    is_open, found = set(copy.repository.open(branch)), {}  # type: set, Dict[str, List[str]]
+    for pair in copy.repository.conflicts(branch):
         for name, other in ((pair.left, pair.right), (pair.right, pair.left)):
             found.setdefault(name, []).append(other + ("" if pair in is_open else " (resolved)"))
     return {name: "in conflict with " + ", ".join(others) for name, others in found.items()}
@@ -70,13 +69,14 @@ def states_of(copy: Copy, branch: str) -> Dict[str, str]:
 
 def needs_of(copy: Copy, branch: str) -> Dict[str, List[str]]:
     """The patches of a branch, each with those that it needs directly. This asks for the whole graph: it takes long where they are many."""
-    return read_needs(listed(copy.shared.ask, "graph", branch))
+    from camp.pictures import listed, read_needs
+    return read_needs(listed(copy.repository.ask, "graph", branch))
 
 
 def print_log(copy: Copy, branch: str) -> None:
     """The patches of a branch, the last one first."""
     states = states_of(copy, branch)
-    for name in reversed(copy.shared.names(branch)):
+    for name in reversed(copy.repository.names(branch)):
         print_patch(copy, name, states.get(name, ""))
 
 

@@ -29,6 +29,10 @@ class State:
         self.db = sqlite3.connect(os.fsdecode(self.path), timeout=PATIENCE, isolation_level="IMMEDIATE", check_same_thread=False)
         self.db.execute("PRAGMA journal_mode = WAL")
         self.db.executescript(TABLES)
+        self._base: Files | None = None
+
+    def close(self) -> None:
+        self.db.close()
 
     def get(self, key: str, default: str = "") -> str:
         row = self.db.execute("SELECT value FROM settings WHERE key = ?", (key,)).fetchone()
@@ -47,10 +51,13 @@ class State:
                     self.db.execute("INSERT OR REPLACE INTO base VALUES (?, ?, ?)", (path, *files[path]))
                 else:
                     self.db.execute("DELETE FROM base WHERE path = ?", (path,))
+        self._base = self._base if files is None else dict(files)
 
     def base(self) -> Files:
         """The files that the working tree was last brought to."""
-        return {row[0]: File(row[1], row[2]) for row in self.db.execute("SELECT path, mode, content FROM base")}
+        if self._base is None:
+            self._base = {row[0]: File(row[1], row[2]) for row in self.db.execute("SELECT path, mode, content FROM base")}
+        return self._base
 
 
 @contextlib.contextmanager

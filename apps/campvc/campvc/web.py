@@ -44,18 +44,15 @@ def readable(line: bytes | str) -> str:
     return "".join(c if c.isprintable() or c == "\t" else c.encode("unicode_escape", "replace").decode() for c in found)
 
 
-def opened(top: bytes) -> Copy:
-    copy = Copy(top)
-    copy.open()
-    return copy
-
-
 class Page:
     """The views of a working copy. Each request looks whether other commands have changed it."""
 
     def __init__(self, top: bytes, token: str) -> None:
-        self.top, self.token, self.copy = top, token, opened(top)
+        self.token, self.copy = token, Copy(top)
+        self.copy.open()
         self.version = self.copy.version()
+        # Loaded before the first request, so that none waits for that.
+        self.copy.shared.accepted
         loader = jinja2.FileSystemLoader(TEMPLATES)
         self.templates = jinja2.Environment(loader=loader, autoescape=True, trim_blocks=True, lstrip_blocks=True)
         self.templates.filters["readable"] = readable
@@ -98,10 +95,10 @@ class Page:
 
     def now(self) -> Copy:
         """The working copy as it is now."""
-        if self.copy.version() != self.version:
-            self.copy.close()
-            self.copy = opened(self.top)
-            self.version = self.copy.version()
+        version = self.copy.version()
+        if version != self.version:
+            self.copy.open()
+            self.version = version
         return self.copy
 
     def render(self, template: str, status: int = 200, **values: Any) -> web.Response:
@@ -113,15 +110,15 @@ class Page:
 
     async def branches(self, request: web.Request) -> web.Response:
         copy, rows = self.now(), []
-        for name in copy.shared.branches():
-            names = copy.shared.names(name)
-            rows.append((name, len(names), len(copy.shared.open(name)), copy.note(names[-1]) if names else None, "--" in name))
+        for name in copy.repository.branches():
+            names = copy.repository.names(name)
+            rows.append((name, len(names), len(copy.repository.open(name)), copy.note(names[-1]) if names else None, "--" in name))
         return self.render("branches.html", rows=sorted(rows, key=lambda row: row[4]))
 
     async def branch(self, request: web.Request) -> web.Response:
         """The newest patches, and older ones page by page; of a branch of many patches without lanes, and its files if asked for."""
         copy, branch, first = self.now(), request.match_info["branch"], max(0, int(request.query.get("from", "0")))
-        names, states = copy.shared.names(branch), show.states_of(copy, branch)
+        names, states = copy.repository.names(branch), show.states_of(copy, branch)
         is_large = len(names) > MOST_WITH_GRAPH
         needs = {} if is_large else show.needs_of(copy, branch)
         rows = [Row(name, 0, [], [], False) for name in reversed(names)] if is_large else list(lanes(needs))
@@ -129,16 +126,16 @@ class Page:
         width = max([1, *(len(some) for row in shown for some in (row.before, row.after))])
         step = min(LANE, 168 / width)
         patches = [(row.name, copy.note(row.name), needs.get(row.name), states.get(row.name, ""), drawn(row, needs, step)) for row in shown]
-        paths = copy.shared.tree(branch) if not is_large or "files" in request.query else None
+        paths = copy.repository.tree(branch) if not is_large or "files" in request.query else None
         files = paths and [(text(file_name(path)), path) for path in paths if decode_path(path) is not None]
         return self.render(
-            "branch.html", branch=branch, patches=patches, files=files, width=step * width, unresolved=len(copy.shared.open(branch)),
+            "branch.html", branch=branch, patches=patches, files=files, width=step * width, unresolved=len(copy.repository.open(branch)),
             later=max(0, first - PAGE) if first else None, earlier=first + PAGE if first + PAGE < len(rows) else None,
             is_large=is_large)
 
     async def picture(self, request: web.Request) -> web.Response:
         """The patches in unresolved conflicts and what they need; as DOT where Graphviz is not installed."""
-        source, dot = self.now().shared.picture(request.match_info["branch"], only_open=True), shutil.which("dot")
+        source, dot = self.now().repository.picture(request.match_info["branch"], only_open=True), shutil.which("dot")
         if not dot:
             return web.Response(text=source)
         done = subprocess.run([dot, "-Tsvg"], input=source.encode(), stdout=subprocess.PIPE, check=True)
@@ -147,15 +144,15 @@ class Page:
     async def patch(self, request: web.Request) -> web.Response:
         """A patch. What it needs is looked up in the graph of its branch; where that is large, as all that it needs, if asked for."""
         copy, branch, name = self.now(), request.match_info["branch"], request.match_info["name"]
-        held, unresolved = [it for it in copy.shared.held(branch, [name]) if it != name], copy.shared.open(branch)
+        held, unresolved = [it for it in copy.repository.held(branch, [name]) if it != name], copy.repository.open(branch)
         needs = None
-        if len(copy.shared.names(branch)) <= MOST_WITH_GRAPH:
+        if len(copy.repository.names(branch)) <= MOST_WITH_GRAPH:
             needs = show.needs_of(copy, branch)[name]
         elif "needs" in request.query:
-            needs = [it for it in copy.shared.needs(branch, [name]) if it != name]
-        conflicts = [pair for pair in copy.shared.conflicts(branch) if name in pair]
+            needs = [it for it in copy.repository.needs(branch, [name]) if it != name]
+        conflicts = [pair for pair in copy.repository.conflicts(branch) if name in pair]
         pairs = [(other, pair in unresolved) for pair in conflicts for other in pair if other != name]
-        changes = copy.shared.side(branch, name) if pairs else copy.shared.show(branch, name).changes
+        changes = copy.repository.side(branch, name) if pairs else copy.repository.show(branch, name).changes
         files = [(text(file_name(path)), encode_path(file_name(path)), list(some))
                  for path, some in groupby(changes, lambda change: change.path)]
         return self.render("patch.html", branch=branch, name=name, note=copy.note(name), needs=needs, held=held, pairs=pairs,
@@ -163,7 +160,7 @@ class Page:
 
     async def file(self, request: web.Request) -> web.Response:
         copy, branch, path = self.now(), request.match_info["branch"], request.query.get("path", "")
-        lines = copy.shared.annotate(branch, path)
+        lines = copy.repository.annotate(branch, path)
         if lines is None:
             raise Failure("there is no such file in {}".format(branch))
         blocks, at = [], 1
@@ -175,8 +172,8 @@ class Page:
 
     async def conflicts(self, request: web.Request) -> web.Response:
         copy, branch = self.now(), request.match_info["branch"]
-        files = [(text(file_name(path)), encode_path(file_name(path)), pairs, places(sides.hunks(copy.shared, branch, path, pairs)))
-                 for path, pairs in sides.unresolved(copy.shared, branch).items()]
+        files = [(text(file_name(path)), encode_path(file_name(path)), pairs, places(sides.hunks(copy.repository, branch, path, pairs)))
+                 for path, pairs in sides.unresolved(copy.repository, branch).items()]
         return self.render("conflicts.html", branch=branch, files=files)
 
 

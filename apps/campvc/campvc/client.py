@@ -1,0 +1,70 @@
+"""Asks the command server of a working copy, where there is one: see `server`. This module is imported first, so it imports little."""
+
+from __future__ import annotations
+
+import contextlib
+import os
+import signal
+import sys
+from typing import Any, List
+
+# Commands that a server does not run: they begin with another repository, or do not end.
+OTHERS = ("init", "clone", "web")
+
+
+def is_off() -> bool:
+    return os.environ.get("CAMPVC_SERVER") == "0"
+
+
+def find_socket() -> str | None:
+    """The socket of the working copy in which this process stands."""
+    folder = os.getcwd()
+    while not os.path.isdir(os.path.join(folder, ".camp")):
+        if folder == os.path.dirname(folder):
+            return None
+        folder = os.path.dirname(folder)
+    path = os.path.join(folder, ".camp", "server")
+    return path if os.path.exists(path) else None
+
+
+def identity() -> List[Any]:
+    """What says that two processes run the same program: a change of a file changes the time of its folder."""
+    own = os.path.dirname(os.path.abspath(__file__))
+    return [sys.version, own, os.stat(own).st_mtime_ns, os.environ.get("CAMP_LIB_DIR", "")]
+
+
+def ask_server(words: List[str]) -> int | None:
+    """The exit status of a command that a server has run; None where none does."""
+    try:
+        path = None if is_off() or words[:1] in [[it] for it in OTHERS] else find_socket()
+    except OSError:
+        return None
+    if path is None:
+        return None
+    import marshal
+    import socket
+    with socket.socket(socket.AF_UNIX) as connection, connection.makefile("r") as answers:
+        try:
+            connection.connect(path)
+            os.umask(mask := os.umask(0))
+            text = marshal.dumps([identity(), words, os.getcwd(), mask, dict(os.environ), sys.stdout.encoding, sys.stdout.errors])
+            socket.send_fds(connection, [b"%9d" % len(text)], [0, 1, 2])
+            connection.sendall(text)
+            child = int(answers.readline())
+        except (OSError, ValueError, AttributeError):
+            return None
+        return follow(child, answers)
+
+
+def follow(child: int, answers: Any) -> int:
+    """Hands signals on to a child until it says its exit status."""
+    def hand_on(number: int, _: Any) -> None:
+        with contextlib.suppress(OSError):
+            os.kill(child, number)
+
+    for number in (signal.SIGINT, signal.SIGTERM, signal.SIGHUP):
+        signal.signal(number, hand_on)
+    status = answers.readline()
+    if not status:
+        print("campvc: the command was ended: `campvc status` shows where you are", file=sys.stderr)
+    return int(status or 137)
