@@ -128,14 +128,12 @@ class CachedAnswers(Questions):
 
     def keep(self, own: str, branch: str) -> None:
         """Keeps what most commands ask of two branches, if the repository is loaded."""
-        if self.of.is_loaded and self.cache.get(self.state(), NOTES) is None:
-            for question in ("names {}", "conflicts {}", "open {}"):
-                self.ask("branches\n")
-                self.ask(question.format(own) + "\n")
-                self.ask(question.format(branch) + "\n")
-            self.ask("missing {} {}\n".format(own, branch))
-            self.ask("missing {} {}\n".format(branch, own))
-            self._keep_notes()
+        if not self.of.is_loaded or self.cache.get(self.state(), NOTES) is not None:
+            return
+        of_each = ["{} {}".format(question, name) for name in (own, branch) for question in ("names", "conflicts", "open")]
+        for question in ("branches", *of_each, "missing {} {}".format(own, branch), "missing {} {}".format(branch, own)):
+            self.ask(question + "\n")
+        self._keep_notes()
 
 
 class Stamps:
