@@ -2,8 +2,8 @@
 ghost use Rattle.std.specs.Prelude.{◌≡◌, Some};
 ghost use Rattle.camp_c.specs.Handles.{AsksRepository, AsksView, answer_of, answer_of_view};
 
-use camp_session::{Session, View};
 use crate::codes::{CLOSED, DONE, MEMORY};
+use camp_session::{Session, View};
 use std::alloc::Global;
 
 /// The value of an open handle.

@@ -5,10 +5,10 @@ ghost use Rattle.camp_repo.specs.Limits.{bounded, default_bounds};
 ghost use Rattle.camp_session.specs.Sessions.{new_repository};
 ghost use Rattle.camp_c.specs.declared.objects.OpenObject.TheVariants.{Session as OfSession};
 
-use camp_session::{Limits, Session};
 use crate::codes::{CLOSED, DONE, LIMITS, MEMORY};
 use crate::handles::Handle;
 use crate::objects::OpenObject;
+use camp_session::{Limits, Session};
 use std::alloc::{AllocError, Global};
 
 /// Opens a closed handle on a new repository with the default limits: one branch `main` without a patch.

@@ -4,11 +4,11 @@ ghost use Rattle.camp_c.specs.Handles.{AsksView, OpensView, OpensViewAgain, answ
 ghost use Rattle.camp_c.specs.Inside.{Shows};
 ghost use Rattle.camp_c.specs.declared.objects.OpenObject.TheVariants.{View as OfView};
 
-use camp_session::View;
 use crate::codes::{CLOSED, DONE, MEMORY};
 use crate::handles::Handle;
 use crate::objects::OpenObject;
 use crate::repositories::copy_front;
+use camp_session::View;
 use std::alloc::{AllocError, Global};
 
 /// Opens a closed handle on a view of a repository as it is now.

@@ -3,9 +3,9 @@ ghost use Rattle.std.specs.Prelude.{◌≡◌, [], IfOk};
 ghost use Rattle.camp_repo.specs.Limits.{default_bounds};
 ghost use Rattle.camp_session.specs.Sessions.{Asks, Views, new_repository};
 
+use crate::View;
 use camp_repo::{Limits, new_book};
 use camp_talk::{Book, State, TalkFault, answer_request};
-use crate::View;
 use std::alloc::{AllocError, Global};
 use std::marker::Model;
 

@@ -185,12 +185,10 @@ const BLANK: &str = "It begins with a blank: the sign comes first, and end is al
     To end the body, write a line with just end.\n";
 
 // Renders that an edit reaches too far.
-const TOO_FAR: &str =
-    "The edit reaches too far: LINE plus the lines of both sides is too great.\n";
+const TOO_FAR: &str = "The edit reaches too far: LINE plus the lines of both sides is too great.\n";
 
 // Renders that a line of a body has no sign.
-const NO_SIGN: &str =
-    "It has no sign, - or +. To end the body, write a line with just end.\n";
+const NO_SIGN: &str = "It has no sign, - or +. To end the body, write a line with just end.\n";
 
 // Renders the hint on the line.
 fn hint_text(hint: Hint) -> &'static str

@@ -119,12 +119,11 @@ fn summary(topic: Topic) -> &'static str
         Topic::Annotate => {
             "annotate BRANCH PATH: the lines of a file, each with the patch that added it\n"
         }
-        Topic::Open => {
-            "open BRANCH: the pairs of patches whose conflict is unresolved\n"
-        }
+        Topic::Open => { "open BRANCH: the pairs of patches whose conflict is unresolved\n" }
         Topic::Side => "side BRANCH NAME: the changes that a patch in conflict asks for\n",
         Topic::Marks => "marks BRANCH PATH: a file with the unresolved sides of its conflicts\n",
-        Topic::Graph => "graph BRANCH [NAME ..]: dependencies and conflicts of patches, for Graphviz\n",
+        Topic::Graph =>
+            "graph BRANCH [NAME ..]: dependencies and conflicts of patches, for Graphviz\n",
         Topic::WhatIf => "whatif COMMAND: the answer that a command would get; nothing changes\n",
         Topic::Why => "why: the cause of the last fault or refusal, and what can be done\n",
         Topic::History => "history: the accepted commands\n",

@@ -106,8 +106,7 @@ pub(crate) fn cure(reason: Reason) -> &'static str
             "A path has 1 to 200 printing ASCII characters and no blank. Between its / no part is\n\
             empty, . or .. and so it begins and ends with no /.\n"
         }
-        Reason::BadLine =>
-            "A line of a body has at most 4096 bytes after its sign. Split it.\n",
+        Reason::BadLine => "A line of a body has at most 4096 bytes after its sign. Split it.\n",
         Reason::NoBranch => "branches lists those that exist, and branch makes one.\n",
         Reason::BranchExists => "Take another name.\n",
         Reason::PatchExists => "Take another name. To have that patch here, pull it.\n",

@@ -187,9 +187,7 @@ fn limit_cure(cause: &Cause) -> &'static str
         Cause::FullBranch { .. } => {
             "Record in a branch with fewer changes, or obliterate patches of this one.\n"
         }
-        Cause::FullWithPull { .. } => {
-            "Pull fewer patches, or obliterate patches of TO.\n"
-        }
+        Cause::FullWithPull { .. } => { "Pull fewer patches, or obliterate patches of TO.\n" }
         Cause::LongSide { .. } => "Split the edit.\n",
         Cause::Stops(_) => "Put some of the lines into another file.\n",
     }
