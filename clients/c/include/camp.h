@@ -6,8 +6,8 @@
  *     camp repository = CAMP_CLOSED;
  *     if (camp_open(&repository) != CAMP_DONE) ...
  *     camp_ask(&repository, (const uint8_t *)"names main\n", 11);
- *     size_t length = camp_answer_length(&repository);
- *     camp_answer(&repository, buffer, length);
+ *     size_t length;
+ *     const uint8_t *answer = camp_answer_bytes(&repository, &length);
  *     camp_close(&repository);
  *
  * Threads: a handle serves one call at a time; where threads share one, put your own lock round it. A view shares
@@ -64,15 +64,24 @@ int32_t camp_open_with(camp *repository, size_t catches, size_t branches);
 /* Asks the commands of a text, which is a conversation of its own: docs/conversation.md has the commands and their answers. The
  * answer is that of each command, one behind another; a refusal or a fault is an answer as any other. A body that is not
  * ended has its fault; lines count from 1 in each text.
- * CAMP_MEMORY: the first commands were answered as far as the answer goes, and one more may have been done. Where you
- * have to know, ask one command at a time, and `history` afterwards. */
+ * CAMP_MEMORY: exactly the first commands of the text were executed, as many as camp_executed returns, and the answer is
+ * theirs, but perhaps without that of the last one. Ask the others again: no command is executed twice. */
 int32_t camp_ask(camp *repository, const uint8_t *text, size_t length);
+
+/* How many commands of the last text were executed: after CAMP_DONE all of them. Each blank line and each comment is one that
+ * asks nothing. A command that was answered `memory` counts, since its answer is there, and has changed nothing. 0 where the
+ * handle is closed. */
+size_t camp_executed(camp *repository);
 
 /* How many bytes the answer to the last text has; 0 where the handle is closed. */
 size_t camp_answer_length(camp *repository);
 
 /* Writes as much of that answer as the buffer takes, from its beginning, and tells how many bytes that is. */
 size_t camp_answer(camp *repository, uint8_t *buffer, size_t length);
+
+/* That answer itself: its bytes, and in `length` how many these are. They stay as they are until the next call with this
+ * handle. NULL and 0 where the handle is closed. */
+const uint8_t *camp_answer_bytes(camp *repository, size_t *length);
 
 /* Closes a handle. One that is closed stays so. */
 void camp_close(camp *repository);
@@ -91,6 +100,9 @@ size_t camp_view_answer_length(camp_view *view);
 
 /* Writes as much of that answer as the buffer takes, from its beginning, and tells how many bytes that is. */
 size_t camp_view_answer(camp_view *view, uint8_t *buffer, size_t length);
+
+/* That answer itself, until the next call with this handle, as camp_answer_bytes. */
+const uint8_t *camp_view_answer_bytes(camp_view *view, size_t *length);
 
 /* Opens a closed handle on one more view of what a view shows. */
 int32_t camp_view_again(camp_view *view, camp_view *other);

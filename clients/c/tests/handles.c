@@ -21,17 +21,21 @@ static int32_t ask(camp *repository, const char *text) { return camp_ask(reposit
 
 static int32_t ask_view(camp_view *view, const char *text) { return camp_view_ask(view, bytes(text), strlen(text)); }
 
-/* Whether the answer is this text. */
+/* Whether the answer is this text, copied and lent. */
 static bool answers(camp *repository, const char *text) {
     char said[1024];
-    size_t length = camp_answer(repository, (uint8_t *)said, sizeof said);
-    return length == strlen(text) && length == camp_answer_length(repository) && !memcmp(said, text, length);
+    size_t length = camp_answer(repository, (uint8_t *)said, sizeof said), lent_length;
+    const uint8_t *lent = camp_answer_bytes(repository, &lent_length);
+    return length == strlen(text) && length == camp_answer_length(repository) && !memcmp(said, text, length)
+        && lent_length == length && (!length || !memcmp(lent, text, length));
 }
 
 static bool view_answers(camp_view *view, const char *text) {
     char said[1024];
-    size_t length = camp_view_answer(view, (uint8_t *)said, sizeof said);
-    return length == strlen(text) && length == camp_view_answer_length(view) && !memcmp(said, text, length);
+    size_t length = camp_view_answer(view, (uint8_t *)said, sizeof said), lent_length;
+    const uint8_t *lent = camp_view_answer_bytes(view, &lent_length);
+    return length == strlen(text) && length == camp_view_answer_length(view) && !memcmp(said, text, length)
+        && lent_length == length && (!length || !memcmp(lent, text, length));
 }
 
 /* The library says its version, and each code has words of its own. */
@@ -48,7 +52,11 @@ static void closed(void) {
     camp repository = CAMP_CLOSED;
     camp_view view = CAMP_CLOSED, other = CAMP_CLOSED;
     uint8_t byte = 7;
-    CHECK(ask(&repository, "names main\n") == CAMP_NOT_OPEN);
+    size_t length = 7;
+    CHECK(ask(&repository, "names main\n") == CAMP_NOT_OPEN && camp_executed(&repository) == 0);
+    CHECK(camp_answer_bytes(&repository, &length) == NULL && length == 0);
+    length = 7;
+    CHECK(camp_view_answer_bytes(&view, &length) == NULL && length == 0);
     CHECK(camp_answer_length(&repository) == 0 && camp_answer(&repository, &byte, 1) == 0 && byte == 7);
     CHECK(camp_look(&repository, &view) == CAMP_NOT_OPEN && !view.is_open);
     CHECK(ask_view(&view, "names main\n") == CAMP_NOT_OPEN);

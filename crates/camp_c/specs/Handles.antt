@@ -65,6 +65,11 @@ abbrev pub answer_of : HandleState → List ℕ
 answer_of (Some (Session repository)) = repository.answer
 answer_of other = []
 
+-- how many commands of the last text of a repository were executed
+abbrev pub executed_of : HandleState → ℕ
+executed_of (Some (Session repository)) = repository.executed
+executed_of other = 0
+
 -- the answer to the last text of a view
 abbrev pub answer_of_view : HandleState → List ℕ
 answer_of_view (Some (View view)) = view.answer

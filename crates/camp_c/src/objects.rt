@@ -1,6 +1,6 @@
 //! The value of an open handle.
 ghost use Rattle.std.specs.Prelude.{◌≡◌, Some};
-ghost use Rattle.camp_c.specs.Handles.{AsksRepository, AsksView, answer_of, answer_of_view};
+ghost use Rattle.camp_c.specs.Handles.{AsksRepository, AsksView, answer_of, answer_of_view, executed_of};
 
 use crate::codes::{CLOSED, DONE, MEMORY};
 use camp_session::{Session, View};
@@ -47,6 +47,16 @@ impl OpenObject {
         match self {
             OpenObject::Session(session) => session.answer(),
             OpenObject::View(_) => &[],
+        }
+    }
+
+    /// Returns how many commands of the last text of a repository were executed.
+    pub(crate) fn executed(&self) -> usize
+        ensures { result ≡ executed_of (Some self.now) }
+    {
+        match self {
+            OpenObject::Session(session) => session.executed(),
+            OpenObject::View(_) => 0,
         }
     }
 

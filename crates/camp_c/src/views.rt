@@ -101,6 +101,27 @@ pub extern "C" fn camp_view_answer(alloc: Global, view: &mut Handle, buffer: &mu
     count
 }
 
+/// Sets `at` to the first byte of the answer to the last text, which stays there until the next call with this
+/// handle, and returns the number of bytes. If there is no view, `at` is unchanged.
+#[unsafe(no_mangle)]
+pub extern "C" fn camp_lend_view_answer(
+    alloc: Global,
+    view: &mut Handle,
+    at: &mut *const u8,
+) -> usize
+    ensures same { view.new.keeper.held ≡ view.old.keeper.held }
+    ensures length { result ≡ length (answer_of_view view.old.keeper.held) }
+{
+    let Some(object) = view.take(alloc) else {
+        return 0;
+    };
+    let answer = object.answer_of_view();
+    let length = answer.len();
+    *at = answer.as_ptr();
+    view.put(object);
+    length
+}
+
 /// Opens a closed handle on one more view of the state of a view.
 #[unsafe(no_mangle)]
 pub extern "C" fn camp_view_again(alloc: Global, view: &mut Handle, other: &mut Handle) -> i32

@@ -1,5 +1,5 @@
 -- Frames of requests and of answers, piece by piece.
-use Rattle.camp_talk.proofs.Words.{◌==◌, ◌≡◌, ◌≢◌, ◌<◌, ◌≤◌, inl, inr, ℕ, Bool, true, false, cond, List, [], ◌∷◌, ◌++◌, length, take, drop, Option, None, Some, Err, refl, sym, ap, subst, ◌∙◌, append_assoc, arith, true≢false, take_all, length-append, length-take, All, All-cons, All-drop, All-head, All-nil, list_all, drop-append_seam, and_parts, Appends, Appends-trans, Consumes, Consumes-trans, append-nil, ◌-◌, lines_of, first_of, AppendsSome, Entries, IsLine, IsNotWriting, IsReading, IsWriting, StopsInLine, Takes}
+use Rattle.camp_talk.proofs.Words.{◌==◌, ◌≡◌, ◌≢◌, ◌<◌, ◌≤◌, inl, inr, ℕ, Bool, true, false, cond, List, [], ◌∷◌, ◌++◌, length, take, drop, Option, None, Some, Err, refl, sym, ap, subst, ◌∙◌, append_assoc, arith, true≢false, take_all, length-append, length-take, All, All-cons, All-drop, All-head, All-nil, list_all, drop-append_seam, and_parts, Appends, Appends-trans, Consumes, Consumes-trans, append-nil, ◌-◌, lines_of, first_of, AppendsSome, Entries, IsLine, IsReading, IsWriting, StopsInLine, Takes}
 use Rattle.std.proofs.Common.{unwrap_or, ◌&&◌}
 use Rattle.std.proofs.lemmas.Bool.{eqb-false}
 use Rattle.std.proofs.lemmas.Bool.Decides.{nat_tests}
@@ -18,6 +18,7 @@ use Rattle.camp_talk.proofs.LineReads.{line_fed}
 use Rattle.camp_talk.specs.Frames.{AnswersNot, BeginsNoFrame, EndsWithin, HasNoFrame, IsFrame, ReadsCut, ReadsNoFrame, ReadsPart, Serves, WritesNot}
 use Rattle.camp_talk.specs.Inside.Framing.{IsCounted, IsNotCounted, ReadsBytes, ReadsFewer, ReadsFrame, ReadsMore, ReadsNothing}
 use Rattle.camp_talk.specs.Laws.{UnservedBytesHaveNoFrame}
+use Rattle.camp_talk.specs.Requests.{IsUnanswered}
 use Rattle.camp_talk.specs.declared.faults.TalkFault.{TalkFault}
 use Rattle.camp_talk.specs.declared.faults.TalkFault.TheVariants.{Internal, Memory, Read, Write}
 use Rattle.camp_talk.specs.declared.frames.FrameFault.{FrameFault}
@@ -383,12 +384,12 @@ module _ (a b old new : Option (List ℕ)) (before after : Entries) where
   reading_stops (Talk (Write error)) reads keeps same = absurd reads
   reading_stops (Talk Internal) reads keeps same = absurd reads
 
-  pub answering_stops : (why : TalkFault) → IsNotWriting why → AnswersNot a b old new before after
+  pub answering_stops : (why : TalkFault) → IsUnanswered why → AnswersNot a b old new before after
       → Serves a b old new before (Err (Talk why)) after
   answering_stops Memory is stops = inr stops
   answering_stops (Read error) is stops = inr stops
   answering_stops (Write error) is stops = absurd is
-  answering_stops Internal is stops = inr stops
+  answering_stops Internal is stops = absurd is
 
   pub writing_stops : (why : TalkFault) → IsWriting why → WritesNot a b old new before after
       → Serves a b old new before (Err (Talk why)) after

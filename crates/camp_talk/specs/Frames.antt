@@ -132,7 +132,8 @@ module _ (remaining rest old new : Option (List ℕ)) where
     pub service : Service
     pub is : IsFrame service.request service.frame
     pub reads : Consumes remaining rest service.frame
-    pub answers : AnswersSome before service.request service.answer after
+    pub executed : ℕ
+    pub answers : AnswersSome before service.request service.answer after executed
     pub keeps : Keeps old new
 
   -- a request was read and answered, and a prefix of the frame of its answer was written

@@ -41,8 +41,9 @@ pub fn serve<R: BufRead, W: Write>(
     let Some(request) = read_request(alloc, reader)? else {
         return Ok(false);
     };
+    let mut executed = 0;
     let mut answer = Vec::new(alloc);
-    answer_request(alloc, book, &request, &mut answer)?;
+    answer_request(alloc, book, &request, &mut executed, &mut answer)?;
     write_frame(writer, &answer)?;
     *served = after;
     Ok(true)

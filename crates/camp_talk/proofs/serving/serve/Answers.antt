@@ -28,12 +28,13 @@ returns-in_err-answer_request-clause-serves g c =
     let then = (goal.at.returns-in_err-answer_request-clause-serves g c).After-answer_request in
     let held = g.W.Write.contents c.args.writer.now in
     let frame = frame g then in
-    let (text, is, some) = c.in_err-answer_request.ensures.some in
-    let stops = answering_stops _ _ held held c.args.book.now c.answer_request.new.book _ c.in_err-answer_request.ensures.unwritten (record {
+    let (text, is, some) = c.in_err-answer_request.ensures.some_executed in
+    let stops = answering_stops _ _ held held c.args.book.now c.answer_request.new.book _ c.in_err-answer_request.ensures.unanswered (record {
       service = record { request = c.in-Some-2.request.items; frame = frame.frame; answer = text };
       is = frame.is;
       reads = frame.reads;
-      answers = subst (λ (bytes : List ℕ). AnswersSome c.args.book.now bytes text c.answer_request.new.book) c.deref.ensures.value some;
+      executed = c.answer_request.new.executed;
+      answers = subst (λ (bytes : List ℕ). AnswersSome c.args.book.now bytes text c.answer_request.new.book c.answer_request.new.executed) c.deref.ensures.value some;
       keeps = Keeps-refl held;
     }) in
     search (rules, stops)
