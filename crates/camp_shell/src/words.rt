@@ -41,9 +41,9 @@ const REFERENCE: &str =
     "Reads commands from standard input, in the language of camp's scripts, and answers each on standard
 output as soon as its last line is read. The answer is flushed, so a program can send a command and
 wait for its answer before it sends the next. Answers are those of camp. The first line says what
-follows: after tree FILES come so many files, each file PATH LINES with so many lines; after any
-other word with a COUNT come so many lines. ok NUMBER, refused NUMBER .. and no file are alone, and
-so are these:
+follows: tree FILES is followed by FILES files, each a line file PATH LINES and then LINES lines;
+any other word with a COUNT is followed by COUNT lines. ok NUMBER, refused NUMBER .. and no file are
+alone, and so are these:
 
   fault LINE KIND               the command has a fault; lines count from the beginning. Reading goes on
                                 at the next line, and after a fault in a body or a group after its end
