@@ -6,7 +6,7 @@
 ghost use Rattle.std.specs.Prelude.{◌≡◌, ◌≤◌, IfOk, Ok};
 ghost use Rattle.std.specs.Option.{option_map_or};
 ghost use Rattle.camp_options.specs.Limits.{limits_in};
-ghost use Rattle.camp_options.specs.Options.{most_tries};
+ghost use Rattle.camp_options.specs.Options.{tries_limit};
 ghost use Rattle.camp_repo.specs.Limits.{default_bounds};
 
 mod runs;
@@ -41,7 +41,7 @@ fn parse_command_line<'a>(
     alloc: Global,
     words: &'a [String],
 ) -> Result<(Options<'a>, Limits), WordsFault>
-    ensures tries { IfOk result (λ parsed. (1 ≤ parsed.0.tries) × (parsed.0.tries ≤ most_tries)) }
+    ensures tries { IfOk result (λ parsed. (1 ≤ parsed.0.tries) × (parsed.0.tries ≤ tries_limit)) }
     ensures limits { IfOk result (λ parsed. option_map_or (λ text. limits_in text.now) parsed.0.limits (Ok default_bounds) ≡ Ok parsed.1) }
 {
     let parsed = options(alloc, words)?;

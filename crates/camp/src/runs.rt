@@ -1,7 +1,7 @@
 //! Running a script as the options say.
 ghost use Rattle.std.specs.Prelude.{◌≡◌, ◌≤◌, false, true};
 ghost use Rattle.camp_clients.specs.Runs.{IsShared};
-ghost use Rattle.camp_clients.specs.Sections.{most_tries};
+ghost use Rattle.camp_clients.specs.Sections.{most_run_tries};
 ghost use Rattle.camp_repo.specs.Objects.{repository_within};
 ghost use Rattle.camp_run.specs.Runs.{Runs};
 ghost use Rattle.camp_run.specs.Serial.{IsSerial};
@@ -23,7 +23,7 @@ pub(crate) fn run<T: Threads + Wait + Sync, R: Read, W: Write>(
     reader: &mut R,
     writer: &mut W,
 ) -> Result<(), RunFault>
-    requires { (1 ≤ options.now.tries) × (options.now.tries ≤ most_tries) }
+    requires { (1 ≤ options.now.tries) × (options.now.tries ≤ most_run_tries) }
     ensures serial { options.now.serial ≡ true → Runs (IsSerial limits) options.now.history
         (R.remaining reader.old) (R.remaining reader.new) (W.contents writer.old) result (W.contents writer.new) }
     ensures shared { options.now.serial ≡ false → Runs (IsShared (repository_within limits) options.now.tries) options.now.history

@@ -3,5 +3,6 @@ pub mod Bytes
 pub mod Inside
 pub mod Limits
 pub mod Made
+pub mod Results
 pub mod Signs
 pub mod Trees

@@ -1,13 +1,13 @@
 -- Joins the stages of a pull.
 use Rattle.std.specs.Prelude.{MatchOption}
 use Rattle.std.specs.Result.{MatchResult}
-use Rattle.camp_catch.specs.Making.{ComesTo}
+use Rattle.camp_catch.specs.Making.{GivesOrRunsOut}
 use Rattle.camp_catch.specs.declared.faults.Unmade.{Unmade}
 use Rattle.camp_catch.proofs.Making.{blocks_too}
 use Rattle.camp_branch.proofs.Words.{Option, None, Some, false, true≢false, is_some, ℕ, List, [], ◌∷◌, ◌++◌, append-nil, append_assoc, arith, subst, ArrangesBehind, Result, Ok, Err, refl, ap, inl, inr, Arrange, Align, keys_of, MergeLists, Catch, DependsIn, DivergesFrom, DivergesIn, DoesNotMerge, PullBy, Blocked, ◌≡◌, DiffersAt}
 
 -- a fact about either result follows from a fact about the result before it
-pub either_answer : {X W : Type 0} (P P' : X → Type 0) (Q Q' : W → Type 0) → ((x : X) → P x → P' x) → ((w : W) → Q w → Q' w) → (answer : Result X (Unmade W)) → ComesTo (λ a. MatchResult a P Q) answer → ComesTo (λ a. MatchResult a P' Q') answer
+pub either_answer : {X W : Type 0} (P P' : X → Type 0) (Q Q' : W → Type 0) → ((x : X) → P x → P' x) → ((w : W) → Q w → Q' w) → (answer : Result X (Unmade W)) → GivesOrRunsOut (λ a. MatchResult a P Q) answer → GivesOrRunsOut (λ a. MatchResult a P' Q') answer
 either_answer P P' Q Q' goes stops (Ok x) w = goes x w
 either_answer P P' Q Q' goes stops (Err why) w = blocks_too why w stops
 

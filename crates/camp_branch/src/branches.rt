@@ -3,7 +3,7 @@ ghost use Rattle.std.specs.Prelude.{◌≡◌, ◌≤◌, ◌++◌, ℕ, List, [
 ghost use Rattle.std.specs.Cow.{cow_slice_items};
 ghost use Rattle.camp_base.specs.Limits.{most_changes};
 ghost use Rattle.camp_base.specs.Trees.{Files};
-ghost use Rattle.camp_catch.specs.Making.{ComesTo};
+ghost use Rattle.camp_catch.specs.Making.{GivesOrRunsOut};
 ghost use Rattle.camp_branch.specs.Agreeing.{Agree, ReachesAll};
 ghost use Rattle.camp_branch.specs.Branches.{IsLawfulBranch, LeadsTo, first_lacked, has_patch, names_of, recorded};
 ghost use Rattle.camp_branch.specs.Conflicting.{AreConflicts};
@@ -172,7 +172,7 @@ impl Branch {
     /// pulled.
     pub fn pulled(&self, from: &Branch, wanted: &NameSet) -> Result<Branch, Unmade<Blocked>>
         requires lacked { AreLacked self.now (names_in wanted.now) }
-        ensures exact { ComesTo (PullGives from.now self.now (names_in wanted.now)) result }
+        ensures exact { GivesOrRunsOut (PullGives from.now self.now (names_in wanted.now)) result }
     {
         let known = self.agreed(from, 0)?;
         self.pulled_behind(from, wanted, known)
@@ -187,7 +187,7 @@ impl Branch {
     ) -> Result<Branch, Unmade<Blocked>>
         requires lacked { AreLacked self.now (names_in wanted.now) }
         requires agree { Agree from.now self.now known }
-        ensures exact { ComesTo (PullGives from.now self.now (names_in wanted.now)) result }
+        ensures exact { GivesOrRunsOut (PullGives from.now self.now (names_in wanted.now)) result }
     {
         let theirs = behind(&from.catches, known)?;
         let ours = behind(&self.catches, known)?;
@@ -199,7 +199,7 @@ impl Branch {
     /// Takes the patches of some names out: the branch without them, or the first other patch that depends on
     /// one of them.
     pub fn without(&self, names: &NameSet) -> Result<Branch, Unmade<Blocked>>
-        ensures exact { ComesTo (ObliterateGives self.now (names_in names.now)) result }
+        ensures exact { GivesOrRunsOut (ObliterateGives self.now (names_in names.now)) result }
     {
         let staying = name_sets::without(&self.names, names)?;
         let start = name_sets::front_before(&self.catches, names);

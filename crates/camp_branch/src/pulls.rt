@@ -3,7 +3,7 @@ ghost use Rattle.std.specs.Prelude.{◌≡◌, ◌++◌, [], List, IfOk, MatchOp
 ghost use Rattle.std.specs.Result.{MatchResult};
 ghost use Rattle.camp_catch.specs.Arranging.{Align, Arrange};
 ghost use Rattle.camp_catch.specs.Laws.{keys_of};
-ghost use Rattle.camp_catch.specs.Making.{ComesTo};
+ghost use Rattle.camp_catch.specs.Making.{GivesOrRunsOut};
 ghost use Rattle.camp_catch.specs.MergingLists.{MergeLists};
 ghost use Rattle.camp_catch.specs.declared.catches.Catch.{Catch as AnyCatch};
 ghost use Rattle.camp_branch.specs.Fields.{names_in};
@@ -25,7 +25,7 @@ pub(crate) fn pull(
     common: &NameSet,
     wanted: &NameSet,
 ) -> Result<Vec<Shared<Catch>>, Unmade<Blocked>>
-    ensures exact { ComesTo (λ answer. MatchResult answer
+    ensures exact { GivesOrRunsOut (λ answer. MatchResult answer
         (λ taken. PullBy (names_in common.now) from.now to.now (names_in wanted.now) (ok (to.now ++ taken.items)))
         (λ blocked. PullBy (names_in common.now) from.now to.now (names_in wanted.now) (err blocked))) result }
 {
@@ -46,7 +46,7 @@ fn pull_of_none_common(
     to: &[Shared<Catch>],
     wanted: &NameSet,
 ) -> Result<Vec<Shared<Catch>>, Unmade<Blocked>>
-    ensures exact { ComesTo (λ answer. MatchResult answer
+    ensures exact { GivesOrRunsOut (λ answer. MatchResult answer
         (λ taken. PullBy [] from.now to.now (names_in wanted.now) (ok (to.now ++ taken.items)))
         (λ blocked. PullBy [] from.now to.now (names_in wanted.now) (err blocked))) result }
 {
@@ -60,7 +60,7 @@ fn common_first(
     list: &[Shared<Catch>],
     names: &NameSet,
 ) -> Result<Arranged, Unmade<Blocked>>
-    ensures exact { ComesTo (λ answer. MatchResult answer
+    ensures exact { GivesOrRunsOut (λ answer. MatchResult answer
         (λ arranged. Arrange (names_in names.now) list.now arranged.first.items arranged.rest.items)
         (DivergesIn (names_in names.now) list.now)) result }
 {
@@ -77,7 +77,7 @@ pub(crate) fn wanted_next(
     list: &[Shared<Catch>],
     names: &NameSet,
 ) -> Result<Arranged, Unmade<Blocked>>
-    ensures exact { ComesTo (λ answer. MatchResult answer
+    ensures exact { GivesOrRunsOut (λ answer. MatchResult answer
         (λ arranged. Arrange (names_in names.now) list.now arranged.first.items arranged.rest.items)
         (DependsIn (names_in names.now) list.now)) result }
 {
@@ -98,7 +98,7 @@ pub(crate) fn same_front(
     from_common: &[Shared<Catch>],
     to_common: &[Shared<Catch>],
 ) -> Result<(), Unmade<Blocked>>
-    ensures exact { ComesTo (λ answer. MatchResult answer
+    ensures exact { GivesOrRunsOut (λ answer. MatchResult answer
         (λ _. Align (keys_of to_common.now) from_common.now to_common.now)
         (DivergesFrom from_common.now to_common.now)) result }
 {
@@ -146,7 +146,7 @@ fn merged_last(
     wanted: &[Shared<Catch>],
     others: &[Shared<Catch>],
 ) -> Result<Vec<Shared<Catch>>, Unmade<Blocked>>
-    ensures exact { ComesTo (λ answer. MatchResult answer
+    ensures exact { GivesOrRunsOut (λ answer. MatchResult answer
         (λ taken. (beside : List AnyCatch) × MergeLists wanted.now others.now taken.items beside)
         (DoesNotMerge wanted.now others.now)) result }
 {

@@ -14,20 +14,20 @@ abbrev pub HandleState : Type 0
 HandleState = Option OpenObject
 
 -- nothing is done, and the value of the handle is unchanged
-abbrev pub IsRefused : HandleState → ℤ → HandleState → Type 0
-IsRefused old code now = (code ≡ pos 1) × (now ≡ old)
+abbrev pub HandleRefuses : HandleState → ℤ → HandleState → Type 0
+HandleRefuses old code now = (code ≡ pos 1) × (now ≡ old)
 
 -- a closed handle is opened on a new repository with these limits, or memory ran out
 abbrev pub OpensRepository : Bounds → HandleState → ℤ → HandleState → Type 0
 OpensRepository limits None code now =
     ((code ≡ pos 0) × (now ≡ Some (Session (new_repository limits)))) ⊎ ((code ≡ pos 2) × (now ≡ None))
-OpensRepository limits old code now = IsRefused old code now
+OpensRepository limits old code now = HandleRefuses old code now
 
 -- the same if the numbers are limits; else the handle stays closed, if it is, and a code says so
 abbrev pub OpensWithin : Result Bounds LimitFault → HandleState → ℤ → HandleState → Type 0
 OpensWithin (Ok limits) old code now = OpensRepository limits old code now
 OpensWithin (Err fault) None code now = (code ≡ pos 3) × (now ≡ None)
-OpensWithin (Err fault) old code now = IsRefused old code now
+OpensWithin (Err fault) old code now = HandleRefuses old code now
 
 -- the code for how much of a text was executed
 abbrev pub code_of : Result (Unit {0}) TalkFault → ℤ
@@ -45,7 +45,7 @@ pub record AsksOne (old : Repository) (text : List ℕ) (code : ℤ) (now : Hand
 -- the repository of a handle is asked a text; a handle without one is unchanged
 abbrev pub AsksRepository : HandleState → List ℕ → ℤ → HandleState → Type 0
 AsksRepository (Some (Session old)) text code now = AsksOne old text code now
-AsksRepository old text code now = IsRefused old code now
+AsksRepository old text code now = HandleRefuses old code now
 
 -- a view was asked a text
 pub record SeesOne (old : Snapshot) (text : List ℕ) (code : ℤ) (now : HandleState) : Type 0 where
@@ -58,7 +58,7 @@ pub record SeesOne (old : Snapshot) (text : List ℕ) (code : ℤ) (now : Handle
 -- the view of a handle is asked a text; a handle without one is unchanged
 abbrev pub AsksView : HandleState → List ℕ → ℤ → HandleState → Type 0
 AsksView (Some (View old)) text code now = SeesOne old text code now
-AsksView old text code now = IsRefused old code now
+AsksView old text code now = HandleRefuses old code now
 
 -- the answer to the last text of a repository
 abbrev pub answer_of : HandleState → List ℕ
@@ -79,7 +79,7 @@ OpensOne repository code now =
 -- a closed handle is opened on a view of the repository of another
 abbrev pub OpensView : HandleState → HandleState → ℤ → HandleState → Type 0
 OpensView (Some (Session repository)) None code now = OpensOne repository code now
-OpensView other old code now = IsRefused old code now
+OpensView other old code now = HandleRefuses old code now
 
 -- the same state, and nothing asked
 abbrev pub again : Snapshot → Snapshot
@@ -89,4 +89,4 @@ again view = record { state = view.state; answer = [] }
 abbrev pub OpensViewAgain : HandleState → HandleState → ℤ → HandleState → Type 0
 OpensViewAgain (Some (View view)) None code now =
     ((code ≡ pos 0) × (now ≡ Some (View (again view)))) ⊎ ((code ≡ pos 2) × (now ≡ None))
-OpensViewAgain other old code now = IsRefused old code now
+OpensViewAgain other old code now = HandleRefuses old code now

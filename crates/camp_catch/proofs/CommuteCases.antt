@@ -1,7 +1,7 @@
 -- The cases of commuting exclude one another, and each is determined.
 use Rattle.std.specs.Cmp.{Equal-is, tied_itself}
 use Rattle.camp_ctx.proofs.SetSteps.{len-only}
-use Rattle.camp_catch.proofs.Words.{None, Option, Some, [], ap, arith, cond, inl, inr, refl, subst, sym, ◌∙◌, ◌∷◌, ◌≡◌, ◌≤◌, empty, get, get-insert, len, remove, key_total, le_or_not, swap_or_not, swap_unique, inverse_of, Key, Named, inverse_all, keys_or_not, lists_or_not, ContextedPatch, ContextedPatches, bare, context_key, only, patch_key, CasesExclude, BothPlain, CommuteCatch, CommuteConflictors, CommutePlainConflictor, ConflictDissolves, ConflictorPastPlain, OneOfSeveralConflicts, OnlyConflictGoes, PlainLeavesTheSet, PlainPastConflictor, TwoConflictorsApart, against, in_conflict_with, joined_by, with_effect, without, CommuteIsUnique, Catch, Plain, Conflictor}
+use Rattle.camp_catch.proofs.Words.{None, Option, Some, [], ap, arith, cond, inl, inr, refl, subst, sym, ◌∙◌, ◌∷◌, ◌≡◌, ◌≤◌, empty, get, get-insert, len, remove, key_total, le_or_not, swap_or_not, swap_unique, inverse_of, Key, Named, inverse_all, keys_or_not, lists_or_not, ContextedPatch, ContextedPatches, bare, context_key, only, patch_key, CasesExclude, BothPlain, CommuteCatch, CommuteConflictors, CommutePlainConflictor, ConflictDissolves, ConflictorPastPlain, OneOfSeveralConflicts, OnlyConflictGoes, PlainLeavesTheSet, PlainPastConflictor, TwoConflictorsApart, against, in_conflict_with, joined_by, with_effect, without, CatchCommuteIsUnique, Catch, Plain, Conflictor}
 use Rattle.camp_catch.proofs.Determined.{Determined, both, chain, either, found, made_of, none_or_not, one_pair, pairs, where_holds}
 use Rattle.camp_catch.proofs.PartsDetermined.{adds_to_bare, against_one, all_added_to, all_pass_by, comes_before, effects_pass, fronts, lacks_or_not, one_member, one_passes, order, passes_by}
 
@@ -114,5 +114,5 @@ commuting (Plain a) (Catch.Conflictor k) = plain_before_conflictor a k
 commuting (Catch.Conflictor j) (Plain b) = conflictor_past_plain j b
 commuting (Catch.Conflictor j) (Catch.Conflictor k) = conflictor_before_conflictor j k
 
-pub one_commuting : CommuteIsUnique
+pub one_commuting : CatchCommuteIsUnique
 one_commuting j k k' j' l i = one_pair (CommuteCatch j k) (commuting j k).one k' l j' i

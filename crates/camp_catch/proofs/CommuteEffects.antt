@@ -1,5 +1,5 @@
 -- Commuting keeps effects: each case gives a path through trees.
-use Rattle.camp_catch.proofs.Words.{List, [], inl, inr, refl, subst, sym, ◌++◌, ◌∷◌, ◌≡◌, append_assoc, remove, Files, applies_once, Applies, inverse_of, label_of, Named, after_one, all_passed, before, behind, equal_are, fronted, joined, ordered, passed, split, swapped, runs_back, through, ◌~◌, Norm, AppliesAll, inverse_all, run_along, valid_by_adding, valid_by_adding_all, valid_by_passing, valid_by_passing_all, Adds, AddsAll, PassesBy, PassesByAll, ContextedPatches, Valid, bare, context_key, patch_key, Fits, BothPlain, ConflictDissolves, ConflictorPastPlain, EffectsPass, OneOfSeveralConflicts, OnlyConflictGoes, PlainLeavesTheSet, PlainPastConflictor, TwoConflictorsApart, labels_undone, against, in_conflict_with, with_effect, without, CommuteKeepsEffects, Catch, Plain, Conflictor}
+use Rattle.camp_catch.proofs.Words.{List, [], inl, inr, refl, subst, sym, ◌++◌, ◌∷◌, ◌≡◌, append_assoc, remove, Files, applies_once, Applies, inverse_of, label_of, Named, after_one, all_passed, before, behind, equal_are, fronted, joined, ordered, passed, split, swapped, runs_back, through, ◌~◌, Norm, AppliesAll, inverse_all, run_along, valid_by_adding, valid_by_adding_all, valid_by_passing, valid_by_passing_all, AddsToContext, AddsAll, PassesBy, PassesByAll, ContextedPatches, Valid, bare, context_key, patch_key, Fits, BothPlain, ConflictDissolves, ConflictorPastPlain, EffectsPass, OneOfSeveralConflicts, OnlyConflictGoes, PlainLeavesTheSet, PlainPastConflictor, TwoConflictorsApart, labels_undone, against, in_conflict_with, with_effect, without, CommuteKeepsEffects, Catch, Plain, Conflictor}
 use Rattle.camp_catch.proofs.Fitting.{plain_fits, conflictor_fits, becomes_fits, added_fits, joined_fits, places_change, one_runs, one_applies, one_back, only_valid, without_valid}
 
 -- one case keeps effects
@@ -18,7 +18,7 @@ plain_past_conflictor a k k' j' w old between new f g =
     let order : (a ∷ k.effect) ~ (s' ++ w.a' ∷ []) =
     through (passed a k.effect w.passed w.a' w.passes) (before w.passed s' (w.a' ∷ []) (ordered w.passed s' w.becomes.effect)) in
     let runs = places_change (a ∷ []) k.effect s' (w.a' ∷ []) order old between new f.effect g.effect in
-    let moved = becomes_fits (Norm w.passed) (Adds w.a') (PassesBy w.a') (Applies w.a'.prim) (valid_by_adding w.a') (valid_by_passing w.a') k w.moved w.becomes old runs.0 new runs.1 (one_applies w.a' runs.0 new runs.2) g.seen in
+    let moved = becomes_fits (Norm w.passed) (AddsToContext w.a') (PassesBy w.a') (Applies w.a'.prim) (valid_by_adding w.a') (valid_by_passing w.a') k w.moved w.becomes old runs.0 new runs.1 (one_applies w.a' runs.0 new runs.2) g.seen in
     rw (w.second, w.first) (runs.0, moved, plain_fits w.a' runs.0 new runs.2)
 
 conflictor_past_plain : (j : Conflictor) (b : Named) → KeepsEffects (Catch.Conflictor j) (Plain b) (ConflictorPastPlain j b)
@@ -28,7 +28,7 @@ conflictor_past_plain j b k' j' w old between new f g =
     let order : (j.effect ++ b ∷ []) ~ (w.b' ∷ r') =
     through (all_passed j.effect (b ∷ []) (w.b' ∷ []) w.left w.passes) (after_one w.b' w.left r' (ordered w.left r' w.becomes.effect)) in
     let runs = places_change j.effect (b ∷ []) (w.b' ∷ []) r' order old between new f.effect g.effect in
-    let moved = becomes_fits (Norm w.left) (Adds back) (PassesBy back) (Applies back.prim) (valid_by_adding back) (valid_by_passing back) j w.moved w.becomes runs.0 new between runs.2 (one_back b between new g.effect) f.seen in
+    let moved = becomes_fits (Norm w.left) (AddsToContext back) (PassesBy back) (Applies back.prim) (valid_by_adding back) (valid_by_passing back) j w.moved w.becomes runs.0 new between runs.2 (one_back b between new g.effect) f.seen in
     rw (w.second, w.first) (runs.0, plain_fits w.b' old runs.0 runs.1, moved)
 
 effects_pass : (r s : List Named) (ys : ContextedPatches) (effect rr' : List Named) → EffectsPass r s ys effect rr' → (r ++ s) ~ (effect ++ rr')

@@ -9,7 +9,7 @@ use Rattle.camp_ctx.specs.Conflicts.{Conflict}
 use Rattle.camp_ctx.specs.Contexts.{ContextedPatch, ContextedPatches, with_member}
 use Rattle.camp_ctx.proofs.SetChanges.{unchanged}
 use Rattle.camp_catch.specs.Conflictors.{Becomes, joined_by, with_conflicts}
-use Rattle.camp_catch.specs.Inside.InPlace.{CommutesInPlace, MergesBehind, MergesInPlace, with_gained}
+use Rattle.camp_catch.specs.Inside.InPlace.{CatchesCommuteInPlace, MergesInto, MergesInPlace, with_gained}
 use Rattle.camp_catch.specs.Inside.Meetings.{EachGains, PassesGaining}
 use Rattle.camp_catch.specs.Inside.TwoConflictors.{EffectsMerge, JoinEachOther, TellsConflict}
 use Rattle.camp_catch.specs.Merging.{TwoConflictors}
@@ -96,7 +96,7 @@ met j k j-now k-now before beside these those more most gains is also view k-vie
     rw (is, also, ← view, ← k-view) (gains before beside)
 
 -- merges a catch that has gained conflicts to what it is after the other
-pub met_behind : (j k j-now k-now : Catch) (before beside these those most : List ContextedPatch) → EachGains j k these those → most ≡ beside ++ these → with_gained before j ≡ j-now → with_gained beside k ≡ k-now → MergesBehind j-now k-now (with_gained most k)
+pub met_behind : (j k j-now k-now : Catch) (before beside these those most : List ContextedPatch) → EachGains j k these those → most ≡ beside ++ these → with_gained before j ≡ j-now → with_gained beside k ≡ k-now → MergesInto j-now k-now (with_gained most k)
 met_behind j k j-now k-now before beside these those most gains also view k-view =
     (with_gained (before ++ those) j, rw (also, ← view, ← k-view) (gains before beside))
 
@@ -111,11 +111,11 @@ met_aside j k j-now k-now before beside gains view k-view =
     rw (← view, ← k-view) (rw (append-nil before, append-nil beside) at (gains before beside))
 
 -- a catch that has gained conflicts lets the one after it commute past
-pub let_by : (j k k' j-now : Catch) (before these more : List ContextedPatch) → PassesGaining j k k' these → more ≡ before ++ these → with_gained before j ≡ j-now → CommutesInPlace (j-now, k) (with_gained more j, k')
+pub let_by : (j k k' j-now : Catch) (before these more : List ContextedPatch) → PassesGaining j k k' these → more ≡ before ++ these → with_gained before j ≡ j-now → CatchesCommuteInPlace (j-now, k) (with_gained more j, k')
 let_by j k k' j-now before these more passes is view = rw (is, ← view) (passes before)
 
 -- the same if neither changes
-pub let_by_aside : (j k j-now : Catch) (before : List ContextedPatch) → PassesGaining j k k [] → with_gained before j ≡ j-now → CommutesInPlace (j-now, k) (j-now, k)
+pub let_by_aside : (j k j-now : Catch) (before : List ContextedPatch) → PassesGaining j k k [] → with_gained before j ≡ j-now → CatchesCommuteInPlace (j-now, k) (j-now, k)
 let_by_aside j k j-now before passes view = rw (← view) (rw (append-nil before) at (passes before))
 
 -- a catch that has gained nothing is unchanged
@@ -124,6 +124,6 @@ ungained gained (Plain a) none = refl
 ungained gained (Catch.Conflictor k) none = ap (λ g. with_gained g (Catch.Conflictor k)) none
 
 -- a catch that has gained nothing commutes as the plain definition says
-pub commuted_alone : {E : Type 0} (gained : List ContextedPatch) (j j-now j' k k' : Catch) (answer : Result Bool E) → gained ≡ [] → with_gained gained j ≡ j-now → IfOk answer (λ done. Changes CommutesInPlace (j, k) done (j', k')) → IfOk answer (λ done. Changes CommutesInPlace (j-now, k) done (with_gained gained j', k'))
+pub commuted_alone : {E : Type 0} (gained : List ContextedPatch) (j j-now j' k k' : Catch) (answer : Result Bool E) → gained ≡ [] → with_gained gained j ≡ j-now → IfOk answer (λ done. Changes CatchesCommuteInPlace (j, k) done (j', k')) → IfOk answer (λ done. Changes CatchesCommuteInPlace (j-now, k) done (with_gained gained j', k'))
 commuted_alone gained j j-now j' k k' answer none view w =
-    subst (λ x. IfOk answer (λ done. Changes CommutesInPlace (x, k) done (with_gained gained j', k'))) (sym (ungained gained j none) ∙ view) (subst (λ y. IfOk answer (λ done. Changes CommutesInPlace (j, k) done (y, k'))) (sym (ungained gained j' none)) w)
+    subst (λ x. IfOk answer (λ done. Changes CatchesCommuteInPlace (x, k) done (with_gained gained j', k'))) (sym (ungained gained j none) ∙ view) (subst (λ y. IfOk answer (λ done. Changes CatchesCommuteInPlace (j, k) done (y, k'))) (sym (ungained gained j' none)) w)

@@ -1,5 +1,5 @@
 -- Commuting and merging keep labels, and so do arranging, aligning and merging lists.
-use Rattle.camp_catch.proofs.Words.{List, [], ap, append-nil, inl, inr, map, refl, subst, sym, ℕ, ◌++◌, ◌∙◌, ◌∷◌, ◌≡◌, append_assoc, map-append, inverse_of, key_of, label_of, Key, Named, row_passes, MergesOne, Passes, PassesAll, same_key_of_sum, same_alone, Adds, PassesBy, PassesByAll, ContextedPatch, bare, context_key, patch_key, Align, ArrangesBehind, ComesBefore, ComesFirst, catch_key, CommuteCatch, KeepLabels, KeysAlign, KeysPart, keys_of, JoinsWhere, MergeCatch, MergePlainConflictor, MergeLists, MergesWithAll, Catch, Plain, Conflictor}
+use Rattle.camp_catch.proofs.Words.{List, [], ap, append-nil, inl, inr, map, refl, subst, sym, ℕ, ◌++◌, ◌∙◌, ◌∷◌, ◌≡◌, append_assoc, map-append, inverse_of, key_of, label_of, Key, Named, row_passes, MergesOne, Passes, PassesAll, same_key_of_sum, same_alone, AddsToContext, PassesBy, PassesByAll, ContextedPatch, bare, context_key, patch_key, Align, ArrangesBehind, ComesBefore, ComesFirst, catch_key, CommuteCatch, KeepLabels, KeysAlign, KeysPart, keys_of, JoinsWhere, MergeCatch, MergePlainConflictor, MergeLists, MergesWithAll, Catch, Plain, Conflictor}
 
 passed_key : (p : Named) (s s' : List Named) (p' : Named) → Passes p s s' p' → patch_key p' ≡ patch_key p
 passed_key p [] s' p' w = ap patch_key w.1
@@ -21,7 +21,7 @@ passed_by_all_key r b b' left w = ap key_of (same_alone _ _ (all_passed_labels r
 merged_key : (a : Named) (s s' : List Named) (a' : Named) → MergesOne a s s' a' → patch_key a' ≡ patch_key a
 merged_key a s s' a' w = passed_key (inverse_of a) s s' (inverse_of a') (row_passes a s s' a' w)
 
-added_key : (a : Named) (x y : ContextedPatch) → Adds a x y → context_key y ≡ context_key x
+added_key : (a : Named) (x y : ContextedPatch) → AddsToContext a x y → context_key y ≡ context_key x
 added_key a x y w = same_key_of_sum (a ∷ []) x y (x, refl, w)
 
 passed_context_key : (a : Named) (x y : ContextedPatch) → PassesBy a x y → context_key y ≡ context_key x

@@ -1,5 +1,5 @@
 -- Merging keeps effects and is symmetric: each case gives a square of trees.
-use Rattle.camp_catch.proofs.Words.{List, [], inl, inr, refl, subst, sym, ◌++◌, ◌∷◌, ◌≡◌, Files, Applies, inverse_of, Named, ordered, split, cut_run, runs_back, cell_is_symmetric, merge_closes, Norm, AppliesAll, inverse_all, run_along, valid_by_adding, valid_by_adding_all, conflict_is_symmetric, merge_behind_is_symmetric, Adds, Conflict, MergesBehindCommon, common_labels, ContextedPatch, Valid, bare, Fits, against, in_conflict_with, with_effect, MergeIsSymmetric, MergeKeepsEffects, Clean, FirstConflict, JoinsWhere, PlainBesideConflictor, PlainJoinsConflictor, TwoConflictors, Catch, Plain, Conflictor}
+use Rattle.camp_catch.proofs.Words.{List, [], inl, inr, refl, subst, sym, ◌++◌, ◌∷◌, ◌≡◌, Files, Applies, inverse_of, Named, ordered, split, cut_run, runs_back, cell_is_symmetric, merge_closes, Norm, AppliesAll, inverse_all, run_along, valid_by_adding, valid_by_adding_all, conflict_is_symmetric, merge_behind_is_symmetric, AddsToContext, Conflict, MergesBehindCommon, common_labels, ContextedPatch, Valid, bare, Fits, against, in_conflict_with, with_effect, CatchMergeIsSymmetric, MergeKeepsEffects, Clean, FirstConflict, JoinsWhere, PlainBesideConflictor, PlainJoinsConflictor, TwoConflictors, Catch, Plain, Conflictor}
 use Rattle.camp_catch.proofs.Fitting.{plain_fits, conflictor_fits, becomes_fits, added_fits, joined_fits, one_runs, one_back, row_closes, run_once, only_valid}
 
 -- two catches that fit, each in a tree of its own, and end in the same tree
@@ -30,7 +30,7 @@ plain_beside_conflictor a k k' j' w old left right f g =
     let row = row_closes a k.effect w.merged w.a' w.merge old left right f.effect g.effect in
     let undo = inverse_of w.a' in
     let effect = run_along w.merged w.moved.effect (ordered w.merged w.moved.effect w.becomes.effect) left row.0 row.1 in
-    let moved = becomes_fits (Norm w.merged) (Adds undo) (Adds undo) (Applies undo.prim) (valid_by_adding undo) (valid_by_adding undo) k w.moved w.becomes left row.0 right effect (one_back w.a' right row.0 row.2) g.seen in
+    let moved = becomes_fits (Norm w.merged) (AddsToContext undo) (AddsToContext undo) (Applies undo.prim) (valid_by_adding undo) (valid_by_adding undo) k w.moved w.becomes left row.0 right effect (one_back w.a' right row.0 row.2) g.seen in
     rw (w.after, w.beside) (row.0, moved, plain_fits w.a' right row.0 row.2)
 
 plain_joins_conflictor : (a : Named) (k : Conflictor) → ClosesSquares (Plain a) (Catch.Conflictor k) (PlainJoinsConflictor a k)
@@ -112,7 +112,7 @@ two_are_symmetric j k k' j' w =
       beside = w.after;
     }
 
-pub merging_is_symmetric : MergeIsSymmetric
+pub merging_is_symmetric : CatchMergeIsSymmetric
 merging_is_symmetric (Plain a) (Plain b) k' j' (inl w) =
     inl (record { b' = w.a'; a' = w.b'; merge = cell_is_symmetric a b w.b' w.a' w.merge; after = w.beside; beside = w.after })
 merging_is_symmetric (Plain a) (Plain b) k' j' (inr w) =

@@ -1,6 +1,6 @@
 -- Facts at the returns of merging.
 use Rattle.camp_catch.specs.Inside.TwoConflictors.{EffectsMerge, JoinEachOther, TellsConflict}
-use Rattle.camp_catch.proofs.Words.{Bool, IsTrue, List, Option, ap, inl, inr, refl, subst, sym, ◌∙◌, ◌≡◌, FindsPair, inverse_of-inverse_of, inverse_of, Named, passes_row, MergesOne, Norm, Passes, inverse_all, add_of_all_exists, one_add_of_all, members_change, Adds, AddsAll, Conflict, ContextedPatch, ContextedPatches, EachMember, bare, Becomes, joined_by, MergesBehind, MergePlainConflictor, PlainBesideConflictor, TwoConflictors, Catch, Plain, Conflictor}
+use Rattle.camp_catch.proofs.Words.{Bool, IsTrue, List, Option, ap, inl, inr, refl, subst, sym, ◌∙◌, ◌≡◌, FindsPair, inverse_of-inverse_of, inverse_of, Named, passes_row, MergesOne, Norm, Passes, inverse_all, add_of_all_exists, one_add_of_all, members_change, AddsToContext, AddsAll, Conflict, ContextedPatch, ContextedPatches, EachMember, bare, Becomes, joined_by, MergesInto, MergePlainConflictor, PlainBesideConflictor, TwoConflictors, Catch, Plain, Conflictor}
 use Rattle.camp_catch.proofs.MergeEffects.{joins_alike}
 use Rattle.camp_catch.proofs.CommuteSteps.{finds_as}
 
@@ -10,13 +10,13 @@ row_of a s merged back' a' turned w =
     rw (← inverse_of-inverse_of a, turned) (passes_row (inverse_of a) s merged back' w)
 
 module _ (a : Named) (k : Conflictor) (seen : ContextedPatch) (sees : AddsAll k.effect k.identity seen) (apart : ¬ (Conflict (bare a) seen)) where
-  pub beside_from : (merged : List Named) (back' a' : Named) (moved : Conflictor) → a' ≡ inverse_of back' → Passes (inverse_of a) k.effect merged back' → Becomes (Norm merged) (Adds back') (Adds back') k moved → PlainBesideConflictor a k (Catch.Conflictor moved) (Plain a')
+  pub beside_from : (merged : List Named) (back' a' : Named) (moved : Conflictor) → a' ≡ inverse_of back' → Passes (inverse_of a) k.effect merged back' → Becomes (Norm merged) (AddsToContext back') (AddsToContext back') k moved → PlainBesideConflictor a k (Catch.Conflictor moved) (Plain a')
   beside_from merged back' a' moved turned w made =
-      let becomes = subst (λ p. Becomes (Norm merged) (Adds p) (Adds p) k moved) (sym (ap inverse_of turned ∙ inverse_of-inverse_of back')) made in
+      let becomes = subst (λ p. Becomes (Norm merged) (AddsToContext p) (AddsToContext p) k moved) (sym (ap inverse_of turned ∙ inverse_of-inverse_of back')) made in
       record { seen = seen; sees = sees; apart = apart; merged = merged; a' = a'; merge = row_of a k.effect merged back' a' turned w; moved = moved; becomes = becomes; after = refl; beside = refl }
 
   -- a plain catch that commutes past a conflictor, both unchanged, also merges with it unchanged
-  pub aside : (back : Named) → back ≡ inverse_of a → Passes back k.effect k.effect back → Becomes (Norm k.effect) (Adds back) (Adds back) k k → MergePlainConflictor a k (Catch.Conflictor k) (Plain a)
+  pub aside : (back : Named) → back ≡ inverse_of a → Passes back k.effect k.effect back → Becomes (Norm k.effect) (AddsToContext back) (AddsToContext back) k k → MergePlainConflictor a k (Catch.Conflictor k) (Plain a)
   aside back turned passes becomes =
       inl (beside_from k.effect back a k (sym (ap inverse_of turned ∙ inverse_of-inverse_of a)) (subst (λ p. Passes p k.effect k.effect back) turned passes) becomes)
 
@@ -65,11 +65,11 @@ module _ (j k : Conflictor) where
     behind_from identity adds k' j' =
         two_from s2 r2 found moved (own identity) k' j' effects tells becomes (record { effect = refl; conflicts = members.1; identity = adds })
 
-    pub joined_behind : IsTrue found → (identity : ContextedPatch) → AddsAll (inverse_all moved.effect) j.identity identity → (k' : Conflictor) → k' ≡ joined_by identity moved → MergesBehind (Catch.Conflictor j) (Catch.Conflictor k) (Catch.Conflictor k')
+    pub joined_behind : IsTrue found → (identity : ContextedPatch) → AddsAll (inverse_all moved.effect) j.identity identity → (k' : Conflictor) → k' ≡ joined_by identity moved → MergesInto (Catch.Conflictor j) (Catch.Conflictor k) (Catch.Conflictor k')
     joined_behind holds identity adds k' is =
         (_, behind_from identity adds _ _ (record { joined = k'; own_joined = _; joins = inl (holds, is); own_joins = inl (holds, refl); after = refl; beside = refl }))
 
-    pub apart_behind : ¬ (IsTrue found) → MergesBehind (Catch.Conflictor j) (Catch.Conflictor k) (Catch.Conflictor moved)
+    pub apart_behind : ¬ (IsTrue found) → MergesInto (Catch.Conflictor j) (Catch.Conflictor k) (Catch.Conflictor moved)
     apart_behind never =
         let sum = add_of_all_exists (inverse_all moved.effect) j.identity in
         (_, behind_from sum.0 sum.1 _ _ (record { joined = moved; own_joined = _; joins = inr (never, refl); own_joins = inr (never, refl); after = refl; beside = refl }))

@@ -2,7 +2,7 @@
 use Rattle.std.proofs.lemmas.Cmp.{nat_list_cmp_total, eq_by_cmp_equiv}
 use Rattle.std.proofs.lemmas.Map.Views.{Contains-from_any, list_any-from_Contains, tells_apart}
 use Rattle.std.specs.Bool.{Decides}
-use Rattle.camp_catch.proofs.Words.{Contains, List, [], ap, arith, drop, get_or, inl, inr, length, refl, subst, suc, sym, take, ℕ, ◌++◌, ◌+◌, ◌<◌, ◌∙◌, ◌∷◌, ◌≡◌, ◌≢◌, ◌≤◌, append_assoc, drop_at, drop_more, length-append, length-take-le, length_push, nil_from_length, take_at, slice_cmp, FinMap, contains_key, contains_key-keys, keys, nat_cmp-IsAntisymmetric, slice_cmp-IsAntisymmetric, nat_cmp, Key, Align, AlignSticks, Arrange, ArrangeSticks, ArrangesBehind, ComesBefore, ComesFirst, DoNotCommute, IsOf, SticksBehind, StopsAt, catch_key, ComesFirstInPlace, FirstWith, Lacks, Catch}
+use Rattle.camp_catch.proofs.Words.{Contains, List, [], ap, arith, drop, get_or, inl, inr, length, refl, subst, suc, sym, take, ℕ, ◌++◌, ◌+◌, ◌<◌, ◌∙◌, ◌∷◌, ◌≡◌, ◌≢◌, ◌≤◌, append_assoc, drop_at, drop_more, length-append, length-take-le, length_push, nil_from_length, take_at, slice_cmp, FinMap, contains_key, contains_key-keys, keys, nat_cmp-IsAntisymmetric, slice_cmp-IsAntisymmetric, nat_cmp, Key, Align, AlignSticks, Arrange, ArrangeSticks, ArrangesBehind, ComesBefore, ComesFirst, DoNotCommute, IsOf, SticksBehind, StopsAt, catch_key, ComesFirstInPlace, FirstWithKey, LacksKey, Catch}
 use Rattle.camp_catch.proofs.ListResults.{coming}
 
 -- the element at an index of a list, and the elements after it
@@ -14,14 +14,14 @@ pub stops_behind : (front : List Catch) (j : Catch) (list : List Catch) (k comin
 stops_behind [] j list k coming t w never = inr (coming, t, w, never, refl)
 stops_behind (i ∷ front) j list k coming t w never = inl (stops_behind front j list k coming t w never)
 
-lacks_first : (key : Key) (j : Catch) (list : List Catch) → Lacks key (j ∷ list) → catch_key j ≢ key
+lacks_first : (key : Key) (j : Catch) (list : List Catch) → LacksKey key (j ∷ list) → catch_key j ≢ key
 lacks_first key j list lacks = lacks 0 j (omega arith)
 
-lacks_rest : (key : Key) (j : Catch) (list : List Catch) → Lacks key (j ∷ list) → Lacks key list
+lacks_rest : (key : Key) (j : Catch) (list : List Catch) → LacksKey key (j ∷ list) → LacksKey key list
 lacks_rest key j list lacks = λ k d within. lacks (suc k) d (omega arith)
 
 -- a label that the list lacks can't be moved to its front
-pub none_first : (key : Key) (list : List Catch) (k' : Catch) (others : List Catch) → Lacks key list → ¬ (ComesFirst key list k' others)
+pub none_first : (key : Key) (list : List Catch) (k' : Catch) (others : List Catch) → LacksKey key list → ¬ (ComesFirst key list k' others)
 none_first key [] k' others lacks w = w
 none_first key (j ∷ list) k' others lacks (inl w) = lacks_first key j list lacks w.0
 none_first key (j ∷ list) k' others lacks (inr w) =
@@ -29,13 +29,13 @@ none_first key (j ∷ list) k' others lacks (inr w) =
     none_first key list come.0 come.2 (lacks_rest key j list lacks) come.3
 
 -- the first catch with a label is commuted past those before it
-first_from : (key : Key) (before : List Catch) (first : Catch) (after : List Catch) (k' : Catch) (moved : List Catch) → Lacks key before → catch_key first ≡ key → ComesBefore before first k' moved → ComesFirst key (before ++ first ∷ after) k' (moved ++ after)
+first_from : (key : Key) (before : List Catch) (first : Catch) (after : List Catch) (k' : Catch) (moved : List Catch) → LacksKey key before → catch_key first ≡ key → ComesBefore before first k' moved → ComesFirst key (before ++ first ∷ after) k' (moved ++ after)
 first_from key [] first after k' moved lacks is m = inl (is, m.0, ap (λ x. x ++ after) m.1)
 first_from key (j ∷ before) first after k' moved lacks is m =
     inr (lacks_first key j before lacks, (m.0, m.1, m.2 ++ after, first_from key before first after m.0 m.2 (lacks_rest key j before lacks) is m.3, m.4, ap (λ x. x ++ after) m.5))
 
 -- conversely, a catch at the front was commuted there
-before_from : (key : Key) (before : List Catch) (first : Catch) (after : List Catch) (k' : Catch) (t : List Catch) → Lacks key before → catch_key first ≡ key → ComesFirst key (before ++ first ∷ after) k' t → (moved : List Catch) × ComesBefore before first k' moved
+before_from : (key : Key) (before : List Catch) (first : Catch) (after : List Catch) (k' : Catch) (t : List Catch) → LacksKey key before → catch_key first ≡ key → ComesFirst key (before ++ first ∷ after) k' t → (moved : List Catch) × ComesBefore before first k' moved
 before_from key [] first after k' t lacks is (inl w) = ([], (w.1, refl))
 before_from key [] first after k' t lacks is (inr w) = absurd (w.0 is)
 before_from key (j ∷ before) first after k' t lacks is (inl w) = absurd (lacks_first key j before lacks w.0)
@@ -45,7 +45,7 @@ before_from key (j ∷ before) first after k' t lacks is (inr w) =
     (come.1 ∷ rest.0, (come.0, come.1, rest.0, rest.1, come.4, refl))
 
 -- the first catch with a label, with the catches before it and those after it
-module _ {key : Key} {list : List Catch} {at : ℕ} (w : FirstWith key list at) where
+module _ {key : Key} {list : List Catch} {at : ℕ} (w : FirstWithKey key list at) where
   pub stands_first : (take at list ≡ w.before) × (drop at list ≡ w.first ∷ w.after)
   stands_first =
       (ap (take at) w.is ∙ take_at w.before (w.first ∷ w.after) at w.stands, ap (drop at) w.is ∙ drop_at w.before (w.first ∷ w.after) at w.stands)

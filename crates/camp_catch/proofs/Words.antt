@@ -41,7 +41,7 @@ pub use Rattle.camp_ctx.proofs.ConflictLaws.{conflict_is_symmetric, merge_behind
 pub use Rattle.camp_ctx.proofs.ContextsDecided.{conflict_or_not, contexts_or_not, in_context_or_not, keys_or_not, list_passes_by_or_not, lists_or_not, merge_behind_or_not, only_or_not, same_alone}
 pub use Rattle.camp_ctx.proofs.NamedDecided.{both_or_not, bytes_or_not, named_or_not}
 pub use Rattle.camp_ctx.proofs.SetChanges.{members_change, members_valid, one_change_of_members}
-pub use Rattle.camp_ctx.specs.Adding.{Adds, AddsAll, PassesBy, PassesByAll}
+pub use Rattle.camp_ctx.specs.Adding.{AddsToContext, AddsAll, PassesBy, PassesByAll}
 pub use Rattle.camp_ctx.specs.Conflicts.{Conflict, MergesBehindCommon, common_labels}
 pub use Rattle.camp_ctx.specs.Contexts.{AreValid, ContextedPatch, ContextedPatches, EachMember, Valid, bare, context_key, only, patch_key, with_member}
 pub use Rattle.camp_ctx.specs.Laws.{AlwaysGives, GivesOne, KeepsValid}
@@ -50,8 +50,8 @@ pub use Rattle.camp_catch.specs.Cases.{CasesExclude, MergeCasesExclude}
 pub use Rattle.camp_catch.specs.Catches.{Fits, FitsAll, IsSeenFrom, catch_key}
 pub use Rattle.camp_catch.specs.Commuting.{BothPlain, CommuteCatch, CommuteConflictors, CommutePlainConflictor, ConflictDissolves, ConflictorPastPlain, EffectsPass, OneOfSeveralConflicts, OnlyConflictGoes, PlainLeavesTheSet, PlainPastConflictor, TwoConflictorsApart, labels_undone}
 pub use Rattle.camp_catch.specs.Conflictors.{Becomes, against, in_conflict_with, joined_by, with_effect, without}
-pub use Rattle.camp_catch.specs.Inside.InPlace.{ComesFirstInPlace, FirstWith, Lacks, MergesBehind}
-pub use Rattle.camp_catch.specs.Laws.{CommuteIsUnique, CommuteKeepsEffects, KeepLabels, KeysAlign, KeysPart, ListsKeepEffects, MergeIsSymmetric, MergeIsUnique, MergeKeepsEffects, keys_of}
+pub use Rattle.camp_catch.specs.Inside.InPlace.{ComesFirstInPlace, FirstWithKey, LacksKey, MergesInto}
+pub use Rattle.camp_catch.specs.Laws.{CatchCommuteIsUnique, CommuteKeepsEffects, KeepLabels, KeysAlign, KeysPart, ListsKeepEffects, CatchMergeIsSymmetric, MergeIsUnique, MergeKeepsEffects, keys_of}
 pub use Rattle.camp_catch.specs.ListLaws.{ArrangeByMembers, CatchesAreDecided, FrontsComeBehindFronts, GivesOnePair, HasPair, ListsAreUnique, ListsSucceedOrStick, OneOf, WhatStopsComesAlong}
 pub use Rattle.camp_catch.specs.Merging.{Clean, FirstConflict, JoinsWhere, MergeCatch, MergePlainConflictor, Mirror, PlainBesideConflictor, PlainJoinsConflictor, TwoConflictors}
 pub use Rattle.camp_catch.specs.MergingLists.{DoNotMerge, MergeLists, MergeSticks, MergesWithAll, SticksWithin}

@@ -12,7 +12,7 @@ use Rattle.camp_prim.specs.declared.named.Named.{Named}
 use Rattle.camp_seq.specs.NormalOrder.{Norm, Splits}
 use Rattle.camp_seq.specs.Passing.{Passes, PassesAll, Fronts}
 use Rattle.camp_seq.specs.Running.{inverse_all}
-use Rattle.camp_ctx.specs.Adding.{Adds, AddsAll, PassesBy, PassesByAll}
+use Rattle.camp_ctx.specs.Adding.{AddsToContext, AddsAll, PassesBy, PassesByAll}
 use Rattle.camp_ctx.specs.Contexts.{ContextedPatch, ContextedPatches, bare, only, patch_key, context_key}
 use Rattle.camp_catch.specs.Conflictors.{Becomes, against, in_conflict_with, joined_by, with_effect, without}
 use Rattle.camp_catch.specs.declared.catches.Catch.{Catch}
@@ -36,7 +36,7 @@ pub record PlainPastConflictor (a : Named) (k : Conflictor) (k' j' : Catch) : Ty
   pub a' : Named
   pub passes : Passes a k.effect passed a'
   pub moved : Conflictor
-  pub becomes : Becomes (Norm passed) (Adds a') (PassesBy a') k moved
+  pub becomes : Becomes (Norm passed) (AddsToContext a') (PassesBy a') k moved
   pub second : k' ≡ Catch.Conflictor moved
   pub first : j' ≡ Plain a'
 
@@ -47,7 +47,7 @@ pub record ConflictorPastPlain (j : Conflictor) (b : Named) (k' j' : Catch) : Ty
   pub left : List Named
   pub passes : PassesAll j.effect (b ∷ []) (b' ∷ []) left
   pub moved : Conflictor
-  pub becomes : Becomes (Norm left) (Adds (inverse_of b)) (PassesBy (inverse_of b)) j moved
+  pub becomes : Becomes (Norm left) (AddsToContext (inverse_of b)) (PassesBy (inverse_of b)) j moved
   pub second : k' ≡ Plain b'
   pub first : j' ≡ Catch.Conflictor moved
 

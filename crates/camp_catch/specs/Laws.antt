@@ -23,12 +23,12 @@ MergeKeepsEffects =
     (new : Files) × Fits k' left new × Fits j' right new
 
 -- merging does not depend on which comes first
-abbrev pub MergeIsSymmetric : Type 0
-MergeIsSymmetric = (j k k' j' : Catch) → MergeCatch j k k' j' → MergeCatch k j j' k'
+abbrev pub CatchMergeIsSymmetric : Type 0
+CatchMergeIsSymmetric = (j k k' j' : Catch) → MergeCatch j k k' j' → MergeCatch k j j' k'
 
 -- commuting and merging have at most one result
-abbrev pub CommuteIsUnique : Type 0
-CommuteIsUnique =
+abbrev pub CatchCommuteIsUnique : Type 0
+CatchCommuteIsUnique =
     (j k k' j' l i : Catch) → CommuteCatch j k k' j' → CommuteCatch j k l i → (k' ≡ l) × (j' ≡ i)
 
 abbrev pub MergeIsUnique : Type 0

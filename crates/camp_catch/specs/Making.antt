@@ -9,6 +9,6 @@ IfBlocked By (Blocked why) = By why
 IfBlocked By Memory = Unit {0}
 
 -- the result is the given outcome, or out of memory
-abbrev pub ComesTo : {X W : Type 0} → (Result X W → Type 0) → Result X (Unmade W) → Type 0
-ComesTo Outcome (Ok made) = Outcome (Ok made)
-ComesTo Outcome (Err why) = IfBlocked (λ what. Outcome (Err what)) why
+abbrev pub GivesOrRunsOut : {X W : Type 0} → (Result X W → Type 0) → Result X (Unmade W) → Type 0
+GivesOrRunsOut Outcome (Ok made) = Outcome (Ok made)
+GivesOrRunsOut Outcome (Err why) = IfBlocked (λ what. Outcome (Err what)) why

@@ -6,7 +6,7 @@ use Rattle.camp_prim.specs.declared.named.Named.{Named}
 use Rattle.camp_seq.specs.Merging.{Merges, MergesOne}
 use Rattle.camp_seq.specs.NormalOrder.{Norm}
 use Rattle.camp_seq.specs.Running.{inverse_all}
-use Rattle.camp_ctx.specs.Adding.{Adds, AddsAll}
+use Rattle.camp_ctx.specs.Adding.{AddsToContext, AddsAll}
 use Rattle.camp_ctx.specs.Conflicts.{MergesBehindCommon, Conflict}
 use Rattle.camp_ctx.specs.Contexts.{ContextedPatch, bare}
 use Rattle.camp_catch.specs.Conflictors.{Becomes, against, in_conflict_with, joined_by, with_effect}
@@ -40,7 +40,7 @@ pub record PlainBesideConflictor (a : Named) (k : Conflictor) (k' j' : Catch) : 
   pub a' : Named
   pub merge : MergesOne a k.effect merged a'
   pub moved : Conflictor
-  pub becomes : Becomes (Norm merged) (Adds (inverse_of a')) (Adds (inverse_of a')) k moved
+  pub becomes : Becomes (Norm merged) (AddsToContext (inverse_of a')) (AddsToContext (inverse_of a')) k moved
   pub after : k' ≡ Catch.Conflictor moved
   pub beside : j' ≡ Plain a'
 

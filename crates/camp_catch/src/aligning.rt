@@ -5,8 +5,8 @@ ghost use Rattle.std.specs.Result.{MatchResult};
 ghost use Rattle.camp_base.specs.Answers.{Finds};
 ghost use Rattle.camp_catch.specs.Arranging.{Align, AlignSticks};
 ghost use Rattle.camp_catch.specs.Catches.{catch_key};
-ghost use Rattle.camp_catch.specs.Inside.InPlace.{ComesFirstInPlace, FirstWith, Lacks};
-ghost use Rattle.camp_catch.specs.Making.{ComesTo};
+ghost use Rattle.camp_catch.specs.Inside.InPlace.{ComesFirstInPlace, FirstWithKey, LacksKey};
+ghost use Rattle.camp_catch.specs.Making.{GivesOrRunsOut};
 
 use crate::fast::{Gaining, all_gaining, all_settled};
 use crate::moves::come_before;
@@ -23,7 +23,7 @@ pub fn align(
     list: &[Shared<Catch>],
     order: &[Key],
 ) -> Result<Vec<Shared<Catch>>, Unmade<Key>>
-    ensures exact { ComesTo (λ answer. MatchResult answer
+    ensures exact { GivesOrRunsOut (λ answer. MatchResult answer
         (λ aligned. Align order.now list.now aligned.items)
         (AlignSticks order.now list.now)) result }
 {
@@ -35,7 +35,7 @@ pub fn align(
 
 /// Puts a list in the order, in place. If a label is blocked, the list is partly reordered.
 fn put_in_order(alloc: Global, list: &mut [Gaining], order: &[Key]) -> Result<(), Unmade<Key>>
-    ensures exact { ComesTo (λ answer. MatchResult answer
+    ensures exact { GivesOrRunsOut (λ answer. MatchResult answer
         (λ _. Align order.now list.old list.new)
         (AlignSticks order.now list.old)) result }
 {
@@ -72,7 +72,7 @@ fn come_first(alloc: Global, list: &mut [Gaining], key: &Key) -> Result<bool, Al
 
 /// Finds the index of the first catch with a label.
 fn place_of(list: &[Gaining], key: &Key) -> Option<usize>
-    ensures { MatchOption result (Lacks key.now list.now) (FirstWith key.now list.now) }
+    ensures { MatchOption result (LacksKey key.now list.now) (FirstWithKey key.now list.now) }
 {
     for (at, catch) in list.iter().enumerate() {
         if has_key(catch, key) {

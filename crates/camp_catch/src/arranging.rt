@@ -6,7 +6,7 @@ ghost use Rattle.std.specs.Cmp.Lexicographic.{slice_cmp};
 ghost use Rattle.std.specs.Result.{MatchResult};
 ghost use Rattle.camp_share.specs.Maps.{map_of};
 ghost use Rattle.camp_catch.specs.Arranging.{Arrange, ArrangeSticks, IsOf};
-ghost use Rattle.camp_catch.specs.Making.{ComesTo};
+ghost use Rattle.camp_catch.specs.Making.{GivesOrRunsOut};
 
 use crate::fast::{Gaining, all_settled};
 use crate::moves::come_before;
@@ -38,7 +38,7 @@ pub fn arrange<V>(
     list: &[Shared<Catch>],
     names: &SharedMap<Name, V>,
 ) -> Result<Arranged, Unmade<Stuck>>
-    ensures exact { ComesTo (λ answer. MatchResult answer
+    ensures exact { GivesOrRunsOut (λ answer. MatchResult answer
         (λ arranged. Arrange (keys (map_of (slice_cmp nat_cmp) names.now)) list.now arranged.first.items arranged.rest.items)
         (λ stuck. ArrangeSticks (keys (map_of (slice_cmp nat_cmp) names.now)) list.now stuck.patch stuck.on)) result }
 {

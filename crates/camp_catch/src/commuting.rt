@@ -6,7 +6,7 @@ ghost use Rattle.camp_prim.specs.Effect.{inverse_of};
 ghost use Rattle.camp_prim.specs.Labels.{label_of};
 ghost use Rattle.camp_seq.specs.NormalOrder.{Norm};
 ghost use Rattle.camp_seq.specs.Passing.{Fronts, PassesAll};
-ghost use Rattle.camp_ctx.specs.Adding.{Adds, PassesBy};
+ghost use Rattle.camp_ctx.specs.Adding.{AddsToContext, PassesBy};
 ghost use Rattle.camp_ctx.specs.Contexts.{context_key, patch_key};
 ghost use Rattle.camp_catch.specs.Commuting.{BothPlain, CommuteCatch, CommutePlainConflictor, ConflictDissolves, ConflictorPastPlain, MayWant, PlainLeavesTheSet, PlainPastConflictor};
 ghost use Rattle.camp_catch.specs.Conflictors.{Becomes, against};
@@ -104,7 +104,7 @@ fn inverse_passes_before(
     j: &Conflictor,
 ) -> Result<Option<Conflictor>, AllocError>
     ensures { IfOk result (Finds
-        (Becomes (Norm s) (Adds (inverse_of b.now)) (PassesBy (inverse_of b.now)) j.now)) }
+        (Becomes (Norm s) (AddsToContext (inverse_of b.now)) (PassesBy (inverse_of b.now)) j.now)) }
 {
     let back = inverse(b)?;
     passes_before(&back, s, j)

@@ -1,6 +1,6 @@
 //! The laws of catches, as functions whose contracts state them.
 ghost use Rattle.camp_catch.specs.Cases.{CasesExclude, MergeCasesExclude};
-ghost use Rattle.camp_catch.specs.Laws.{CommuteIsUnique, CommuteKeepsEffects, KeepLabels, ListsKeepEffects, MergeIsSymmetric, MergeIsUnique, MergeKeepsEffects};
+ghost use Rattle.camp_catch.specs.Laws.{CatchCommuteIsUnique, CommuteKeepsEffects, KeepLabels, ListsKeepEffects, CatchMergeIsSymmetric, MergeIsUnique, MergeKeepsEffects};
 ghost use Rattle.camp_catch.specs.ListLaws.{ArrangeByMembers, CatchesAreDecided, FrontsComeBehindFronts, ListsAreUnique, ListsSucceedOrStick, WhatStopsComesAlong};
 
 /// If two catches fit a tree one after the other, so do those that they commute to, and both orders lead to
@@ -18,7 +18,7 @@ pub fn merge_keeps_effects()
 /// The merge of two catches does not depend on which comes first.
 #[tactic(auto, using(crate::proofs::MergeEffects::merging_is_symmetric))]
 pub fn merge_is_symmetric()
-    ensures law { MergeIsSymmetric }
+    ensures law { CatchMergeIsSymmetric }
 {}
 
 /// The cases of commuting exclude one another.
@@ -29,7 +29,7 @@ pub fn cases_exclude_one_another()
 
 /// Two catches commute to at most one pair, whichever case gives it.
 pub fn commute_is_unique()
-    ensures law { CommuteIsUnique }
+    ensures law { CatchCommuteIsUnique }
 {}
 
 /// The cases of merging exclude one another.

@@ -3,7 +3,7 @@ ghost use Rattle.std.specs.Prelude.{◌≡◌, List, IfOk};
 ghost use Rattle.std.specs.Result.{MatchResult};
 ghost use Rattle.camp_base.specs.Answers.{Changes};
 ghost use Rattle.camp_catch.specs.Inside.InPlace.{MergesInPlace};
-ghost use Rattle.camp_catch.specs.Making.{ComesTo};
+ghost use Rattle.camp_catch.specs.Making.{GivesOrRunsOut};
 ghost use Rattle.camp_catch.specs.MergingLists.{MergeLists, MergeSticks, MergesWithAll, SticksWithin};
 ghost use Rattle.camp_catch.specs.Catches.{catch_key};
 ghost use Rattle.camp_catch.specs.declared.catches.Catch.{Catch as AnyCatch};
@@ -29,7 +29,7 @@ pub fn merge_lists(
     p: &[Shared<Catch>],
     q: &[Shared<Catch>],
 ) -> Result<Vec<Shared<Catch>>, Unmade<NoMerge>>
-    ensures exact { ComesTo (λ answer. MatchResult answer
+    ensures exact { GivesOrRunsOut (λ answer. MatchResult answer
         (λ merged. (q' : List AnyCatch) × MergeLists p.now q.now merged.items q')
         (λ stuck. MergeSticks p.now q.now stuck.left stuck.right)) result }
 {
@@ -54,7 +54,7 @@ fn merge_with_all(
     q: &mut [Gaining],
     k: &Shared<Catch>,
 ) -> Result<Shared<Catch>, Unmade<NoMerge>>
-    ensures exact { ComesTo (λ answer. MatchResult answer
+    ensures exact { GivesOrRunsOut (λ answer. MatchResult answer
         (λ after. MergesWithAll q.old k.now after q.new)
         (λ stuck. SticksWithin q.old k.now stuck.left stuck.right)) result }
 {

@@ -2,7 +2,7 @@
 ghost use Rattle.std.specs.Prelude.{◌≡◌, IfOk, MatchOption};
 ghost use Rattle.camp_base.specs.Answers.{Changes};
 ghost use Rattle.camp_catch.specs.Arranging.{ComesBefore, StopsAt};
-ghost use Rattle.camp_catch.specs.Inside.InPlace.{CommutesInPlace};
+ghost use Rattle.camp_catch.specs.Inside.InPlace.{CatchesCommuteInPlace};
 
 use crate::fast::{Gaining, commute_as_they_are};
 use crate::{Catch, commute};
@@ -34,7 +34,7 @@ pub(crate) fn commute_in_place(
     j: &mut Shared<Catch>,
     k: &mut Shared<Catch>,
 ) -> Result<bool, AllocError>
-    ensures exact { IfOk result (λ done. Changes CommutesInPlace (j.old, k.old) done (j.new, k.new)) }
+    ensures exact { IfOk result (λ done. Changes CatchesCommuteInPlace (j.old, k.old) done (j.new, k.new)) }
 {
     if commute_as_they_are(j, k)? {
         return Ok(true);

@@ -3,7 +3,7 @@ ghost use Rattle.std.specs.Prelude.{◌≡◌, ◌↔◌, IfOk, IsTrue};
 ghost use Rattle.camp_base.specs.Answers.{Finds};
 ghost use Rattle.camp_seq.specs.NormalOrder.{Norm};
 ghost use Rattle.camp_seq.specs.Running.{inverse_all};
-ghost use Rattle.camp_ctx.specs.Adding.{Adds, AddsAll, PassesBy, PassesByAll};
+ghost use Rattle.camp_ctx.specs.Adding.{AddsToContext, AddsAll, PassesBy, PassesByAll};
 ghost use Rattle.camp_ctx.specs.Contexts.{bare};
 ghost use Rattle.camp_catch.specs.Conflictors.{Becomes, against, in_conflict_with, joined_by, with_conflicts};
 ghost use Rattle.camp_catch.specs.Inside.Seen.{LeavesSet, TakesBack};
@@ -17,7 +17,7 @@ use std::alloc::{AllocError, Global};
 
 /// Makes `(s', X', i)`, where `s'` is `s` in normal order, and `a` added to `X` gives `X'`.
 fn set_before(a: &Named, s: Seq, k: &Conflictor, i: Contexted) -> Result<Conflictor, AllocError>
-    ensures { IfOk result (Becomes (Norm s) (Adds a.now) (λ old new. new ≡ i) k.now) }
+    ensures { IfOk result (Becomes (Norm s) (AddsToContext a.now) (λ old new. new ≡ i) k.now) }
 {
     let conflicts = CtxSet::add_one(a, &k.conflicts)?;
     let effect = ordered(s);
@@ -35,7 +35,7 @@ pub(crate) fn passes_before(
     s: Seq,
     k: &Conflictor,
 ) -> Result<Option<Conflictor>, AllocError>
-    ensures { IfOk result (Finds (Becomes (Norm s) (Adds a.now) (PassesBy a.now) k.now)) }
+    ensures { IfOk result (Finds (Becomes (Norm s) (AddsToContext a.now) (PassesBy a.now) k.now)) }
 {
     let Some(identity) = Contexted::past_one(a, &k.identity)? else {
         return Ok(None);
@@ -46,7 +46,7 @@ pub(crate) fn passes_before(
 
 /// Makes `(s', X', i')`, where `s'` is `s` in normal order, and `a` added to `X` and `i` gives `X'` and `i'`.
 pub(crate) fn one_before(a: &Named, s: Seq, k: &Conflictor) -> Result<Conflictor, AllocError>
-    ensures { IfOk result (Becomes (Norm s) (Adds a.now) (Adds a.now) k.now) }
+    ensures { IfOk result (Becomes (Norm s) (AddsToContext a.now) (AddsToContext a.now) k.now) }
 {
     let identity = Contexted::add_one(a, &k.identity)?;
     set_before(a, s, k, identity)

@@ -3,12 +3,12 @@ use Rattle.std.specs.Prelude.{◌≡◌, ℕ, List, [], ◌∷◌}
 use Rattle.camp_history.specs.Opening as opening
 
 -- sections of a run: an opening, and one for each client
-abbrev pub most_sections : ℕ
-most_sections = 64
+abbrev pub most_run_sections : ℕ
+most_run_sections = 64
 
 -- tries of a call over a head
-abbrev pub most_tries : ℕ
-most_tries = opening.most_tries
+abbrev pub most_run_tries : ℕ
+most_run_tries = opening.most_tries
 
 -- a section: each answer was given at a prefix of the history, and `Says` relates it to that prefix and to the prefix of
 -- the answer before it; `first` is the prefix at the start, `last` the one at the end

@@ -5,7 +5,7 @@ ghost use Rattle.camp_clients.specs.Answers.{reported_position};
 ghost use Rattle.camp_clients.specs.Comparing.{Differs, Matches, left_from};
 ghost use Rattle.camp_clients.specs.Positions.{done_at};
 ghost use Rattle.camp_clients.specs.Runs.{IsExactly, lists_of};
-ghost use Rattle.camp_clients.specs.Sections.{most_sections};
+ghost use Rattle.camp_clients.specs.Sections.{most_run_sections};
 
 use camp_object::{Fault, Object};
 
@@ -19,7 +19,7 @@ pub fn has_exactly<State: Object>(
     sections: &[Vec<State::Call>],
     answers: &[Vec<Result<State::Reply, Fault>>],
 ) -> bool
-    requires few { length sections.now ≤ most_sections }
+    requires few { length sections.now ≤ most_run_sections }
     requires as_many { length answers.now ≡ length sections.now }
     ensures exact { IsTrue result ↔
         IsExactly (reported_position State.object) (lists_of sections.now) (lists_of answers.now) history.now }

@@ -8,7 +8,7 @@ ghost use Rattle.camp_clients.specs.Answers.{SectionStep};
 ghost use Rattle.camp_clients.specs.Clients.{AllRan, IsReady, Ran};
 ghost use Rattle.camp_clients.specs.Synchronising.{AreNew};
 ghost use Rattle.camp_clients.specs.Runs.{IsShared, lists_of, section_of};
-ghost use Rattle.camp_clients.specs.Sections.{most_sections, most_tries, Section};
+ghost use Rattle.camp_clients.specs.Sections.{most_run_sections, most_run_tries, Section};
 ghost use Rattle.camp_object.specs.Histories.{own};
 ghost use Rattle.camp_object.specs.Objects.{IsFirst, begun};
 
@@ -34,9 +34,9 @@ pub struct HeadPlan<'a, R, State: Object, G, S> {
     pub every: u32,
     pub gate: &'a G,
     pub section_gate: &'a S,
-    ghost in_range: { (0 < length sections.now) × (length sections.now ≤ most_sections) },
+    ghost in_range: { (0 < length sections.now) × (length sections.now ≤ most_run_sections) },
     ghost writing: { All (λ calls. count_by State.object.is_writing calls.items ≤ most_calls) sections.now },
-    ghost tries_in_range: { (0 < tries) × (tries ≤ most_tries) },
+    ghost tries_in_range: { (0 < tries) × (tries ≤ most_run_tries) },
     ghost every_in_range: { every ≤ most_between_snapshots },
 }
 

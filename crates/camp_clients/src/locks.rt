@@ -4,7 +4,7 @@ ghost use Rattle.std.specs.List.{AllZip};
 ghost use Rattle.std.specs.Thread.{IsSync};
 ghost use Rattle.camp_clients.specs.Answers.{HasMemory};
 ghost use Rattle.camp_clients.specs.Runs.{IsLocked, SaysSomewhere, lists_of, section_of};
-ghost use Rattle.camp_clients.specs.Sections.{most_sections};
+ghost use Rattle.camp_clients.specs.Sections.{most_run_sections};
 ghost use Rattle.camp_object.specs.Objects.{IsFirst, begun};
 
 use crate::comparisons::has_exactly;
@@ -27,7 +27,7 @@ pub fn locked<R: Threads + Wait + Sync, State: Object + Send + Sync>(
 where
     State::Call: Send + Sync,
     State::Reply: Send,
-    requires { (0 < length sections.now) × (length sections.now ≤ most_sections) }
+    requires { (0 < length sections.now) × (length sections.now ≤ most_run_sections) }
     ensures locked { IfOk result (λ run.
         IsLocked State.object (lists_of sections.now) (lists_of run.answers.items) run.book.calls) }
 {
@@ -49,7 +49,7 @@ pub fn locked_from<R: Threads + Wait + Sync, State: Object + Send + Sync>(
 where
     State::Call: Send + Sync,
     State::Reply: Send,
-    requires few { (0 < length sections.now) × (length sections.now ≤ most_sections) }
+    requires few { (0 < length sections.now) × (length sections.now ≤ most_run_sections) }
     requires is_first { IsFirst State.object first }
     requires is_same { same.now ≡ first }
     ensures begins { IfOk result (λ run. run.book.first ≡ first) }
@@ -83,7 +83,7 @@ fn in_threads<R: Threads + Wait + Sync, State: Object + Send + Sync>(
 where
     State::Call: Send + Sync,
     State::Reply: Send,
-    requires few { (0 < length sections.now) × (length sections.now ≤ most_sections) }
+    requires few { (0 < length sections.now) × (length sections.now ≤ most_run_sections) }
     requires is_first { IsFirst State.object first.now }
     ensures as_many { IfOk result (λ made. length made.items + 1 ≡ length sections.now) }
     ensures each { IfOk result (λ made. (k : ℕ) (d : _) → k < length made.items →
@@ -95,7 +95,7 @@ where
         alloc,
         sections.len() - 1,
         &|k: usize| -> Result<Answers<State>, LockFault>
-            requires { IsSync R.row × (k + 1 < length sections.now) × (length sections.now ≤ most_sections) × IsFirst State.object first.now }
+            requires { IsSync R.row × (k + 1 < length sections.now) × (length sections.now ≤ most_run_sections) × IsFirst State.object first.now }
             ensures { IfOk result (λ answers.
                 AllZip (SaysSomewhere (begun State.object first.entry.now)) (section_of (lists_of sections.entry.now) (k + 1)) answers.items) }
         { ask_locked::<R, State>(rt, alloc, lock, first, k as u32 + 1, &sections[k + 1]) },

@@ -2,7 +2,7 @@
 ghost use Rattle.std.specs.Prelude.{◌≡◌, ◌≤◌, [], length, IfOk};
 ghost use Rattle.camp_clients.specs.Answers.{SaysAlone};
 ghost use Rattle.camp_clients.specs.Runs.{OneByOne, lists_of};
-ghost use Rattle.camp_clients.specs.Sections.{most_sections, Section};
+ghost use Rattle.camp_clients.specs.Sections.{most_run_sections, Section};
 ghost use Rattle.camp_object.specs.Objects.{IsFirst, begun};
 
 use crate::first_states::initial;
@@ -22,7 +22,7 @@ pub fn serial<State: Object>(
     alloc: Global,
     sections: &[Vec<State::Call>],
 ) -> Result<BookRun<State>, AllocError>
-    requires { length sections.now ≤ most_sections }
+    requires { length sections.now ≤ most_run_sections }
     ensures serial { IfOk result (λ run.
         OneByOne State.object 0 [] (lists_of sections.now) (lists_of run.answers.items) run.book.calls) }
 {
@@ -35,7 +35,7 @@ pub fn serial_from<State: Object>(
     first: State,
     sections: &[Vec<State::Call>],
 ) -> Result<BookRun<State>, AllocError>
-    requires few { length sections.now ≤ most_sections }
+    requires few { length sections.now ≤ most_run_sections }
     requires is_first { IsFirst State.object first }
     ensures begins { IfOk result (λ run. run.book.first ≡ first) }
     ensures serial { IfOk result (λ run.

@@ -1,5 +1,5 @@
 -- With headroom, adding a list does not depend on the order of its elements.
-use Rattle.camp_ctx.proofs.Words.{◌≡◌, List, [], ◌∷◌, ◌++◌, refl, sym, ◌∙◌, subst, append_assoc, inverse_of, Commute, Named, Norm, Adds, AddsAll, ContextedPatch, whole}
+use Rattle.camp_ctx.proofs.Words.{◌≡◌, List, [], ◌∷◌, ◌++◌, refl, sym, ◌∙◌, subst, append_assoc, inverse_of, Commute, Named, Norm, AddsToContext, AddsAll, ContextedPatch, whole}
 use Rattle.camp_prim.proofs.CommuteLaws.{inverse, own_inverse}
 use Rattle.camp_seq.specs.Equivalence.{◌~◌, CommutesOnce, same, exchanged, backwards, through}
 use Rattle.camp_seq.specs.Room.{HasRoom}
@@ -161,7 +161,7 @@ module _ (a b b' a' : Named) (k : Commute a b b' a') (c : List Named) (p : Named
   turned c1 q d z (stays never none h is) s = where_stays never none c1 h d z (subst (λ o. Sum a c1 o d z) is s)
 
 -- two neighbours are added in their other order
-two_added : (a b b' a' : Named) (x y z : ContextedPatch) → HasRoom (a ∷ b ∷ whole x) → Commute a b b' a' → Adds b x y → Adds a y z → (u : ContextedPatch) × Adds a' x u × Adds b' u z
+two_added : (a b b' a' : Named) (x y z : ContextedPatch) → HasRoom (a ∷ b ∷ whole x) → Commute a b b' a' → AddsToContext b x y → AddsToContext a y z → (u : ContextedPatch) × AddsToContext a' x u × AddsToContext b' u z
 two_added a b b' a' x y z room k v w =
     let c : List Named = x.context in
     let p : Named = x.patch in

@@ -1,5 +1,5 @@
 -- Adding and passing by have at most one result, and adding always has one.
-use Rattle.camp_ctx.proofs.Words.{◌≡◌, List, [], ◌∷◌, refl, sym, ap, ◌∙◌, subst, inl, inr, inverse_of, label_of, key_of, Commute, Named, swap_unique, Norm, Passes, Fronts, one_pass, one_front, one_order, passes_or_not, Decided, decided_by, swap_or_not, Cancels, PassesBy, Keeps, Adds, cancel, commute, keep, FromLast, AddsAll, PassesByAll, ContextedPatch, patch_key, context_key, GivesOne, AlwaysGives}
+use Rattle.camp_ctx.proofs.Words.{◌≡◌, List, [], ◌∷◌, refl, sym, ap, ◌∙◌, subst, inl, inr, inverse_of, label_of, key_of, Commute, Named, swap_unique, Norm, Passes, Fronts, one_pass, one_front, one_order, passes_or_not, Decided, decided_by, swap_or_not, Cancels, PassesBy, Keeps, AddsToContext, cancel, commute, keep, FromLast, AddsAll, PassesByAll, ContextedPatch, patch_key, context_key, GivesOne, AlwaysGives}
 use Rattle.camp_seq.proofs.NormalOrders.{front_or_not, has_normal_order}
 use Rattle.camp_ctx.proofs.NamedDecided.{named_or_not}
 
@@ -22,7 +22,7 @@ one_passing_by a x y z v w =
 one_keep : (a : Named) → GivesOne (Keeps a)
 one_keep a x y z v w = same_in_context y z (one_order (a ∷ x.context) y.context z.context v.context w.context) (v.patch ∙ sym w.patch)
 
-pub one_add : (a : Named) → GivesOne (Adds a)
+pub one_add : (a : Named) → GivesOne (AddsToContext a)
 one_add a x y z (cancel v) (cancel w) = one_cancel a x y z v w
 one_add a x y z (cancel v) (commute never w) = absurd (never y v)
 one_add a x y z (cancel v) (keep never other w) = absurd (never y v)
@@ -40,7 +40,7 @@ one_from_last Change one (a ∷ r) x y z v w =
     one a w.0 y z (subst (λ u. Change a u y) (one_from_last Change one r x v.0 w.0 v.1 w.1) v.2) w.2
 
 pub one_add_of_all : (r : List Named) → GivesOne (AddsAll r)
-one_add_of_all = one_from_last Adds one_add
+one_add_of_all = one_from_last AddsToContext one_add
 
 pub one_passing_of_all : (r : List Named) → GivesOne (PassesByAll r)
 one_passing_of_all = one_from_last PassesBy one_passing_by
@@ -73,7 +73,7 @@ passing_by_or_not a x = elim (passes_or_not a x.context) [
   | inr never ↦ inr (λ c. never (c.1.passed, c.1.a', c.1.past_context))
 ]
 
-pub add_exists : (a : Named) → AlwaysGives (Adds a)
+pub add_exists : (a : Named) → AlwaysGives (AddsToContext a)
 add_exists a x = elim (cancel_or_not a x) [
   | inl c ↦ (c.0, cancel c.1)
   | inr never ↦ elim (passing_by_or_not a x) [
@@ -92,7 +92,7 @@ add_of_all_exists (a ∷ r) x =
     (last.0, (rest.0, rest.1, last.1))
 
 -- adding keeps the absolute label
-same_key_of_one : (a : Named) (x y : ContextedPatch) → Adds a x y → context_key y ≡ context_key x
+same_key_of_one : (a : Named) (x y : ContextedPatch) → AddsToContext a x y → context_key y ≡ context_key x
 same_key_of_one a x y (cancel w) = ap patch_key w.patch
 same_key_of_one a x y (commute never w) = ap key_of w.past_patch.anywhere.second
 same_key_of_one a x y (keep never none w) = ap patch_key w.patch

@@ -1,5 +1,5 @@
 -- What a body of adding and passing by knows at its answers.
-use Rattle.camp_ctx.proofs.Words.{◌≡◌, ℕ, ◌+◌, ◌<◌, List, [], ◌∷◌, ◌++◌, length, take, drop, get_or, refl, sym, ap, ◌∙◌, subst, drop_more, inverse_of, label_of, Commute, Label, Named, Norm, Passes, Fronts, one_front, one_pass, inverse_of-inverse_of, Adds, AddsAll, Cancels, PassesBy, GivesNone, FromLast, cancel, commute, keep, ContextedPatch, GivesOne}
+use Rattle.camp_ctx.proofs.Words.{◌≡◌, ℕ, ◌+◌, ◌<◌, List, [], ◌∷◌, ◌++◌, length, take, drop, get_or, refl, sym, ap, ◌∙◌, subst, drop_more, inverse_of, label_of, Commute, Label, Named, Norm, Passes, Fronts, one_front, one_pass, inverse_of-inverse_of, AddsToContext, AddsAll, Cancels, PassesBy, GivesNone, FromLast, cancel, commute, keep, ContextedPatch, GivesOne}
 use Rattle.std.proofs.lemmas.List.{take-append-drop}
 use Rattle.camp_ctx.specs.Inside.InPlace.{behind}
 use Rattle.camp_seq.proofs.ListSteps.{whole}
@@ -29,18 +29,18 @@ module _ (a : Named) (s : List Named) (label : Label) (first : Named) (rest : Li
 
 -- the three cases of adding a primitive to a context and its patch
 module _ (a : Named) (s : List Named) (p : Named) where
-  pub by_cancelling : (rest left : List Named) → Behind a s rest → Norm rest left → Adds a (behind s p) (behind left p)
+  pub by_cancelling : (rest left : List Named) → Behind a s rest → Norm rest left → AddsToContext a (behind s p) (behind left p)
   by_cancelling rest left w order = cancel (record { rest = rest; front = w; context = order; patch = refl })
 
   module _ (never : (rest : List Named) → ¬ (Behind a s rest)) where
     no_cancelling : GivesNone (Cancels a) (behind s p)
     no_cancelling y w = never w.rest w.front
 
-    pub by_passing : (passing a'' p' : Named) (passed t : List Named) → Passes a s passed passing → Commute passing p p' a'' → Norm passed t → Adds a (behind s p) (behind t p')
+    pub by_passing : (passing a'' p' : Named) (passed t : List Named) → Passes a s passed passing → Commute passing p p' a'' → Norm passed t → AddsToContext a (behind s p) (behind t p')
     by_passing passing a'' p' passed t past swap order =
         commute no_cancelling (record { a' = passing; a'' = a''; passed = passed; past_context = past; past_patch = swap; context = order })
 
-    pub by_keeping : (t : List Named) → ((y : Named × List Named × Named) → ¬ ((passing : Named) × Passes a s y.1 passing × Commute passing p y.2 y.0)) → Norm (a ∷ s) t → Adds a (behind s p) (behind t p)
+    pub by_keeping : (t : List Named) → ((y : Named × List Named × Named) → ¬ ((passing : Named) × Passes a s y.1 passing × Commute passing p y.2 y.0)) → Norm (a ∷ s) t → AddsToContext a (behind s p) (behind t p)
     by_keeping t none order =
         keep no_cancelling (λ y w. none (w.a'', w.passed, y.patch) (w.a', w.past_context, w.past_patch)) (record { context = order; patch = refl })
 
@@ -74,10 +74,10 @@ pub added_in_parts : (r : List Named) (n : ℕ) (x y z : ContextedPatch) → Add
 added_in_parts r n x y z v w = subst (λ l. AddsAll l x z) (take-append-drop n r) (from_both (take n r) (drop n r) x y z v w)
 
 -- a list of one element
-pub one_added : (a : Named) (r : List Named) (x copy y : ContextedPatch) → r ≡ a ∷ [] → copy ≡ x → AddsAll r copy y → Adds a x y
+pub one_added : (a : Named) (r : List Named) (x copy y : ContextedPatch) → r ≡ a ∷ [] → copy ≡ x → AddsAll r copy y → AddsToContext a x y
 one_added a r x copy y alone same w =
     let one : AddsAll (a ∷ []) copy y = subst (λ l. AddsAll l copy y) alone w in
-    subst (λ z. Adds a z y) (one.1 ∙ same) one.2
+    subst (λ z. AddsToContext a z y) (one.1 ∙ same) one.2
 
 -- if the elements from i on were added, and the one before them cannot be, the list cannot be added
 pub none_from_last : (Change : Named → ContextedPatch → ContextedPatch → Type 0) → ((a : Named) → GivesOne (Change a)) → (before : List Named) (a : Named) (r : List Named) (x y : ContextedPatch) → FromLast Change r x y → GivesNone (Change a) y → GivesNone (FromLast Change (before ++ a ∷ r)) x

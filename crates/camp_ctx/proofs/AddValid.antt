@@ -1,5 +1,5 @@
 -- A contexted patch that is valid after a list becomes one that is valid before it.
-use Rattle.camp_ctx.proofs.Words.{◌≡◌, List, [], ◌∷◌, ◌++◌, sym, subst, append_assoc, Files, Applies, inverse_of, label_of, Named, leads_back, AppliesAll, Cancels, PassesBy, Keeps, Adds, cancel, commute, keep, FromLast, AddsAll, PassesByAll, ContextedPatch, whole, Valid, KeepsValid}
+use Rattle.camp_ctx.proofs.Words.{◌≡◌, List, [], ◌∷◌, ◌++◌, sym, subst, append_assoc, Files, Applies, inverse_of, label_of, Named, leads_back, AppliesAll, Cancels, PassesBy, Keeps, AddsToContext, cancel, commute, keep, FromLast, AddsAll, PassesByAll, ContextedPatch, whole, Valid, KeepsValid}
 use Rattle.camp_prim.proofs.Applied.{applies_once}
 use Rattle.camp_seq.specs.Equivalence.{◌~◌, through}
 use Rattle.camp_seq.proofs.ListEquivalence.{equal_are, before, behind, after_one, swapped, passed, fronted, ordered}
@@ -34,7 +34,7 @@ valid_by_keeping a x y w old new applies valid =
     let run = run_along (a ∷ whole x) (y.context ++ x.patch ∷ []) (before (a ∷ x.context) y.context (x.patch ∷ []) (ordered (a ∷ x.context) y.context w.context)) old valid.0 (new, applies, valid.1) in
     (valid.0, subst (λ p. AppliesAll (y.context ++ p ∷ []) old valid.0) (sym w.patch) run)
 
-pub valid_by_adding : (a : Named) → KeepsValid (Adds a) (Applies a.prim)
+pub valid_by_adding : (a : Named) → KeepsValid (AddsToContext a) (Applies a.prim)
 valid_by_adding a x y (cancel w) = valid_by_cancel a x y w
 valid_by_adding a x y (commute never w) = valid_by_passing a x y w
 valid_by_adding a x y (keep never none w) = valid_by_keeping a x y w
@@ -46,7 +46,7 @@ valid_from_last Change keeps (a ∷ r) x y w old new run valid =
     keeps a w.0 y w.2 old run.0 run.1 (valid_from_last Change keeps r x w.0 w.1 run.0 new run.2 valid)
 
 pub valid_by_adding_all : (r : List Named) → KeepsValid (AddsAll r) (AppliesAll r)
-valid_by_adding_all = valid_from_last Adds valid_by_adding
+valid_by_adding_all = valid_from_last AddsToContext valid_by_adding
 
 pub valid_by_passing_all : (r : List Named) → KeepsValid (PassesByAll r) (AppliesAll r)
 valid_by_passing_all = valid_from_last PassesBy valid_by_passing

@@ -1,5 +1,5 @@
 -- What adding makes of a context in whatever order it is.
-use Rattle.camp_ctx.proofs.Words.{◌≡◌, List, [], ◌∷◌, ◌++◌, refl, sym, ap, subst, append_assoc, inverse_of, label_of, Commute, Named, Norm, Passes, Adds, Cancels, PassesBy, GivesNone, cancel, commute, keep, ContextedPatch, whole}
+use Rattle.camp_ctx.proofs.Words.{◌≡◌, List, [], ◌∷◌, ◌++◌, refl, sym, ap, subst, append_assoc, inverse_of, label_of, Commute, Named, Norm, Passes, AddsToContext, Cancels, PassesBy, GivesNone, cancel, commute, keep, ContextedPatch, whole}
 use Rattle.camp_prim.proofs.CommuteLaws.{own_inverse, square}
 use Rattle.camp_seq.specs.Equivalence.{◌~◌, same, backwards, through}
 use Rattle.camp_seq.specs.Room.{HasRoom}
@@ -66,14 +66,14 @@ module _ (a : Named) (x : ContextedPatch) (room : HasRoom (a ∷ whole x)) where
     alike = ordered w.passed y.context w.context;
   }
 
-  pub as_sum : (y : ContextedPatch) → Adds a x y → Sum a x.context x.patch y.context y.patch
+  pub as_sum : (y : ContextedPatch) → AddsToContext a x y → Sum a x.context x.patch y.context y.patch
   as_sum y (cancel w) =
       undone (through (fronted (label_of (inverse_of a)) x.context (inverse_of a) w.rest w.front) (after_one (inverse_of a) w.rest y.context (ordered w.rest y.context w.context))) w.patch
   as_sum y (commute never w) = goes_past (not_undone never) (is_past y w)
   as_sum y (keep never none w) = stays (not_undone never) (not_past none) (ordered (a ∷ x.context) y.context w.context) w.patch
 
   -- a sum is in its normal order
-  pub in_own_order : (y : ContextedPatch) → Adds a x y → Norm y.context y.context
+  pub in_own_order : (y : ContextedPatch) → AddsToContext a x y → Norm y.context y.context
   in_own_order y (cancel w) =
       own_order w.rest y.context (room_behind (inverse_of a) w.rest (room_of_equivalent x.context (inverse_of a ∷ w.rest) (fronted (label_of (inverse_of a)) x.context (inverse_of a) w.rest w.front) room_of_context)) w.context
   in_own_order y (commute never w) = own_order w.passed y.context (room_left w.passed w.a' w.past_context) w.context
@@ -91,7 +91,7 @@ module _ (a : Named) (x : ContextedPatch) (room : HasRoom (a ∷ whole x)) where
     never_passes : NotPast a x.context x.patch → GivesNone (PassesBy a) x
     never_passes none z w = none z.context z.patch (is_past z w)
 
-    pub from_sum : Sum a x.context x.patch y.context y.patch → Adds a x y
+    pub from_sum : Sum a x.context x.patch y.context y.patch → AddsToContext a x y
     from_sum (undone e is) =
         let f = comes_first (inverse_of a) x.context y.context room_of_context e in
         let there : HasRoom y.context = room_behind (inverse_of a) y.context (room_of_equivalent x.context (inverse_of a ∷ y.context) e room_of_context) in

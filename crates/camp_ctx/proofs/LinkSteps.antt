@@ -1,5 +1,5 @@
 -- Elements that neither commute nor cancel with the next one are inserted before the context.
-use Rattle.camp_ctx.proofs.Words.{◌≡◌, ◌<◌, ◌∙◌, ap, ℕ, length, List, [], ◌∷◌, ◌++◌, refl, subst, inverse_of, label_of, Commute, Named, chain_is_ordered, front_of_chain, Adds, AddsAll, Cancels, GivesNone, PassesBy, keep, ContextedPatch, Links}
+use Rattle.camp_ctx.proofs.Words.{◌≡◌, ◌<◌, ◌∙◌, ap, ℕ, length, List, [], ◌∷◌, ◌++◌, refl, subst, inverse_of, label_of, Commute, Named, chain_is_ordered, front_of_chain, AddsToContext, AddsAll, Cancels, GivesNone, PassesBy, keep, ContextedPatch, Links}
 use Rattle.std.proofs.Common.{append-nil}
 use Rattle.camp_ctx.specs.Inside.InPlace.{behind}
 use Rattle.camp_ctx.specs.Inside.Links.{LinksFrom}
@@ -39,5 +39,5 @@ pub record Linked (r s : List Named) (patch : Named) : Type 0 where
 pub linked_more : (a : Named) (r s : List Named) (patch : Named) → Links a (r ++ s) patch → Linked r s patch → Linked (a ∷ r) s patch
 linked_more a r s patch l w =
     let chain = chain_more a (r ++ s) patch w.chain l in
-    let one : Adds a (behind (r ++ s) patch) (behind (a ∷ (r ++ s)) patch) = keep (no_cancel a (r ++ s) patch w.chain l) (no_passing a (r ++ s) patch l) (record { context = chain_is_ordered (a ∷ (r ++ s)) chain; patch = refl }) in
+    let one : AddsToContext a (behind (r ++ s) patch) (behind (a ∷ (r ++ s)) patch) = keep (no_cancel a (r ++ s) patch w.chain l) (no_passing a (r ++ s) patch l) (record { context = chain_is_ordered (a ∷ (r ++ s)) chain; patch = refl }) in
     record { chain = chain; added = (behind (r ++ s) patch, w.added, one) }

@@ -1,5 +1,5 @@
 -- A list that fits before an addition fits after it, so a reach in range gives headroom to add.
-use Rattle.camp_ctx.proofs.Words.{List, [], ◌∷◌, ◌++◌, sym, subst, append_assoc, inverse_of, Named, Adds, AddsAll, ContextedPatch, whole}
+use Rattle.camp_ctx.proofs.Words.{List, [], ◌∷◌, ◌++◌, sym, subst, append_assoc, inverse_of, Named, AddsToContext, AddsAll, ContextedPatch, whole}
 use Rattle.camp_seq.specs.Equivalence.{through}
 use Rattle.camp_seq.proofs.FittingLists.{fits_alike, fits_before, fits_rest, fits_without}
 use Rattle.camp_seq.proofs.ListEquivalence.{after_one, before, behind, equal_are}
@@ -17,7 +17,7 @@ sum_fits first a c p d q fits (goes_past never w) =
 sum_fits first a c p d q fits (stays never none e is) =
     fits_alike _ _ (behind first _ _ (stays_whole a c p d q e is)) fits
 
-one_added_fits : (first : List Named) (a : Named) (x y : ContextedPatch) → FitsEverywhere (first ++ a ∷ whole x) → Adds a x y → FitsEverywhere (first ++ whole y)
+one_added_fits : (first : List Named) (a : Named) (x y : ContextedPatch) → FitsEverywhere (first ++ a ∷ whole x) → AddsToContext a x y → FitsEverywhere (first ++ whole y)
 one_added_fits first a x y fits w =
     let room = room_where_it_fits (a ∷ whole x) (fits_rest first (a ∷ whole x) fits) in
     sum_fits first a x.context x.patch y.context y.patch fits (as_sum a x room y w)

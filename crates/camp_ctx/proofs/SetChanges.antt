@@ -1,6 +1,6 @@
 -- Sets whose members change.
-use Rattle.camp_ctx.proofs.Words.{◌≡◌, true, false, cond, T, ◌&&◌, Option, None, Some, List, [], ◌∷◌, map, refl, sym, ap, ◌∙◌, subst, option_map, get, entries, entries_sorted, from_sorted, is_sorted, find, same_map, get-from_sorted, get-entries, below_all, is_lt, eq_by_cmp, same_Some, Files, Named, Adds, AddsAll, ContextedPatch, ContextedPatches, ChangesAt, EachMember, key_cmp, Key, GivesOne, AlwaysGives, Applies, AppliesAll, KeepsValid, KeepsMembersValid, key_total, key_ties}
-use Rattle.camp_ctx.specs.Laws.{AddingGives, AreDetermined, EmptyChangesNothing, KeepValid}
+use Rattle.camp_ctx.proofs.Words.{◌≡◌, true, false, cond, T, ◌&&◌, Option, None, Some, List, [], ◌∷◌, map, refl, sym, ap, ◌∙◌, subst, option_map, get, entries, entries_sorted, from_sorted, is_sorted, find, same_map, get-from_sorted, get-entries, below_all, is_lt, eq_by_cmp, same_Some, Files, Named, AddsToContext, AddsAll, ContextedPatch, ContextedPatches, ChangesAt, EachMember, key_cmp, Key, GivesOne, AlwaysGives, Applies, AppliesAll, KeepsValid, KeepsMembersValid, key_total, key_ties}
+use Rattle.camp_ctx.specs.Laws.{AddingGives, AddingIsUnique, EmptyChangesNothing, KeepValid}
 use Rattle.camp_ctx.proofs.AddResults.{add_exists, add_of_all_exists, one_add, one_add_of_all, one_passing_by, one_passing_of_all}
 use Rattle.camp_ctx.proofs.AddValid.{valid_by_adding, valid_by_adding_all, valid_by_passing, valid_by_passing_all}
 use Rattle.camp_ctx.proofs.ConflictLaws.{one_merge_behind}
@@ -81,22 +81,22 @@ empty_changes_nothing = record {
   adds_to_members = λ xs ys w. one_change_of_members (AddsAll []) (one_add_of_all []) xs ys xs w (unchanged xs);
 }
 
-alone_at : (a : Named) (was now : Option ContextedPatch) → ChangesAt (AddsAll (a ∷ [])) was now → ChangesAt (Adds a) was now
+alone_at : (a : Named) (was now : Option ContextedPatch) → ChangesAt (AddsAll (a ∷ [])) was now → ChangesAt (AddsToContext a) was now
 alone_at a None None w = w
 alone_at a None (Some y) w = w
 alone_at a (Some x) None w = w
-alone_at a (Some x) (Some y) w = subst (λ u. Adds a u y) w.1 w.2
+alone_at a (Some x) (Some y) w = subst (λ u. AddsToContext a u y) w.1 w.2
 
 -- a list of one is added as its one element
-pub added_alone : (a : Named) (r : List Named) (xs ys : ContextedPatches) → r ≡ a ∷ [] → EachMember (AddsAll r) xs ys → EachMember (Adds a) xs ys
+pub added_alone : (a : Named) (r : List Named) (xs ys : ContextedPatches) → r ≡ a ∷ [] → EachMember (AddsAll r) xs ys → EachMember (AddsToContext a) xs ys
 added_alone a r xs ys is w key =
     alone_at a (get xs key) (get ys key) (subst (λ s. ChangesAt (AddsAll s) (get xs key) (get ys key)) is (w key))
 
-pub are_determined : AreDetermined
+pub are_determined : AddingIsUnique
 are_determined = record {
   adds = one_add;
   adds_all = one_add_of_all;
-  adds_to_members = λ a. one_change_of_members (Adds a) (one_add a);
+  adds_to_members = λ a. one_change_of_members (AddsToContext a) (one_add a);
   adds_all_to_members = λ r. one_change_of_members (AddsAll r) (one_add_of_all r);
   passes_by = one_passing_by;
   passes_by_all = one_passing_of_all;
@@ -107,7 +107,7 @@ pub adding_gives : AddingGives
 adding_gives = record {
   adds = add_exists;
   adds_all = add_of_all_exists;
-  adds_to_members = λ a. members_change (Adds a) (add_exists a);
+  adds_to_members = λ a. members_change (AddsToContext a) (add_exists a);
   adds_all_to_members = λ r. members_change (AddsAll r) (add_of_all_exists r);
 }
 
@@ -115,7 +115,7 @@ pub keep_valid : KeepValid
 keep_valid = record {
   adds = valid_by_adding;
   adds_all = valid_by_adding_all;
-  adds_to_members = λ a. members_valid (Adds a) (Applies a.prim) (valid_by_adding a);
+  adds_to_members = λ a. members_valid (AddsToContext a) (Applies a.prim) (valid_by_adding a);
   adds_all_to_members = λ r. members_valid (AddsAll r) (AppliesAll r) (valid_by_adding_all r);
   passes_by = valid_by_passing;
   passes_by_all = valid_by_passing_all;

@@ -1,5 +1,5 @@
 -- Contexted patches that stay unchanged when a primitive that keeps its line commutes past them.
-use Rattle.camp_ctx.proofs.Words.{◌≡◌, ◌∙◌, ℕ, suc, get_or, ◌<◌, ◌≤◌, length, Some, Bool, true, false, cond, List, [], ◌∷◌, ◌++◌, map, refl, sym, ap, subst, inl, inr, arith, slice_get, none-some, same_Some, entries, get-entries, len, len-entries, find, eq_by_cmp, inverse_of, label_of, key_of, key_cmp, Commute, Key, Label, Named, inverse_of-inverse_of, Norm, Splits, Parts, Passes, passes_row, chain_is_ordered, Adds, PassesBy, commute, MergesBehindCommon, common_labels, has_label, Conflict, ChangesAt, ContextedPatches, EachMember, ContextedPatch, whole}
+use Rattle.camp_ctx.proofs.Words.{◌≡◌, ◌∙◌, ℕ, suc, get_or, ◌<◌, ◌≤◌, length, Some, Bool, true, false, cond, List, [], ◌∷◌, ◌++◌, map, refl, sym, ap, subst, inl, inr, arith, slice_get, none-some, same_Some, entries, get-entries, len, len-entries, find, eq_by_cmp, inverse_of, label_of, key_of, key_cmp, Commute, Key, Label, Named, inverse_of-inverse_of, Norm, Splits, Parts, Passes, passes_row, chain_is_ordered, AddsToContext, PassesBy, commute, MergesBehindCommon, common_labels, has_label, Conflict, ChangesAt, ContextedPatches, EachMember, ContextedPatch, whole}
 use Rattle.std.proofs.lemmas.List.Folds.{list_any-append}
 use Rattle.std.proofs.Common.{◌||◌}
 use Rattle.std.proofs.lemmas.Bool.{false_from_ne_true}
@@ -23,7 +23,7 @@ passes_as_it_is a x passes own swap =
     record { a' = a; a'' = a; passed = x.context; past_context = passes; past_patch = swap; context = own }
 
 -- then it is added to it so
-pub stays_put : (a : Named) (x : ContextedPatch) → Passes a x.context x.context a → PassesBy a x x → Adds a x x
+pub stays_put : (a : Named) (x : ContextedPatch) → Passes a x.context x.context a → PassesBy a x x → AddsToContext a x x
 stays_put a x passes = commute (λ y w. has_other_labels a x.context x.context a passes (label_of (inverse_of a)) refl (in_from_fronts _ x.context _ _ w.front))
 
 -- if each entry changes to itself, each value does

@@ -34,10 +34,10 @@ abbrev pub GivesNone : (ContextedPatch → ContextedPatch → Type 0) → Contex
 GivesNone Change x = (y : ContextedPatch) → ¬ (Change x y)
 
 -- adding a to a contexted patch: the first of cancel, commute and keep that gives something
-pub data Adds (a : Named) (x y : ContextedPatch) : Type 0 where
-  cancel : Cancels a x y → Adds a x y
-  commute : GivesNone (Cancels a) x → PassesBy a x y → Adds a x y
-  keep : GivesNone (Cancels a) x → GivesNone (PassesBy a) x → Keeps a x y → Adds a x y
+pub data AddsToContext (a : Named) (x y : ContextedPatch) : Type 0 where
+  cancel : Cancels a x y → AddsToContext a x y
+  commute : GivesNone (Cancels a) x → PassesBy a x y → AddsToContext a x y
+  keep : GivesNone (Cancels a) x → GivesNone (PassesBy a) x → Keeps a x y → AddsToContext a x y
 
 -- the elements of a list change a contexted patch, from the last to the first
 abbrev pub FromLast : (Named → ContextedPatch → ContextedPatch → Type 0) → List Named → ContextedPatch → ContextedPatch → Type 0
@@ -46,7 +46,7 @@ FromLast Change (a ∷ r) x z = (y : ContextedPatch) × FromLast Change r x y ×
 
 -- adding a list to a contexted patch
 abbrev pub AddsAll : List Named → ContextedPatch → ContextedPatch → Type 0
-AddsAll = FromLast Adds
+AddsAll = FromLast AddsToContext
 
 -- a list that commutes past a contexted patch
 abbrev pub PassesByAll : List Named → ContextedPatch → ContextedPatch → Type 0

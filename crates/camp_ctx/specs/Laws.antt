@@ -4,7 +4,7 @@ use Rattle.camp_base.specs.Trees.{Files}
 use Rattle.camp_prim.specs.Effect.{Applies}
 use Rattle.camp_prim.specs.declared.named.Named.{Named}
 use Rattle.camp_seq.specs.Running.{AppliesAll}
-use Rattle.camp_ctx.specs.Adding.{Adds, AddsAll, PassesBy, PassesByAll}
+use Rattle.camp_ctx.specs.Adding.{AddsToContext, AddsAll, PassesBy, PassesByAll}
 use Rattle.camp_ctx.specs.Conflicts.{MergesBehindCommon, Conflict}
 use Rattle.camp_ctx.specs.Contexts.{ContextedPatch, Valid, ContextedPatches, AreValid, EachMember}
 
@@ -13,10 +13,10 @@ abbrev pub GivesOne : {X : Type 0} → (X → X → Type 0) → Type 0
 GivesOne {X} Change = (x y z : X) → Change x y → Change x z → y ≡ z
 
 -- each relation has at most one result
-pub record AreDetermined : Type 0 where
-  pub adds : (a : Named) → GivesOne (Adds a)
+pub record AddingIsUnique : Type 0 where
+  pub adds : (a : Named) → GivesOne (AddsToContext a)
   pub adds_all : (r : List Named) → GivesOne (AddsAll r)
-  pub adds_to_members : (a : Named) → GivesOne (EachMember (Adds a))
+  pub adds_to_members : (a : Named) → GivesOne (EachMember (AddsToContext a))
   pub adds_all_to_members : (r : List Named) → GivesOne (EachMember (AddsAll r))
   pub passes_by : (a : Named) → GivesOne (PassesBy a)
   pub passes_by_all : (r : List Named) → GivesOne (PassesByAll r)
@@ -29,9 +29,9 @@ AlwaysGives {X} Change = (x : X) → (y : X) × Change x y
 
 -- adding always has a result
 pub record AddingGives : Type 0 where
-  pub adds : (a : Named) → AlwaysGives (Adds a)
+  pub adds : (a : Named) → AlwaysGives (AddsToContext a)
   pub adds_all : (r : List Named) → AlwaysGives (AddsAll r)
-  pub adds_to_members : (a : Named) → AlwaysGives (EachMember (Adds a))
+  pub adds_to_members : (a : Named) → AlwaysGives (EachMember (AddsToContext a))
   pub adds_all_to_members : (r : List Named) → AlwaysGives (EachMember (AddsAll r))
 
 -- if a step leads from one tree to another, the relation turns what is valid in the second into something
@@ -47,9 +47,9 @@ KeepsMembersValid Change Step =
 
 -- adding and commuting past keep validity
 pub record KeepValid : Type 0 where
-  pub adds : (a : Named) → KeepsValid (Adds a) (Applies a.prim)
+  pub adds : (a : Named) → KeepsValid (AddsToContext a) (Applies a.prim)
   pub adds_all : (r : List Named) → KeepsValid (AddsAll r) (AppliesAll r)
-  pub adds_to_members : (a : Named) → KeepsMembersValid (Adds a) (Applies a.prim)
+  pub adds_to_members : (a : Named) → KeepsMembersValid (AddsToContext a) (Applies a.prim)
   pub adds_all_to_members : (r : List Named) → KeepsMembersValid (AddsAll r) (AppliesAll r)
   pub passes_by : (a : Named) → KeepsValid (PassesBy a) (Applies a.prim)
   pub passes_by_all : (r : List Named) → KeepsValid (PassesByAll r) (AppliesAll r)

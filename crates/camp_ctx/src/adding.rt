@@ -5,7 +5,7 @@ ghost use Rattle.camp_prim.specs.Effect.{inverse_of};
 ghost use Rattle.camp_prim.specs.Labels.{label_of};
 ghost use Rattle.camp_seq.specs.NormalOrder.{Norm};
 ghost use Rattle.camp_seq.specs.Passing.{Fronts, Passes};
-ghost use Rattle.camp_ctx.specs.Adding.{Adds, AddsAll, PassesBy, PassesByAll};
+ghost use Rattle.camp_ctx.specs.Adding.{AddsToContext, AddsAll, PassesBy, PassesByAll};
 ghost use Rattle.camp_ctx.specs.Inside.InPlace.{KeepsOrder, behind};
 
 use crate::Contexted;
@@ -21,7 +21,7 @@ use std::alloc::{AllocError, Global};
 use std::slice;
 
 impl Contexted {
-    /// Adds a list: turns what is seen after the list into what is seen before it. The primitives are added
+    /// AddsToContext a list: turns what is seen after the list into what is seen before it. The primitives are added
     /// from the last to the first.
     pub fn add(r: &Seq, x: &Contexted) -> Result<Contexted, AllocError>
         ensures exact { IfOk result (λ y. AddsAll r.now x.now y) }
@@ -32,7 +32,7 @@ impl Contexted {
         Ok(all)
     }
 
-    /// Adds a list and consumes it. A chain that is linked to an empty context becomes the context without a copy.
+    /// AddsToContext a list and consumes it. A chain that is linked to an empty context becomes the context without a copy.
     pub fn add_given(r: Seq, x: &Contexted) -> Result<Contexted, AllocError>
         ensures exact { IfOk result (λ y. AddsAll r x.now y) }
     {
@@ -44,10 +44,10 @@ impl Contexted {
         Contexted::told(x.allocator(), r, patch, told)
     }
 
-    /// Adds a primitive: removes its inverse from the front of the context if it can be moved there; else
+    /// AddsToContext a primitive: removes its inverse from the front of the context if it can be moved there; else
     /// commutes it past the context and the patch; else inserts it before the context.
     pub fn add_one(a: &Named, x: &Contexted) -> Result<Contexted, AllocError>
-        ensures exact { IfOk result (λ y. Adds a.now x.now y) }
+        ensures exact { IfOk result (λ y. AddsToContext a.now x.now y) }
     {
         let copy = x.try_clone()?;
         let sum = add_items(slice::from_ref(a), copy)?;
@@ -104,7 +104,7 @@ fn past_patch(
     Ok(Some(before))
 }
 
-/// Adds the elements of a list, from the last to the first. Copies nothing if a quick check finds that all of
+/// AddsToContext the elements of a list, from the last to the first. Copies nothing if a quick check finds that all of
 /// them leave the contexted patch unchanged.
 fn add_items(r: &[Named], x: Contexted) -> Result<Contexted, AllocError>
     ensures { IfOk result (AddsAll r.now x) }
@@ -139,11 +139,11 @@ fn copy_with_room(x: &Contexted, more: usize) -> Result<Seq, AllocError>
     Ok(copy)
 }
 
-/// Adds a primitive to a context and the patch after it, in place. `told` and the result say whether the
+/// AddsToContext a primitive to a context and the patch after it, in place. `told` and the result say whether the
 /// context is known to be its own normal order, before and after.
 fn add_to(a: &Named, context: &mut Seq, patch: &mut Named, told: bool) -> Result<bool, AllocError>
     requires { IsTrue told → Norm context.old context.old }
-    ensures adds { IfOk result (λ told. Adds a.now (behind context.old patch.old) (behind context.new patch.new)) }
+    ensures adds { IfOk result (λ told. AddsToContext a.now (behind context.old patch.old) (behind context.new patch.new)) }
     ensures own { IfOk result (λ told. IsTrue told → Norm context.new context.new) }
 {
     if let Some(rest) = behind_inverse(a, context)? {

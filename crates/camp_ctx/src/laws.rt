@@ -1,11 +1,11 @@
 //! The laws of contexted patches, as functions whose contracts state them.
-ghost use Rattle.camp_ctx.specs.Laws.{AddingGives, AreDetermined, AreSymmetric, EmptyChangesNothing, KeepValid};
+ghost use Rattle.camp_ctx.specs.Laws.{AddingGives, AddingIsUnique, AreSymmetric, EmptyChangesNothing, KeepValid};
 ghost use Rattle.camp_ctx.specs.Room.{AddsInAnyOrder, ReachGivesRoomToAdd};
 
 /// Adding, commuting past, and merging after a common part have at most one result.
 #[tactic(auto, using(crate::proofs::SetChanges::are_determined))]
 pub fn results_in_context_are_determined()
-    ensures law { AreDetermined }
+    ensures law { AddingIsUnique }
 {}
 
 /// Adding always has a result.

@@ -2,7 +2,7 @@
 ghost use Rattle.std.specs.Prelude.{◌≡◌, ◌↔◌, IfOk, IsTrue, MatchOption, None, Some, fold, slice_get};
 ghost use Rattle.std.specs.FinMap as map;
 ghost use Rattle.camp_ctx.specs.Contexts.{context_key, only, with_member, ContextedPatch, AreKeyed, EachMember};
-ghost use Rattle.camp_ctx.specs.Adding.{Adds, AddsAll};
+ghost use Rattle.camp_ctx.specs.Adding.{AddsToContext, AddsAll};
 
 use crate::keys::MemberKey;
 use crate::{Contexted, join};
@@ -116,7 +116,7 @@ impl CtxSet {
         self.at(0)
     }
 
-    /// Adds a list to every member: what is seen after the list becomes what is seen before it.
+    /// AddsToContext a list to every member: what is seen after the list becomes what is seen before it.
     pub fn add(r: &Seq, set: &CtxSet) -> Result<CtxSet, AllocError>
         ensures exact { IfOk result (λ sum. EachMember (AddsAll r.now) set.now sum) }
     {
@@ -134,9 +134,9 @@ impl CtxSet {
         Ok(CtxSet { members })
     }
 
-    /// Adds a primitive to every member.
+    /// AddsToContext a primitive to every member.
     pub fn add_one(a: &Named, set: &CtxSet) -> Result<CtxSet, AllocError>
-        ensures exact { IfOk result (λ sum. EachMember (Adds a.now) set.now sum) }
+        ensures exact { IfOk result (λ sum. EachMember (AddsToContext a.now) set.now sum) }
     {
         let list = join(set.members.allocator(), slice::from_ref(a), &[])?;
         Ok(CtxSet::add(&list, set)?)

@@ -17,7 +17,7 @@ use Rattle.camp_script.specs.Inside.Steps.{obey, read_from}
 use Rattle.camp_script.specs.Keeping.{HasName, ListsNames}
 use Rattle.camp_script.specs.Lines.{is_blank, lines_of, words_of}
 use Rattle.camp_script.specs.Reading.{script_of}
-use Rattle.camp_script.specs.Words.{◌>>=◌}
+use Rattle.camp_base.specs.Results.{◌>>=◌}
 use Rattle.camp_script.specs.declared.faults.LineFault.{LineFault}
 use Rattle.camp_script.proofs.Agreement.{reads_as_defined}
 use Rattle.camp_script.proofs.CanonicalCalls.{Reads, after, call_read, room_for, same_bytes, then}

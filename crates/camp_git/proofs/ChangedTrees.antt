@@ -6,7 +6,7 @@ use Rattle.camp_branch.proofs.NameSets.{or_none}
 use Rattle.camp_branch.proofs.Names.{same_name}
 use Rattle.camp_branch.specs.Branches.{is_among}
 use Rattle.camp_git.specs.Exports.{content_of, HasFilesOf}
-use Rattle.camp_git.specs.FastImport.{FileChange, FileDelete, FileModify, GitTree, tree_after, changed_by, is_inside}
+use Rattle.camp_git.specs.FastImport.{FileChange, FileDelete, FileModify, GitTree, git_tree_after, changed_by, is_inside}
 use Rattle.camp_git.specs.Holding.{CanHold}
 use Rattle.std.specs.List.{flat_map}
 use Rattle.camp_git.specs.Inside.Commits.{deletion_of, modification_of, modified_to}
@@ -33,14 +33,14 @@ none_anyway true o e = sym e
 none_anyway false o e = refl
 
 -- only a file of a held tree is deleted
-pub deleted_alone : (git : GitTree) (files : Files) (path other : List ℕ) → CanHold files → IsWithin git files → contains_key files path ≡ true → tree_after git (FileDelete path) other ≡ cond (bytes_eq other path) None (git other)
+pub deleted_alone : (git : GitTree) (files : Files) (path other : List ℕ) → CanHold files → IsWithin git files → contains_key files path ≡ true → git_tree_after git (FileDelete path) other ≡ cond (bytes_eq other path) None (git other)
 deleted_alone git files path other held within has = elim (some_or_none (git other)) [
   | inl (content, is) ↦ ap (λ b. cond b None (git other)) (ap (λ b. bytes_eq other path || b) (not_inside files path other held has (within other content is)) ∙ or_none (bytes_eq other path))
   | inr is ↦ none_anyway (bytes_eq other path || is_inside path other) (git other) is ∙ sym (none_anyway (bytes_eq other path) (git other) is)
 ]
 
 -- a file of a held tree gets its content, and nothing else changes
-pub modified_alone : (git : GitTree) (files : Files) (path content other : List ℕ) → CanHold files → IsWithin git files → contains_key files path ≡ true → tree_after git (FileModify path content) other ≡ cond (bytes_eq other path) (Some content) (git other)
+pub modified_alone : (git : GitTree) (files : Files) (path content other : List ℕ) → CanHold files → IsWithin git files → contains_key files path ≡ true → git_tree_after git (FileModify path content) other ≡ cond (bytes_eq other path) (Some content) (git other)
 modified_alone git files path content other held within has = elim (some_or_none (git other)) [
   | inl (now, is) ↦ let there = within other now is in
       ap (λ b. cond (bytes_eq other path) (Some content) (cond b None (git other))) ((λ i. not_inside files path other held has there i || not_inside files other path held there has i))
@@ -72,7 +72,7 @@ module _ (old new : Files) (held : CanHold old) where
   delete_next : (path : List ℕ) (paths : List (List ℕ)) (git : GitTree) (other : List ℕ) (b : Bool) → goes old new path ≡ b → IsWithin git old → ((next : GitTree) → IsWithin next old → changed_by next (flat_map (deletion_of old new) paths) other ≡ cond (is_among paths other && goes old new other) None (next other)) → changed_by git (cond b (FileDelete path ∷ []) [] ++ flat_map (deletion_of old new) paths) other ≡ cond ((bytes_eq other path || is_among paths other) && goes old new other) None (git other)
   delete_next path paths git other true is within more =
       let has = first_so (contains_key old path) (not (contains_key new path)) is in
-      let next = tree_after git (FileDelete path) in
+      let next = git_tree_after git (FileDelete path) in
       let alone = λ (q : List ℕ). deleted_alone git old path q held within has in
       more next (λ q content e. within q content (kept_within (bytes_eq q path) (git q) content (sym (alone q) ∙ e)))
       ∙ ap (cond (is_among paths other && goes old new other) None) (alone other)
@@ -100,7 +100,7 @@ module _ (new : Files) (held : CanHold new) where
   modify_next path paths git other (Some lines) is within more =
       let has : contains_key new path ≡ true = ap is_some is in
       let content = content_of lines in
-      let next = tree_after git (FileModify path content) in
+      let next = git_tree_after git (FileModify path content) in
       let alone = λ (q : List ℕ). modified_alone git new path content q held within has in
       more next (λ q now e. put_within git path content q now within has (sym (alone q) ∙ e))
       ∙ ap (cond (is_among paths other && contains_key new other) (content_at new other)) (alone other)
@@ -115,7 +115,7 @@ module _ (new : Files) (held : CanHold new) where
 
 pub changed_by-append : (git : GitTree) (front rest : List FileChange) → changed_by git (front ++ rest) ≡ changed_by (changed_by git front) rest
 changed_by-append git [] rest = refl
-changed_by-append git (change ∷ front) rest = changed_by-append (tree_after git change) front rest
+changed_by-append git (change ∷ front) rest = changed_by-append (git_tree_after git change) front rest
 
 module _ (old new : Files) (was : CanHold old) (held : CanHold new) (paths : List (List ℕ)) (stays : (path : List ℕ) → is_among paths path ≡ false → get new path ≡ get old path) (git : GitTree) (shows : HasFilesOf git old) where
   within_old : IsWithin git old

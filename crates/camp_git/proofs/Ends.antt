@@ -10,12 +10,12 @@ use Rattle.camp_git.specs.FastImport.{GitTree, changed_by}
 use Rattle.camp_git.specs.Holding.{CanHold, CannotHold}
 use Rattle.camp_git.specs.Inside.Commits.{differences_of, paths_in}
 use Rattle.camp_git.specs.Inside.Steps.{StaysBeside}
-use Rattle.camp_git.specs.Inside.Streams.{EndsIn, Streams}
+use Rattle.camp_git.specs.Inside.Streams.{StreamEnds, Streams}
 use Rattle.camp_git.specs.declared.faults.Unexported.{Unexported}
 use Rattle.camp_git.specs.declared.faults.Unexported.TheVariants.{NoBranch, Unheld, Memory, Write}
 
 -- an end with an error ends the stream
-pub ends_stream : {A : Type 0} (Good : A → Type 0) (called : List ℕ) (tree : Files) (name : List ℕ) (branch : List Catch) (fault : Unexported) → EndsIn Good called tree (Err fault) → ((patch path : List ℕ) → patch ≡ called → contains_key tree path ≡ true → CannotHold tree path → IsUnheld branch patch path) → Streams name branch (Err fault)
+pub ends_stream : {A : Type 0} (Good : A → Type 0) (called : List ℕ) (tree : Files) (name : List ℕ) (branch : List Catch) (fault : Unexported) → StreamEnds Good called tree (Err fault) → ((patch path : List ℕ) → patch ≡ called → contains_key tree path ≡ true → CannotHold tree path → IsUnheld branch patch path) → Streams name branch (Err fault)
 ends_stream Good called tree name branch (NoBranch missing) w bad = w
 ends_stream Good called tree name branch (Unheld patch path) w bad = bad patch path w.0 w.1 w.2
 ends_stream Good called tree name branch Memory w bad = tt

@@ -100,17 +100,17 @@ is_inside folder path = starts_with nat_eq path (folder ++ slash ∷ [])
 
 -- the tree after a change. A file replaces the folder of its path, and any file that is a folder of its path; what is
 -- deleted goes with all that is in it
-abbrev pub tree_after : GitTree → FileChange → GitTree
-tree_after tree (FileModify path content) other =
+abbrev pub git_tree_after : GitTree → FileChange → GitTree
+git_tree_after tree (FileModify path content) other =
     if bytes_eq other path then Some content
     else (if is_inside path other || is_inside other path then None else tree other)
-tree_after tree (FileDelete path) other = if bytes_eq other path || is_inside path other then None else tree other
-tree_after tree FileDeleteAll other = None
+git_tree_after tree (FileDelete path) other = if bytes_eq other path || is_inside path other then None else tree other
+git_tree_after tree FileDeleteAll other = None
 
 -- the tree after changes, one after the other
 abbrev pub changed_by : GitTree → List FileChange → GitTree
 changed_by tree [] = tree
-changed_by tree (change ∷ changes) = changed_by (tree_after tree change) changes
+changed_by tree (change ∷ changes) = changed_by (git_tree_after tree change) changes
 
 -- a commit as git stores it: its branch, its mark, its message, its parent by its mark, and its tree
 pub record Kept : Type 0 where

@@ -6,7 +6,7 @@ ghost use Rattle.std.specs.declared.cmp.Ordering.TheVariants.{Less};
 ghost use Rattle.std.specs.FinMap as map;
 ghost use Rattle.camp_base.specs.Trees.{Lines};
 ghost use Rattle.camp_share.specs.Maps.{map_of};
-ghost use Rattle.camp_git.specs.Inside.Finding.{IsBeginning, IsFree, IsFreeIfNew, IsPlaceOf, HasInside, IsAround, IsNoneAround};
+ghost use Rattle.camp_git.specs.Inside.Finding.{IsStartOfPath, IsFree, IsFreeIfNew, IsPlaceOf, HasInside, IsAround, IsNoneAround};
 ghost use Rattle.camp_git.specs.FastImport.{is_inside};
 ghost use Rattle.camp_git.specs.Holding.{CanHold, CannotHold, has_git_part, is_git_part};
 
@@ -93,7 +93,7 @@ fn has_file_inside(alloc: Global, path: &Path, tree: &Tree) -> Result<bool, Allo
 
 /// True if the path of some file begins with these bytes.
 fn begins_some(tree: &Tree, bytes: &[u8]) -> bool
-    ensures { IsTrue result ↔ IsBeginning tree.now bytes.now }
+    ensures { IsTrue result ↔ IsStartOfPath tree.now bytes.now }
 {
     match tree.at(place_of(tree, bytes)) {
         Some(file) => file.0.bytes().starts_with(bytes),

@@ -1,5 +1,5 @@
 //! The stream of a branch: a commit for each patch.
-ghost use Rattle.camp_git.specs.Inside.Streams.{AddsCommit, EndsIn, Streams};
+ghost use Rattle.camp_git.specs.Inside.Streams.{AddsCommit, StreamEnds, Streams};
 ghost use Rattle.std.specs.Prelude.{◌<◌};
 ghost use Rattle.camp_git.specs.Holding.{CanHold};
 ghost use Rattle.camp_git.specs.Inside.Steps.{StaysBeside};
@@ -48,7 +48,7 @@ fn append_step(
     requires marks { 0 < place.now.mark }
     requires held { CanHold old.now }
     requires stays { StaysBeside step.now.paths old.now step.now.tree }
-    ensures { EndsIn (λ _. AddsCommit place.now old.now step.now.tree text.old.items text.new.items) place.now.name step.now.tree result }
+    ensures { StreamEnds (λ _. AddsCommit place.now old.now step.now.tree text.old.items text.new.items) place.now.name step.now.tree result }
 {
     check_held(alloc, &place.name, old, step)?;
     append_commit(text, place, &step.paths, old, &step.tree)?;
@@ -59,7 +59,7 @@ fn append_step(
 fn check_held(alloc: Global, name: &Name, old: &Tree, step: &Step) -> Result<(), Unexported>
     requires held { CanHold old.now }
     requires stays { StaysBeside step.now.paths old.now step.now.tree }
-    ensures { EndsIn (λ _. CanHold step.now.tree) name.now step.now.tree result }
+    ensures { StreamEnds (λ _. CanHold step.now.tree) name.now step.now.tree result }
 {
     match first_unheld(alloc, &step.paths, old, &step.tree)? {
         Some(path) => Err(Unexported::Unheld { patch: *name, path }),

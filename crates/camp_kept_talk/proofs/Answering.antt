@@ -5,7 +5,7 @@ use Rattle.std.proofs.lemmas.Grind.{flat_map-append}
 use Rattle.std.specs.Io.KnownBytes.{Appends, Consumes, IsAtEnd, Keeps, append_known}
 use Rattle.camp_kept.specs.Accepting.{IsPrefixOf, StoreContents}
 use Rattle.camp_kept_talk.specs.Promises.{AnswersLast, AnswersWritten, durable_at_least}
-use Rattle.camp_talk.specs.Answers.{Answers, SessionState}
+use Rattle.camp_talk.specs.Answers.{AnswersCommand, SessionState}
 use Rattle.camp_talk.specs.Cutting.{IsCommand, IsLeft}
 use Rattle.camp_talk.specs.Talks.{AnswersInOrder, AppendsSome, Exchange, ReadsCommand}
 use Rattle.camp_talk.specs.Talks.{HasAnswered}
@@ -140,7 +140,7 @@ written_trans a b c old now after buffered first middle last one two grows = rec
 
 -- one more command, whose answer is buffered, perhaps in part
 pub written_more : (b c d : Option (List ℕ)) (buffered more : List ℕ) (middle last next : SessionState) (exchange : Exchange) → HasAnswered b c (Some []) (Some buffered) middle last
-    → IsLast (OnSome c (IsAtEnd d)) exchange.command → Answers last exchange.command exchange.answer next → Consumes c d exchange.command
+    → IsLast (OnSome c (IsAtEnd d)) exchange.command → AnswersCommand last exchange.command exchange.answer next → Consumes c d exchange.command
     → AppendsSome (Some buffered) (Some more) exchange.answer → AnswersWritten b d (Some []) (Some more) middle next
 written_more b c d buffered more middle last next exchange holds kind answers reads (done, rest, parts, writes) = record {
   exchanges = holds.exchanges;

@@ -16,7 +16,7 @@ use Rattle.camp_kept_talk.proofs.Stopping.{leaves_durable}
 use Rattle.camp_kept.proofs.Prefixes.{prefix_grows, prefix_self, prefix_through}
 use Rattle.camp_store.specs.Logs.{PersistsTexts}
 use Rattle.camp_talk.specs.Diagnostics.{Diagnostic}
-use Rattle.camp_talk.specs.Answers.{Answers, SessionState}
+use Rattle.camp_talk.specs.Answers.{AnswersCommand, SessionState}
 use Rattle.camp_talk.specs.Entries.{Entries}
 use Rattle.camp_talk.specs.Talks.{AppendsSome, EndsWithStep, Exchange, ReadsWithin, TakesStep}
 use Rattle.camp_talk.specs.Talks.{HasAnswered}
@@ -112,7 +112,7 @@ module _ {D : Type 0} (seen : D → List ℕ) (may_leave : D → List ℕ → Ty
       }
 
       -- one was answered, perhaps in part
-      one_more : (exchange : Exchange) (next : SessionState) → IsLast (OnSome b (IsAtEnd c)) exchange.command → Answers (at kept.book lines diagnostic) exchange.command exchange.answer next
+      one_more : (exchange : Exchange) (next : SessionState) → IsLast (OnSome b (IsAtEnd c)) exchange.command → AnswersCommand (at kept.book lines diagnostic) exchange.command exchange.answer next
           → Consumes b c exchange.command → AppendsSome (Some buffered) (Some more) exchange.answer → next.history ≡ new.book → FailsBuffered seen may_leave durable a c old now more first new
       one_more exchange next kind answers reads writes is = record {
         middle = buffers.middle;

@@ -15,7 +15,7 @@ use Rattle.camp_kept_talk.proofs.Stopping.{leaves_durable}
 use Rattle.camp_kept_talk.specs.declared.faults.StoredFault.{StoredFault}
 use Rattle.camp_kept_talk.specs.declared.faults.StoredFault.TheVariants as fault
 use Rattle.camp_store.specs.Logs.{PersistsTexts}
-use Rattle.camp_talk.specs.Dialogues.{Leads}
+use Rattle.camp_talk.specs.Dialogues.{StepsLead}
 use Rattle.camp_talk.specs.Entries.{Entries}
 use Rattle.camp_talk.specs.Frames.{Counter, Serves, ServesAt}
 use Rattle.camp_talk.specs.Requests.{AnswersRequest}
@@ -117,7 +117,7 @@ counter place = record { left = place.left; held = place.held; history = place.k
 
 -- once a request was served, all calls are durable
 all_served : {D : Type 0} (seen : D → List ℕ) (may_leave : D → List ℕ → Type 0) (next last : KeptCounter D) (over : List (KeptCounter D))
-    → Leads (ServesKeptAt seen may_leave) next over last → PersistsCalls seen may_leave (durable_at_least over (accepted_by next.kept) (accepted_by last.kept)) last.kept
+    → StepsLead (ServesKeptAt seen may_leave) next over last → PersistsCalls seen may_leave (durable_at_least over (accepted_by next.kept) (accepted_by last.kept)) last.kept
     → PersistsCalls seen may_leave (accepted_by last.kept) last.kept
 all_served {D = D} seen may_leave next last [] leads holds =
     subst (λ (place : KeptCounter D). PersistsCalls seen may_leave (accepted_by place.kept) last.kept) leads holds
@@ -125,8 +125,8 @@ all_served seen may_leave next last (one ∷ over) leads holds = holds
 
 -- steps over a durable repository are steps, and persist all calls
 turns_too : {D : Type 0} (seen : D → List ℕ) (may_leave : D → List ℕ → Type 0) (durable : StoreContents) (first last : KeptCounter D) (over : List (KeptCounter D))
-    → AreFirstCalls durable first.kept → PersistsCalls seen may_leave durable first.kept → Leads (ServesKeptAt seen may_leave) first over last
-    → Leads ServesAt (counter first) (map counter over) (counter last)
+    → AreFirstCalls durable first.kept → PersistsCalls seen may_leave durable first.kept → StepsLead (ServesKeptAt seen may_leave) first over last
+    → StepsLead ServesAt (counter first) (map counter over) (counter last)
     × PersistsCalls seen may_leave (durable_at_least over durable (accepted_by last.kept)) last.kept
 turns_too {D = D} seen may_leave durable first last [] front holds leads =
     (ap counter leads, subst (λ (place : KeptCounter D). PersistsCalls seen may_leave durable place.kept) leads holds)

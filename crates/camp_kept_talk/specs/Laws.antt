@@ -4,7 +4,7 @@ use Rattle.camp_kept.specs.Accepting.{StoreContents}
 use Rattle.camp_kept.specs.Persisting.{AreFirstCalls, PersistsCalls, accepted_by}
 use Rattle.camp_kept_talk.specs.Promises.{durable_at_least}
 use Rattle.camp_kept_talk.specs.Serving.{KeptCounter, ServesKeptAt}
-use Rattle.camp_talk.specs.Dialogues.{Leads}
+use Rattle.camp_talk.specs.Dialogues.{StepsLead}
 use Rattle.camp_talk.specs.Frames.{ServesInTurn}
 
 -- where some first calls are durable, steps that serve requests over a durable repository, one after the other, give
@@ -12,6 +12,6 @@ use Rattle.camp_talk.specs.Frames.{ServesInTurn}
 abbrev pub KeptRequestsAreServedInTurn : {D : Type 0} → (D → List ℕ) → (D → List ℕ → Type 0) → Type 0
 KeptRequestsAreServedInTurn {D = D} seen may_leave =
     (durable : StoreContents) (first last : KeptCounter D) (over : List (KeptCounter D)) → AreFirstCalls durable first.kept → PersistsCalls seen may_leave durable first.kept
-    → Leads (ServesKeptAt seen may_leave) first over last
+    → StepsLead (ServesKeptAt seen may_leave) first over last
     → ServesInTurn first.left last.left first.held last.held first.kept.book last.kept.book
     × PersistsCalls seen may_leave (durable_at_least over durable (accepted_by last.kept)) last.kept

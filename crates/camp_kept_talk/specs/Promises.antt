@@ -5,7 +5,7 @@ use Rattle.std.specs.Io.KnownBytes.{Consumes, IsAtEnd}
 use Rattle.camp_kept.specs.Accepting.{IsPrefixOf, StoreContents, accepted_of}
 use Rattle.camp_kept.specs.Persisting.{IsStoreOf, accepted_by, disk_in}
 use Rattle.camp_kept.specs.declared.repositories.DurableRepository.{DurableRepository}
-use Rattle.camp_talk.specs.Answers.{Answers, SessionState}
+use Rattle.camp_talk.specs.Answers.{AnswersCommand, SessionState}
 use Rattle.camp_talk.specs.Cutting.{IsCommand, IsLeft}
 use Rattle.camp_talk.specs.Talks.{AnswersInOrder, AppendsSome, Exchange}
 
@@ -13,7 +13,7 @@ use Rattle.camp_talk.specs.Talks.{AnswersInOrder, AppendsSome, Exchange}
 abbrev pub AnswersLast : Type 0 → SessionState → List Exchange → SessionState → Type 0
 AnswersLast Ended middle [] last = middle ≡ last
 AnswersLast Ended middle (exchange ∷ []) last =
-    (IsCommand exchange.command ⊎ (IsLeft exchange.command × Ended)) × Answers middle exchange.command exchange.answer last
+    (IsCommand exchange.command ⊎ (IsLeft exchange.command × Ended)) × AnswersCommand middle exchange.command exchange.answer last
 AnswersLast Ended middle (exchange ∷ other ∷ others) last = ⊥
 
 -- exactly these commands, and perhaps a last one, were read and answered one after the other; and these bytes of

@@ -5,5 +5,5 @@ pub use Rattle.std.specs.FinMap.{entries, len-entries, values}
 pub use Rattle.camp_notation.specs.Catches.{catch_text}
 pub use Rattle.camp_notation.specs.Contexts.{contexted_text}
 pub use Rattle.camp_notation.specs.Patches.{named_text}
-pub use Rattle.camp_notation.specs.Trees.{file_text}
+pub use Rattle.camp_notation.specs.Trees.{file_notation}
 pub use Rattle.camp_notation.specs.Words.{quoted_byte, row, separator, word_text}

@@ -2,7 +2,7 @@
 ghost use Rattle.std.specs.Prelude.{◌≡◌, IfOk};
 ghost use Rattle.camp_notation.specs.Lists.{list_text};
 ghost use Rattle.camp_notation.specs.Patches.{label_text, named_text};
-ghost use Rattle.camp_notation.specs.Trees.{tree_text};
+ghost use Rattle.camp_notation.specs.Trees.{tree_notation};
 ghost use Rattle.camp_notation.specs.Words.{lines_text, word_text};
 
 use crate::cursors::Cursor;
@@ -36,7 +36,7 @@ pub fn read_list(alloc: Global, known: &[Named], text: &[u8]) -> Result<Seq, Not
 
 /// Parses a tree.
 pub fn read_tree(alloc: Global, text: &[u8]) -> Result<Tree, NotationError>
-    ensures text { IfOk result (λ tree. text.now ≡ tree_text tree) }
+    ensures text { IfOk result (λ tree. text.now ≡ tree_notation tree) }
 {
     let mut cursor = Cursor::new(alloc, &[], text);
     let tree = read_files(&mut cursor)?;

@@ -15,16 +15,16 @@ flag name = record (new_rule name) {
 }
 
 -- the most tries of a call
-abbrev pub most_tries : ℕ
-most_tries = 1_000
+abbrev pub tries_limit : ℕ
+tries_limit = 1_000
 
--- the option `--tries N`: 1 to `most_tries`, 100 by default
+-- the option `--tries N`: 1 to `tries_limit`, 100 by default
 abbrev pub tries : Rule
 tries = record (new_rule (codes "tries")) {
   long = Some (codes "tries");
   action = Some Set;
   value_names = 1;
-  parser = Some (parser.Signed (pos 1) (pos most_tries));
+  parser = Some (parser.Signed (pos 1) (pos tries_limit));
   defaults = codes "100" ∷ [];
 }
 

@@ -1,7 +1,7 @@
 //! Parsing a command line.
 ghost use Rattle.std.specs.Prelude.{◌≡◌, ◌↔◌, IfOk, false, true, map, ◌≤◌};
 ghost use Rattle.clap.specs.Words.{FailsBy, app_of, fault_of, found_of, matches_of, rows_of, rule_of};
-ghost use Rattle.camp_options.specs.Options.{Given, IsSet, flag, limits, most_tries, program, tries};
+ghost use Rattle.camp_options.specs.Options.{Given, IsSet, flag, limits, tries_limit, program, tries};
 
 use crate::help::{REFERENCE, SUMMARY, USAGE, VERSION};
 use crate::kinds::Options;
@@ -13,7 +13,7 @@ use std::convert::AsStr;
 /// request for the help text or the version, or out of memory; it displays as the text for the user.
 pub fn options<'a, S: AsStr>(alloc: Global, words: &'a [S]) -> Result<Options<'a>, Error>
     ensures given { IfOk result (Given (matches_of program (map S.text words.entry.now))) }
-    ensures range { IfOk result (λ options. (1 ≤ options.tries) × (options.tries ≤ most_tries)) }
+    ensures range { IfOk result (λ options. (1 ≤ options.tries) × (options.tries ≤ tries_limit)) }
     ensures refused { FailsBy (fault_of program (map S.text words.entry.now)) result }
 {
     let matches = command(alloc)?.try_get_matches_from(words)?;

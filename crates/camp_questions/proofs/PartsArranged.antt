@@ -1,7 +1,7 @@
 -- Arranging lists of catches part by part.
 use Rattle.camp_questions.proofs.Words.{◌≡◌, ◌<◌, ℕ, ◌+◌, ◌-◌, true≢false, false, ◌||◌, arith, get_or, length, take, take_more, List, [], ◌∷◌, ◌++◌, bytes_eq, append-nil, append_assoc, refl, sym, ap, ◌∙◌, subst, inl, inr, AllByRecursion, Key, Catch, AreAlike, Arrange, ArrangeSticks, ArrangesBehind, SticksBehind, StopsAt, is_among, is_among_is, name_of, take_all, DoNotCommute, IsOf, catch_key, KeysPart, keys_of, keep_labels, arrange_by_members, AreApart, AreOfPatch, AllStay, StickBehind, Result, Ok, Err}
 use Rattle.std.specs.Result.{MatchResult}
-use Rattle.camp_catch.specs.Making.{ComesTo}
+use Rattle.camp_catch.specs.Making.{GivesOrRunsOut}
 use Rattle.camp_catch.specs.declared.arranging.Arranged.{Arranged}
 use Rattle.camp_catch.specs.declared.arranging.Stuck.{Stuck}
 use Rattle.camp_catch.specs.declared.faults.Unmade.{Unmade}
@@ -129,8 +129,8 @@ module _ (names : List (List ℕ)) where
 
 -- if the catches of a patch are arranged after those that go, the patch is moved in front of these, or blocked
 pub arranged_or_stuck : (name : List ℕ) (set : List (List ℕ)) (going list whole : List Catch) (made : Result Arranged (Unmade Stuck)) → AreAlike set (name ∷ []) → AreApart name going → whole ≡ going ++ list
-    → ComesTo (λ answer. MatchResult answer (λ arranged. Arrange set whole arranged.first.items arranged.rest.items) (λ stuck. ArrangeSticks set whole stuck.patch stuck.on)) made
-    → ComesTo (λ answer. MatchResult answer (λ arranged. ArrangesBehind (name ∷ []) going list arranged.first.items arranged.rest.items) (λ stuck. SticksBehind (name ∷ []) going list stuck.patch stuck.on)) made
+    → GivesOrRunsOut (λ answer. MatchResult answer (λ arranged. Arrange set whole arranged.first.items arranged.rest.items) (λ stuck. ArrangeSticks set whole stuck.patch stuck.on)) made
+    → GivesOrRunsOut (λ answer. MatchResult answer (λ arranged. ArrangesBehind (name ∷ []) going list arranged.first.items arranged.rest.items) (λ stuck. SticksBehind (name ∷ []) going list stuck.patch stuck.on)) made
 arranged_or_stuck name set going list whole (Ok arranged) alike apart is w =
     let first : List Catch = arranged.first.items in
     let rest : List Catch = arranged.rest.items in

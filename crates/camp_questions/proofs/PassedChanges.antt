@@ -1,6 +1,6 @@
 -- Labels that commute past changes, unchanged or moving to another line.
-use Rattle.camp_questions.proofs.Words.{◌≡◌, ◌<◌, ◌≤◌, ◌+◌, ◌-◌, ℕ, List, [], ◌∷◌, ◌++◌, length, take, drop, get_or, refl, sym, ap, ◌∙◌, subst, inl, inr, arith, drop-drop, drop_all, drop_more, length-take-le, take-append-drop, Edit, Named, Hunk, drop-append-le, Adds, AddsAll, commute, ContextedPatch, bare, InRange, IsInRange, SameKey, PrimitivesCommute, Commute, at_line, path_of, Passes, hunk_at, greatest_reach}
-use Rattle.camp_questions.specs.Inside.Moving.{ComesBefore}
+use Rattle.camp_questions.proofs.Words.{◌≡◌, ◌<◌, ◌≤◌, ◌+◌, ◌-◌, ℕ, List, [], ◌∷◌, ◌++◌, length, take, drop, get_or, refl, sym, ap, ◌∙◌, subst, inl, inr, arith, drop-drop, drop_all, drop_more, length-take-le, take-append-drop, Edit, Named, Hunk, drop-append-le, AddsToContext, AddsAll, commute, ContextedPatch, bare, InRange, IsInRange, SameKey, PrimitivesCommute, Commute, at_line, path_of, HunkCommutesPast, hunk_at, greatest_reach}
+use Rattle.camp_questions.specs.Inside.Moving.{HunkMovesBefore}
 
 -- adding the later part of a list and then the earlier part
 pub add_before : (first rest : List Named) (x y z : ContextedPatch) → AddsAll rest x y → AddsAll first y z → AddsAll (first ++ rest) x z
@@ -30,13 +30,13 @@ none_added changes n x y whole same =
     subst (λ l. AddsAll l x y) (sym (drop_all n changes (omega (arith, whole)))) same
 
 -- one more is added before those that were added
-pub one_more_added : (changes : List Named) (i at : ℕ) (a : Named) (x y z : ContextedPatch) → i + 1 ≡ at → i < length changes → a ≡ get_or changes i a → AddsAll (drop at changes) x y → Adds a y z → AddsAll (drop i changes) x z
+pub one_more_added : (changes : List Named) (i at : ℕ) (a : Named) (x y z : ContextedPatch) → i + 1 ≡ at → i < length changes → a ≡ get_or changes i a → AddsAll (drop at changes) x y → AddsToContext a y z → AddsAll (drop i changes) x z
 one_more_added changes i at a x y z follows within is added adds =
     let here : drop i changes ≡ a ∷ drop at changes = drop_more changes i a within ∙ (λ k. sym is k ∷ drop (follows k) changes) in
     subst (λ l. AddsAll l x z) (sym here) (y, added, adds)
 
 -- a patch without a context that commutes with a change passes it
-pub swaps_by : (a p p' behind : Named) → Commute a p p' behind → Adds a (bare p) (bare p')
+pub swaps_by : (a p p' behind : Named) → Commute a p p' behind → AddsToContext a (bare p) (bare p')
 swaps_by a p p' behind swap =
     commute (λ y w. w.front) (record { a' = a; a'' = behind; passed = []; past_context = (refl, refl); past_patch = swap; context = refl })
 
@@ -46,7 +46,7 @@ at_own_line patch hunk is =
     λ i. record { name = patch.name; place = patch.place; inverse = patch.inverse; prim = is i }
 
 -- a change to another file
-pub passes_elsewhere : (change patch : Named) (hunk : Edit) (line : ℕ) → ¬ (SameKey change patch) → ¬ (path_of change.prim ≡ hunk.path) → InRange change.prim → IsInRange (at_line line hunk) → ComesBefore change patch hunk line line
+pub passes_elsewhere : (change patch : Named) (hunk : Edit) (line : ℕ) → ¬ (SameKey change patch) → ¬ (path_of change.prim ≡ hunk.path) → InRange change.prim → IsInRange (at_line line hunk) → HunkMovesBefore change patch hunk line line
 passes_elsewhere change patch hunk line apart other own range = (
   change,
   record {
@@ -56,7 +56,7 @@ passes_elsewhere change patch hunk line apart other own range = (
 )
 
 -- a hunk of the same file
-pub passes_hunk : (change patch : Named) (other hunk : Edit) (line next : ℕ) → ¬ (SameKey change patch) → change.prim ≡ Hunk other → IsInRange other → IsInRange (at_line line hunk) → Passes other hunk line next → ComesBefore change patch hunk line next
+pub passes_hunk : (change patch : Named) (other hunk : Edit) (line next : ℕ) → ¬ (SameKey change patch) → change.prim ≡ Hunk other → IsInRange other → IsInRange (at_line line hunk) → HunkCommutesPast other hunk line next → HunkMovesBefore change patch hunk line next
 passes_hunk change patch other hunk line next apart is own range passes =
     let behind : Named = record { name = change.name; place = change.place; inverse = change.inverse; prim = Hunk passes.behind } in (
       behind,
@@ -72,7 +72,7 @@ passes_hunk change patch other hunk line next apart is own range passes =
     )
 
 -- the hunk is below it
-pub above_passes : (other hunk : Edit) (line gap : ℕ) → other.path ≡ hunk.path → IsInRange other → IsInRange (at_line line hunk) → other.line ≡ line + length hunk.old + gap → 0 < gap → line + length hunk.new + gap + length other.old + length other.new ≤ greatest_reach → Passes other hunk line line
+pub above_passes : (other hunk : Edit) (line gap : ℕ) → other.path ≡ hunk.path → IsInRange other → IsInRange (at_line line hunk) → other.line ≡ line + length hunk.old + gap → 0 < gap → line + length hunk.new + gap + length other.old + length other.new ≤ greatest_reach → HunkCommutesPast other hunk line line
 above_passes other hunk line gap path own range stands between within = record {
   behind = at_line (line + length hunk.new + gap) other;
   change = inr (inr (record {

@@ -1,16 +1,16 @@
 -- Gathers the labels in conflict, from the last catch of a branch to the first.
-use Rattle.camp_questions.proofs.Words.{true≢false, ◌≤◌, ◌+◌, arith, drop, drop_more, get_or, length, take, ◌≡◌, ℕ, suc, Bool, true, false, cond, List, [], ◌∷◌, ◌++◌, map, Option, Some, None, refl, sym, ap, ◌∙◌, subst, none-some, eq_by_cmp, empty, get, get-empty, get-insert, contains_key, insert, find, flat_map, effect_of, Catch, Key, key_cmp, key_total, key_ties, Named, entries, entries_sorted, get-entries, len, values, MatchOption, is_some, slice_get, take_all, found_at, take_push, count_of_members, members_of, AddsAll, AreKeyed, ContextedPatch, ContextedPatches, context_key, with_member, inverse_all-append, inverse_all, AllSeenToo, SeenToo, first_with, AreSeen, IsSeen, TellNothing, told_by, append-nil, bytes_eq, filter, filter-append, ComesIf, ComesIfNamed, ComeBehind, ComesBehind, IsSideAmong, Equal-is}
+use Rattle.camp_questions.proofs.Words.{true≢false, ◌≤◌, ◌+◌, arith, drop, drop_more, get_or, length, take, ◌≡◌, ℕ, suc, Bool, true, false, cond, List, [], ◌∷◌, ◌++◌, map, Option, Some, None, refl, sym, ap, ◌∙◌, subst, none-some, eq_by_cmp, empty, get, get-empty, get-insert, contains_key, insert, find, flat_map, effect_of, Catch, Key, key_cmp, key_total, key_ties, Named, entries, entries_sorted, get-entries, len, values, MatchOption, is_some, slice_get, take_all, found_at, take_push, count_of_members, members_of, AddsAll, AreKeyed, ContextedPatch, ContextedPatches, context_key, with_member, inverse_all-append, inverse_all, AllSeenToo, SeenToo, first_with_key, AreSeen, IsSeen, TellNothing, told_by, append-nil, bytes_eq, filter, filter-append, ComesIf, ComesIfNamed, ComeBehind, ComesBehind, IsSideAmong, Equal-is}
 use Rattle.camp_catch.specs.declared.catches.Conflictor.{Conflictor}
 use Rattle.camp_ctx.proofs.AddResults.{same_key_of_sum}
 
 -- the entry that was gathered first stays when others follow
-first_stays : (key : Key) (xs : List ContextedPatch) (x : ContextedPatch) (found : Option ContextedPatch) → first_with key xs ≡ found → first_with key (xs ++ x ∷ []) ≡ cond (is_some found) found (first_with key (x ∷ []))
+first_stays : (key : Key) (xs : List ContextedPatch) (x : ContextedPatch) (found : Option ContextedPatch) → first_with_key key xs ≡ found → first_with_key key (xs ++ x ∷ []) ≡ cond (is_some found) found (first_with_key key (x ∷ []))
 first_stays key [] x None is = refl
 first_stays key [] x (Some y) is = absurd (none-some y is)
 first_stays key (z ∷ xs) x found is = stays_at (eq_by_cmp key_cmp key (context_key z)) is (first_stays key xs x)
   where
-    stays_at : (b : Bool) → cond b (Some z) (first_with key xs) ≡ found → ((o : Option ContextedPatch) → first_with key xs ≡ o → first_with key (xs ++ x ∷ []) ≡ cond (is_some o) o (first_with key (x ∷ []))) → cond b (Some z) (first_with key (xs ++ x ∷ [])) ≡ cond (is_some found) found (first_with key (x ∷ []))
-    stays_at true is rest = subst (λ o. Some z ≡ cond (is_some o) o (first_with key (x ∷ []))) is refl
+    stays_at : (b : Bool) → cond b (Some z) (first_with_key key xs) ≡ found → ((o : Option ContextedPatch) → first_with_key key xs ≡ o → first_with_key key (xs ++ x ∷ []) ≡ cond (is_some o) o (first_with_key key (x ∷ []))) → cond b (Some z) (first_with_key key (xs ++ x ∷ [])) ≡ cond (is_some found) found (first_with_key key (x ∷ []))
+    stays_at true is rest = subst (λ o. Some z ≡ cond (is_some o) o (first_with_key key (x ∷ []))) is refl
     stays_at false is rest = rest found is
 
 too_behind : (undone : List Named) (told : Option ContextedPatch) (was seen next : Option ContextedPatch) (one : Option ContextedPatch) → SeenToo undone was told seen → SeenToo undone seen one next → SeenToo undone was (cond (is_some told) told one) next
@@ -21,7 +21,7 @@ too_behind undone None None seen next one w v = rw w at v
 -- one more entry is gathered
 pub one_more_told : (undone : List Named) (xs : List ContextedPatch) (x : ContextedPatch) (was seen next : ContextedPatches) → AllSeenToo undone xs was seen → AllSeenToo undone (x ∷ []) seen next → AllSeenToo undone (xs ++ x ∷ []) was next
 one_more_told undone xs x was seen next w v key =
-    subst (λ o. SeenToo undone (get was key) o (get next key)) (sym (first_stays key xs x (first_with key xs) refl)) (too_behind undone (first_with key xs) (get was key) (get seen key) (get next key) (first_with key (x ∷ [])) (w key) (v key))
+    subst (λ o. SeenToo undone (get was key) o (get next key)) (sym (first_stays key xs x (first_with_key key xs) refl)) (too_behind undone (first_with_key key xs) (get was key) (get seen key) (get next key) (first_with_key key (x ∷ [])) (w key) (v key))
 
 -- a label that is gathered already stays
 kept_at : (undone : List Named) (x : ContextedPatch) (seen : ContextedPatches) (key : Key) (found : Option ContextedPatch) (b : Bool) → get seen key ≡ found → eq_by_cmp key_cmp key (context_key x) ≡ b → is_some (get seen (context_key x)) ≡ true → SeenToo undone found (cond b (Some x) None) (get seen key)
@@ -59,13 +59,13 @@ label_comes undone x y seen next adds lacks becomes key =
     let is : next ≡ insert seen (context_key x) y = becomes ∙ ap (λ b. cond b seen (insert seen (context_key y) y)) absent ∙ ap (λ k. insert seen k y) same_key in
     come_at undone x y seen next key (get seen key) (eq_by_cmp key_cmp key (context_key x)) adds refl refl none (ap (λ m. get m key) is ∙ get-insert key_total seen (context_key x) y key)
 
-by_index : (key : Key) (es : List (Key × ContextedPatch)) → ((i : ℕ) (k : Key) (x : ContextedPatch) → slice_get es i ≡ Some (k, x) → k ≡ context_key x) → first_with key (map (λ (e : Key × ContextedPatch). e.1) es) ≡ find key_cmp key es
+by_index : (key : Key) (es : List (Key × ContextedPatch)) → ((i : ℕ) (k : Key) (x : ContextedPatch) → slice_get es i ≡ Some (k, x) → k ≡ context_key x) → first_with_key key (map (λ (e : Key × ContextedPatch). e.1) es) ≡ find key_cmp key es
 by_index key [] own = refl
 by_index key (e ∷ es) own =
     λ t. cond (eq_by_cmp key_cmp key (sym (own 0 e.0 e.1 refl) t)) (Some e.1) (by_index key es (λ i k x is. own (suc i) k x is) t)
 
 -- what the members of a set say of a label is the member with this label
-pub members_tell : (xs : ContextedPatches) → AreKeyed xs → (key : Key) → first_with key (values xs) ≡ get xs key
+pub members_tell : (xs : ContextedPatches) → AreKeyed xs → (key : Key) → first_with_key key (values xs) ≡ get xs key
 members_tell xs keyed key =
     by_index key (entries xs) (λ i k x is. keyed k x (get-entries xs k ∙ found_at key_cmp key_total (entries xs) i k x is (entries_sorted xs))) ∙ sym (get-entries xs key)
 
@@ -81,7 +81,7 @@ pub conflictor_told : (undone : List Named) (k : Conflictor) (was seen : Context
 conflictor_told undone k was seen i n keyed counted past all key =
     let long = count_of_members k.conflicts in
     let whole : take i (members_of k.conflicts) ≡ members_of k.conflicts = take_all i (members_of k.conflicts) (omega arith) in
-    subst (λ o. SeenToo undone (get was key) o (get seen key)) (ap (λ o. cond (eq_by_cmp key_cmp key (context_key k.identity)) (Some k.identity) o) (ap (first_with key) whole ∙ members_tell k.conflicts keyed key)) (all key)
+    subst (λ o. SeenToo undone (get was key) o (get seen key)) (ap (λ o. cond (eq_by_cmp key_cmp key (context_key k.identity)) (Some k.identity) o) (ap (first_with_key key) whole ∙ members_tell k.conflicts keyed key)) (all key)
 
 seen_before : (k : Catch) (behind : List Catch) (key : Key) (x : ContextedPatch) → IsSeen behind key x → IsSeen (k ∷ behind) key x
 seen_before k behind key x seen = record {

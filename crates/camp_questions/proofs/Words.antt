@@ -70,23 +70,23 @@ pub use Rattle.camp_catch.specs.Laws.{KeysPart, keys_of}
 pub use Rattle.camp_catch.specs.declared.catches.Catch.TheVariants.{Plain}
 pub use Rattle.camp_ctx.proofs.EntrySteps.{found_at, take_push}
 pub use Rattle.camp_ctx.proofs.SetSteps.{count_of_members, members_of}
-pub use Rattle.camp_ctx.specs.Adding.{Adds, AddsAll, commute}
+pub use Rattle.camp_ctx.specs.Adding.{AddsToContext, AddsAll, commute}
 pub use Rattle.camp_ctx.specs.Contexts.{AreKeyed, AreValid, ContextedPatch, ContextedPatches, Valid, bare, context_key, whole, with_member}
 pub use Rattle.camp_prim.specs.Commuting.{Commute, PrimitivesCommute, at_line, path_of}
 pub use Rattle.camp_questions.specs.CommonLines.{brought_by, common_end, common_front}
 pub use Rattle.camp_questions.specs.Inside.ByPatch.{AreApart, AreOfPatch, ArePatches, ArePatchesOf, catches_in_order, names_in_order, until_next}
-pub use Rattle.camp_questions.specs.Inside.ByPlace.{AreSettled, EndInPlace, name_at, needs_place, node_in, up_to}
+pub use Rattle.camp_questions.specs.Inside.ByPlace.{AreSettled, EndInPlace, name_at_index, needs_place, node_in, indexes_below}
 pub use Rattle.camp_questions.specs.Inside.ChangedFiles.{AreFilesOf, AreMarkedToo, GoMarked, IsMarkedPlain, IsPlainInRange, file_number, how_many, is_marked, number_behind, number_of, HasFiles}
 pub use Rattle.camp_questions.specs.Inside.Growing.{Grows, GrowsToFront, GrowsToGo}
-pub use Rattle.camp_questions.specs.Inside.Moving.{Passes, hunk_at}
-pub use Rattle.camp_questions.specs.Inside.Seeing.{AllSeenToo, ComesIf, ComesIfNamed, SeenToo, first_with}
+pub use Rattle.camp_questions.specs.Inside.Moving.{HunkCommutesPast, hunk_at}
+pub use Rattle.camp_questions.specs.Inside.Seeing.{AllSeenToo, ComesIf, ComesIfNamed, SeenToo, first_with_key}
 pub use Rattle.camp_questions.specs.Inside.StandingAside.{AllStay, ComeBeforeAll, StandsAside, StickBehind}
 pub use Rattle.camp_questions.specs.Inside.Telling.{IsTold}
 pub use Rattle.camp_questions.specs.Inside.TakingBack.{AreInverses, HaveRoom}
-pub use Rattle.camp_questions.specs.Marks.{AreVersions, Makes, MarksAt, is_in_pair, names_in_pairs, with_made}
+pub use Rattle.camp_questions.specs.Marks.{AreVersions, MakesVersion, MarksAt, is_in_pair, names_in_pairs, with_made}
 pub use Rattle.camp_questions.specs.OpenConflicts.{AreOpenAmong, AreOpenIn, OpensWith, is_open}
 pub use Rattle.camp_questions.specs.Pictures.{Picture, drawn_about, hangs_on, kept_node, part_with, whole_picture, with_needing, with_needing_one, with_needs, with_needs_of}
-pub use Rattle.camp_questions.specs.Places.{File, Place, at_place, differs_within, file_from, is_within, joined, place_from, range_of, touch, with_marks, with_range}
+pub use Rattle.camp_questions.specs.Places.{File, Place, at_place, differs_within, file_from, is_within, union_of, place_from, range_of, touch, with_marks, with_range}
 pub use Rattle.camp_questions.specs.Sides.{AreSeen, ComeBehind, ComesBehind, ComesUnless, IsSeen, IsSideAmong, IsSideIn, TellNothing, has_key, labels_of_patch, told_by}
 pub use Rattle.camp_questions.specs.declared.fast.going.Going.{Going}
 pub use Rattle.camp_questions.specs.declared.fast.patch_catches.PatchCatches.{PatchCatches}

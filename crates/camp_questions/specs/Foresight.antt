@@ -7,7 +7,7 @@ use Rattle.camp_call.specs.declared.replies.Reply.TheVariants as reply
 use Rattle.camp_object.specs.declared.objects.Decided.TheVariants.{Next, Answer}
 use Rattle.camp_repo.specs.States.{Contents, catches_of}
 use Rattle.camp_repo.specs.Steps.{Decision, step}
-use Rattle.camp_repo.specs.Wanting.{MayWant}
+use Rattle.camp_repo.specs.Wanting.{CallMayWant}
 use Rattle.camp_questions.specs.OpenConflicts.{AreOpenIn}
 use Rattle.camp_questions.specs.declared.foresight.Foreseen.{Foreseen}
 use Rattle.camp_questions.specs.declared.foresight.Standing.{Standing}
@@ -69,4 +69,4 @@ Foresees state call seen = ForeseesOf state call (step state call) seen
 
 -- foreseeing a call may run out of memory if the call may, or if it is accepted
 abbrev pub MayWantForesight : Contents → Call → Type 0
-MayWantForesight state call = MayWant state call ⊎ ((next : Contents) × (step state call ≡ Next next))
+MayWantForesight state call = CallMayWant state call ⊎ ((next : Contents) × (step state call ≡ Next next))

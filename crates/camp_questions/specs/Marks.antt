@@ -19,8 +19,8 @@ use Rattle.camp_questions.specs.declared.marking.Marked.TheVariants as marked
 use Rattle.camp_questions.specs.declared.marking.Version.{Version}
 
 -- the version of a file that a patch would make: the file after the changes of its side
-abbrev pub Makes : ContextedPatches → Files → List ℕ → List ℕ → Option Lines → Type 0
-Makes seen tree path name made =
+abbrev pub MakesVersion : ContextedPatches → Files → List ℕ → List ℕ → Option Lines → Type 0
+MakesVersion seen tree path name made =
     (side : List Named) × (next : Files) × IsSideAmong seen name side × AppliesAll side tree next × (made ≡ get next path)
 
 -- versions, after that of one more patch if it would make a file that differs from the present one
@@ -33,7 +33,7 @@ with_made lines name (Some made) versions =
 abbrev pub AreVersions : ContextedPatches → Files → List ℕ → Lines → List (List ℕ) → List Version → Type 0
 AreVersions seen tree path lines [] versions = versions ≡ []
 AreVersions seen tree path lines (name ∷ names) versions =
-    (made : Option Lines) × (others : List Version) × Makes seen tree path name made
+    (made : Option Lines) × (others : List Version) × MakesVersion seen tree path name made
     × AreVersions seen tree path lines names others × (versions ≡ with_made lines name made others)
 
 -- a name is in one of some pairs

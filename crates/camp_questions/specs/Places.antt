@@ -18,15 +18,15 @@ abbrev pub touch : Range → Range → Bool
 touch range other = nat_le range.from other.to && nat_le other.from range.to
 
 -- the union of two ranges
-abbrev pub joined : Range → Range → Range
-joined range other = record { from = min range.from other.from; to = max range.to other.to }
+abbrev pub union_of : Range → Range → Range
+union_of range other = record { from = min range.from other.from; to = max range.to other.to }
 
 -- adds a range to disjoint ranges in ascending order: those before it, the union with those that it touches, and
 -- those after it
 abbrev pub with_range : List Range → Range → List Range
 with_range places range =
     filter (λ place. nat_lt place.to range.from) places
-    ++ fold joined range (filter (touch range) places) ∷ filter (λ place. nat_lt range.to place.from) places
+    ++ fold union_of range (filter (touch range) places) ∷ filter (λ place. nat_lt range.to place.from) places
 
 -- the ranges of a file where versions of it differ
 abbrev pub places_of : Lines → List Version → List Range

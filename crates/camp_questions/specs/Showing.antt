@@ -18,16 +18,16 @@ abbrev pub changes_of : List Catch → List Primitive
 changes_of catches = flat_map (λ k. changes_in (effect_of k)) catches
 
 -- a patch: its catches and their changes
-pub record Patch : Type 0 where
+pub record PatchContents : Type 0 where
   pub catches : List Catch
   pub changes : List Primitive
 
 -- the patch of a name as it is in a branch: its catches in the order of the branch, and their changes
-abbrev pub patch_in : List Catch → List ℕ → Patch
+abbrev pub patch_in : List Catch → List ℕ → PatchContents
 patch_in branch name =
     let catches = catches_named (name ∷ []) branch in record { catches = catches; changes = changes_of catches }
 
 -- the question for a patch of a branch
-abbrev pub IsShown : Contents → List ℕ → List ℕ → AnswerOf Patch → Type 0
+abbrev pub IsShown : Contents → List ℕ → List ℕ → AnswerOf PatchContents → Type 0
 IsShown state branch name =
     OfBranch state branch (λ catches. OfPatches catches (name ∷ []) (λ answer. answer ≡ Ok (patch_in catches name)))

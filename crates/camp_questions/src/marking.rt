@@ -4,7 +4,7 @@ ghost use Rattle.std.specs.FinMap.{get};
 ghost use Rattle.camp_branch.specs.Branches.{LeadsTo};
 ghost use Rattle.camp_ctx.specs.Contexts.{AreValid, ContextedPatches};
 ghost use Rattle.camp_questions.specs.Answers.{TellsOrWants};
-ghost use Rattle.camp_questions.specs.Marks.{AreMarked, AreVersions, Makes, MarksAt, names_in_pairs, with_made};
+ghost use Rattle.camp_questions.specs.Marks.{AreMarked, AreVersions, MakesVersion, MarksAt, names_in_pairs, with_made};
 ghost use Rattle.camp_questions.specs.OpenConflicts.{AreOpenAmong};
 ghost use Rattle.camp_questions.specs.Sides.{AreSeen};
 
@@ -118,7 +118,7 @@ pub fn marks(state: &State, branch: &Name, path: &Path) -> Result<Marked, Unansw
     told(marks_at(branch, branch.tree(), path))
 }
 
-/// Makes the answer for a path, given a branch and its tree.
+/// MakesVersion the answer for a path, given a branch and its tree.
 fn marks_at(branch: &Branch, tree: &Tree, path: &Path) -> Result<Marked, AllocError>
     requires { LeadsTo branch.now tree.now }
     ensures { IfOk result (MarksAt branch.now tree.now path.now (get tree.now path.now)) }
@@ -223,7 +223,7 @@ fn made_by(
     name: &Name,
 ) -> Result<Option<SharedList<Line>>, AllocError>
     requires { AreValid tree.now seen.now }
-    ensures { IfOk result (Makes seen.now tree.now path.now name.now) }
+    ensures { IfOk result (MakesVersion seen.now tree.now path.now name.now) }
 {
     let side = side_among(alloc, seen, name)?;
     let mut next = tree.try_clone()?;

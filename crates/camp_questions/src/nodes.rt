@@ -3,7 +3,7 @@ ghost use Rattle.std.specs.Prelude.{◌≡◌, ◌<◌, ◌≤◌, ◌&&◌, ℕ
 ghost use Rattle.std.specs.List.{AllByRecursion};
 ghost use Rattle.camp_branch.specs.Branches.{AreDistinct};
 ghost use Rattle.camp_questions.specs.Inside.Graphing.{needing};
-ghost use Rattle.camp_questions.specs.Inside.ByPlace.{AreSettled, EndInPlace, name_at, needs_place, node_in, up_to};
+ghost use Rattle.camp_questions.specs.Inside.ByPlace.{AreSettled, EndInPlace, name_at_index, needs_place, node_in, indexes_below};
 ghost use Rattle.camp_questions.specs.declared.needed.Needed.{Needed as AnyNeeded};
 
 use crate::graphs::Node;
@@ -113,7 +113,7 @@ fn needed_places(
     at: usize,
     count: usize,
 ) -> Result<Vec<usize>, AllocError>
-    ensures { IfOk result (λ places. places.items ≡ filter (needs_place marks.now at) (up_to count)) }
+    ensures { IfOk result (λ places. places.items ≡ filter (needs_place marks.now at) (indexes_below count)) }
 {
     let mut places = Vec::new(alloc);
     for place in 0..count {
@@ -149,7 +149,7 @@ fn leave_out(places: &mut Vec<usize>, marks: &[bool], at: usize)
 /// Returns the names at some indexes.
 fn names_at(alloc: Global, names: &[Name], places: &[usize]) -> Result<Vec<Name>, AllocError>
     requires { AllByRecursion (λ place. place < length names.now) places.now }
-    ensures { IfOk result (λ chosen. chosen.items ≡ map (name_at names.now) places.now) }
+    ensures { IfOk result (λ chosen. chosen.items ≡ map (name_at_index names.now) places.now) }
 {
     let mut chosen = Vec::with_capacity(alloc, places.len())?;
     for place in places {

@@ -8,7 +8,7 @@ ghost use Rattle.camp_prim.specs.Hunks.{IsInRange};
 ghost use Rattle.camp_prim.specs.Labels.{SameKey};
 ghost use Rattle.camp_prim.specs.Commuting.{at_line, path_of};
 ghost use Rattle.camp_prim.specs.declared.primitives.Primitive.TheVariants as primitive;
-ghost use Rattle.camp_questions.specs.Inside.Moving.{ComesBefore, Passes, hunk_at};
+ghost use Rattle.camp_questions.specs.Inside.Moving.{HunkMovesBefore, HunkCommutesPast, hunk_at};
 
 use camp_ctx::{Contexted, join};
 use camp_prim::{Hunk, Named, Primitive};
@@ -126,7 +126,7 @@ fn moves_from(changes: &[Named], patch: &Named, hunk: &Hunk) -> (usize, u32)
 fn line_before(change: &Named, patch: &Named, hunk: &Hunk, line: u32) -> Option<u32>
     requires { IsInRange (at_line line hunk.now) }
     ensures range { IfSome result (λ next. IsInRange (at_line next hunk.now)) }
-    ensures passes { IfSome result (λ next. ComesBefore change.now patch.now hunk.now line next) }
+    ensures passes { IfSome result (λ next. HunkMovesBefore change.now patch.now hunk.now line next) }
 {
     if !is_other(change, patch) {
         return None;
@@ -158,7 +158,7 @@ fn is_in_file(change: &Primitive, hunk: &Hunk) -> bool
 fn line_past(other: &Hunk, hunk: &Hunk, line: u32) -> Option<u32>
     requires range { IsInRange (at_line line hunk.now) }
     requires path { other.now.path ≡ hunk.now.path }
-    ensures { IfSome result (λ next. Passes other.now hunk.now line next) }
+    ensures { IfSome result (λ next. HunkCommutesPast other.now hunk.now line next) }
 {
     if other.line() as usize + other.new().len() < line as usize {
         return line_below(other, hunk, line);
@@ -173,7 +173,7 @@ fn line_below(other: &Hunk, hunk: &Hunk, line: u32) -> Option<u32>
     requires range { IsInRange (at_line line hunk.now) }
     requires path { other.now.path ≡ hunk.now.path }
     requires below { other.now.line + length other.now.new < line }
-    ensures { IfSome result (λ next. Passes other.now hunk.now line next) }
+    ensures { IfSome result (λ next. HunkCommutesPast other.now hunk.now line next) }
 {
     let gap = line - other.line() - other.new().len() as u32;
     let next = other.line() as usize + other.old().len() + gap as usize;
@@ -188,7 +188,7 @@ fn line_above(other: &Hunk, hunk: &Hunk, line: u32) -> Option<u32>
     requires range { IsInRange (at_line line hunk.now) }
     requires path { other.now.path ≡ hunk.now.path }
     requires above { line + length hunk.now.old < other.now.line }
-    ensures { IfSome result (λ next. Passes other.now hunk.now line next) }
+    ensures { IfSome result (λ next. HunkCommutesPast other.now hunk.now line next) }
 {
     let gap = other.line() - line - hunk.old().len() as u32;
     let behind = line as usize + hunk.new().len() + gap as usize;

@@ -1,7 +1,7 @@
 //! The hunks of a file with marks: the ranges of lines where versions of it differ.
 ghost use Rattle.std.specs.Prelude.{◌≡◌, [], ◌∷◌, ◌++◌, map, filter, fold, if◌then◌else◌, IfOk, OnOk};
 ghost use Rattle.std.specs.List.{slice_range};
-ghost use Rattle.camp_questions.specs.Places.{at_place, differs_within, file_from, is_within, joined, place_from, range_of, touch, with_marks, with_range};
+ghost use Rattle.camp_questions.specs.Places.{at_place, differs_within, file_from, is_within, union_of, place_from, range_of, touch, with_marks, with_range};
 
 use crate::common_lines::{common_end, common_front};
 use crate::marking::{MarkedFile, Place, Version};
@@ -107,7 +107,7 @@ fn with_range(alloc: Global, places: &[Range], range: Range) -> Result<Vec<Range
 
 /// Returns the union of a range and those that it touches.
 fn joined_with(range: Range, places: &[Range]) -> Range
-    ensures { result ≡ fold joined range (filter (touch range) places.now) }
+    ensures { result ≡ fold union_of range (filter (touch range) places.now) }
 {
     let mut whole = range;
     for place in places {
@@ -127,7 +127,7 @@ fn touch(range: Range, other: Range) -> bool
 
 /// Returns the union of two ranges.
 fn join(range: Range, other: Range) -> Range
-    ensures { result ≡ joined range other }
+    ensures { result ≡ union_of range other }
 {
     Range {
         from: range.from.min(other.from),

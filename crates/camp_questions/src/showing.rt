@@ -26,9 +26,9 @@ pub struct Shown {
 impl Model for Shown {
     ghost use Rattle.std.specs.Coded.{codes};
     ghost use Rattle.camp_ctx.specs.declared.sets.CtxSet.{the_code as code_of_sets};
-    ghost use Rattle.camp_questions.specs.Showing.{Patch};
+    ghost use Rattle.camp_questions.specs.Showing.{PatchContents};
 
-    ghost Value = { Patch };
+    ghost Value = { PatchContents };
 
     ghost coded = { Prim.hlevel (codes, code_of_sets) };
 

@@ -14,8 +14,8 @@ abbrev pub HasBranch : Contents → List ℕ → (List Catch → Type 0) → Typ
 HasBranch state name P = IsSomeAnd (catches_of state.branches name) P
 
 -- a branch with these catches has all these patches
-abbrev pub HasAll : List (List ℕ) → List Catch → Type 0
-HasAll names catches = first_lacked catches names ≡ None
+abbrev pub HasEachPatch : List (List ℕ) → List Catch → Type 0
+HasEachPatch names catches = first_lacked catches names ≡ None
 
 -- a list is given and empty
 abbrev pub lists_none : Option (List (List ℕ)) → Bool
@@ -35,23 +35,23 @@ pub record MayWantRecord (state : Contents) (branch name : List ℕ) (too_large 
 
 -- a pull, if the two branches exist and differ, `from` has all listed patches, and some are listed
 pub record MayWantPull (state : Contents) (from to : List ℕ) (names : Option (List (List ℕ))) : Type 0 where
-  pub from_has : HasBranch state from (λ theirs. HasAll (listed theirs names) theirs)
+  pub from_has : HasBranch state from (λ theirs. HasEachPatch (listed theirs names) theirs)
   pub to_stands : HasBranch state to (λ ours. Unit {0})
   pub are_two : bytes_eq from to ≡ false
   pub some : lists_none names ≡ false
 
 -- an obliteration, if the branch has all that is listed, and something is listed
 pub record MayWantObliterate (state : Contents) (branch : List ℕ) (names : List (List ℕ)) : Type 0 where
-  pub has : HasBranch state branch (HasAll names)
+  pub has : HasBranch state branch (HasEachPatch names)
   pub some : is_empty names ≡ false
 
 -- a call may run out of memory at a state
-abbrev pub MayWant : Contents → Call → Type 0
-MayWant state (call.Branch new from) = MayWantCopy state new from
-MayWant state (call.Record branch name changes) =
+abbrev pub CallMayWant : Contents → Call → Type 0
+CallMayWant state (call.Branch new from) = MayWantCopy state new from
+CallMayWant state (call.Record branch name changes) =
     MayWantRecord state branch name (λ catches. is_too_large state.limits.catches catches changes)
-MayWant state (call.Pull from to names) = MayWantPull state from to names
-MayWant state (call.Obliterate branch names) = MayWantObliterate state branch names
-MayWant state (call.Tree branch) = HasBranch state branch (λ catches. Unit {0})
-MayWant state (call.Conflicts branch) = HasBranch state branch (λ catches. Unit {0})
-MayWant state (call.Names branch) = HasBranch state branch (λ catches. Unit {0})
+CallMayWant state (call.Pull from to names) = MayWantPull state from to names
+CallMayWant state (call.Obliterate branch names) = MayWantObliterate state branch names
+CallMayWant state (call.Tree branch) = HasBranch state branch (λ catches. Unit {0})
+CallMayWant state (call.Conflicts branch) = HasBranch state branch (λ catches. Unit {0})
+CallMayWant state (call.Names branch) = HasBranch state branch (λ catches. Unit {0})

@@ -5,7 +5,7 @@ ghost use Rattle.camp_call.specs.Patches.{IsPatchSized};
 ghost use Rattle.camp_base.specs.Trees.{Files};
 ghost use Rattle.camp_prim.specs.Effect.{Applies};
 ghost use Rattle.camp_prim.specs.Commuting.{path_of};
-ghost use Rattle.camp_catch.specs.Making.{ComesTo};
+ghost use Rattle.camp_catch.specs.Making.{GivesOrRunsOut};
 ghost use Rattle.camp_repo.specs.Steps.{changed, has_long_file, has_long_side, is_too_large};
 
 use crate::{Branch, Limits, MAX_FILE_LINES, MAX_SIDE_LINES, Refusal};
@@ -42,7 +42,7 @@ fn is_long(change: &Primitive) -> bool
 /// Returns the tree after all changes, each made in the tree that those before it give, or the reason why one
 /// of them can't be made.
 pub(crate) fn changed(tree: &Tree, changes: &[Primitive]) -> Result<Tree, Unmade<Refusal>>
-    ensures { ComesTo (λ led. led ≡ changed changes.now tree.now) result }
+    ensures { GivesOrRunsOut (λ led. led ≡ changed changes.now tree.now) result }
 {
     let mut next = tree.try_clone()?;
     for change in changes {

@@ -1,7 +1,7 @@
 //! The decision on each kind of call.
 ghost use Rattle.std.specs.Prelude.{◌≡◌, ◌-◌, ◌^◌, ◌<◌, List, Ok, length, IfErr, IfOk};
 ghost use Rattle.camp_repo.specs.Steps.{is_too_large, refused, refusal_of, step, step_branch, step_obliterate, step_pull, step_record};
-ghost use Rattle.camp_repo.specs.Wanting.{HasBranch, MayWant, MayWantCopy, MayWantObliterate, MayWantPull, MayWantRecord};
+ghost use Rattle.camp_repo.specs.Wanting.{HasBranch, CallMayWant, MayWantCopy, MayWantObliterate, MayWantPull, MayWantRecord};
 
 use crate::name_lists::{first_lacked, is_full_with, lists_none, wanted};
 use crate::sizes::{changed, is_too_large};
@@ -16,7 +16,7 @@ impl State {
     pub fn decide(&self, call: &Call) -> Result<Decided<State, Reply>, AllocError>
         requires { self.now.count < 2 ^ 64 - 1 }
         ensures exact { IfOk result (λ decided. decided ≡ step self.now call.now) }
-        ensures memory { IfErr result (λ error. MayWant self.now call.now) }
+        ensures memory { IfErr result (λ error. CallMayWant self.now call.now) }
     {
         match call {
             Call::Branch { new, from } => self.copy_branch(new, from),

@@ -1,22 +1,22 @@
 -- The cells of a chain: no two entries have the same one, and the word of the last cell identifies the chain among
 -- its prefixes.
-use Rattle.camp_row.proofs.Words.{◌≡◌, ◌≢◌, ℕ, suc, ◌+◌, ◌<◌, ◌≤◌, ◌⊎◌, inl, inr, List, [], ◌∷◌, ◌++◌, length, ◌==◌, sym, refl, ap, ◌∙◌, subst, arith, length-append, append-nil, append_assoc, append_cancel_left, filter-append, eq-eqb, ne_eqb, cond-true, cond-false, same_from_place, Entry, IsPrefix, IsProperPrefix, own, entry_count, cell_of, head_after, head_word, FitsRow}
+use Rattle.camp_row.proofs.Words.{◌≡◌, ◌≢◌, ℕ, suc, ◌+◌, ◌<◌, ◌≤◌, ◌⊎◌, inl, inr, List, [], ◌∷◌, ◌++◌, length, ◌==◌, sym, refl, ap, ◌∙◌, subst, arith, length-append, append-nil, append_assoc, append_cancel_left, filter-append, eq-eqb, ne_eqb, cond-true, cond-false, same_from_place, Entry, IsPrefix, IsProperPrefix, own_entries, entry_count, cell_of, head_after, head_word, FitsRow}
 use Rattle.camp_row.proofs.Prefixes.{prefix_cases, cut_longer, cut_push, prefixes_compare, next_is}
 
-pub own-append : (seat : ℕ) (xs ys : List Entry) → own seat (xs ++ ys) ≡ own seat xs ++ own seat ys
-own-append seat xs ys = filter-append (λ (e : Entry). e.seat == seat) xs ys
+pub own_entries-append : (seat : ℕ) (xs ys : List Entry) → own_entries seat (xs ++ ys) ≡ own_entries seat xs ++ own_entries seat ys
+own_entries-append seat xs ys = filter-append (λ (e : Entry). e.seat == seat) xs ys
 
-pub own-self : (e : Entry) (later : List Entry) → own e.seat (e ∷ later) ≡ e ∷ own e.seat later
-own-self e later = cond-true (e.seat == e.seat) (e ∷ own e.seat later) (own e.seat later) (eq-eqb e.seat e.seat refl)
+pub own_entries-self : (e : Entry) (later : List Entry) → own_entries e.seat (e ∷ later) ≡ e ∷ own_entries e.seat later
+own_entries-self e later = cond-true (e.seat == e.seat) (e ∷ own_entries e.seat later) (own_entries e.seat later) (eq-eqb e.seat e.seat refl)
 
-pub own-other : (seat : ℕ) (e : Entry) (later : List Entry) → e.seat ≢ seat → own seat (e ∷ later) ≡ own seat later
-own-other seat e later ne = cond-false (e.seat == seat) (e ∷ own seat later) (own seat later) (ne_eqb e.seat seat ne)
+pub own_entries-other : (seat : ℕ) (e : Entry) (later : List Entry) → e.seat ≢ seat → own_entries seat (e ∷ later) ≡ own_entries seat later
+own_entries-other seat e later ne = cond-false (e.seat == seat) (e ∷ own_entries seat later) (own_entries seat later) (ne_eqb e.seat seat ne)
 
 pub entry_count-append : (seat : ℕ) (xs ys : List Entry) → entry_count seat (xs ++ ys) ≡ entry_count seat xs + entry_count seat ys
-entry_count-append seat xs ys = ap length (own-append seat xs ys) ∙ length-append (own seat xs) (own seat ys)
+entry_count-append seat xs ys = ap length (own_entries-append seat xs ys) ∙ length-append (own_entries seat xs) (own_entries seat ys)
 
 pub entry_count-self : (e : Entry) (later : List Entry) → entry_count e.seat (e ∷ later) ≡ suc (entry_count e.seat later)
-entry_count-self e later = ap length (own-self e later)
+entry_count-self e later = ap length (own_entries-self e later)
 
 -- an entry at which a chain is cut is one more of its seat
 pub entry_count_cut : (before : List Entry) (e : Entry) (after chain : List Entry) → before ++ e ∷ after ≡ chain → entry_count e.seat before < entry_count e.seat chain
@@ -32,18 +32,18 @@ entry_count_prefix seat xs ys f =
     let sum = entry_count-append seat xs f.rest in
     omega arith
 
-pub own_push_other : (seat : ℕ) (chain : List Entry) (e : Entry) → e.seat ≢ seat → own seat (chain ++ e ∷ []) ≡ own seat chain
-own_push_other seat chain e ne = own-append seat chain (e ∷ []) ∙ (ap (λ l. own seat chain ++ l) (own-other seat e [] ne) ∙ append-nil (own seat chain))
+pub own_push_other : (seat : ℕ) (chain : List Entry) (e : Entry) → e.seat ≢ seat → own_entries seat (chain ++ e ∷ []) ≡ own_entries seat chain
+own_push_other seat chain e ne = own_entries-append seat chain (e ∷ []) ∙ (ap (λ l. own_entries seat chain ++ l) (own_entries-other seat e [] ne) ∙ append-nil (own_entries seat chain))
 
 -- if a seat has no entry that was not seen, the next entry is another seat's
-module _ (seat : ℕ) (seen : List Entry) (e : Entry) (later ahead : List Entry) (cut : seen ++ e ∷ later ≡ ahead) (same : own seat ahead ≡ own seat seen) where
-  rest_is_nil : own seat (e ∷ later) ≡ []
-  rest_is_nil = append_cancel_left (own seat seen) (own seat (e ∷ later)) [] (sym (own-append seat seen (e ∷ later)) ∙ (ap (own seat) cut ∙ (same ∙ sym (append-nil (own seat seen)))))
+module _ (seat : ℕ) (seen : List Entry) (e : Entry) (later ahead : List Entry) (cut : seen ++ e ∷ later ≡ ahead) (same : own_entries seat ahead ≡ own_entries seat seen) where
+  rest_is_nil : own_entries seat (e ∷ later) ≡ []
+  rest_is_nil = append_cancel_left (own_entries seat seen) (own_entries seat (e ∷ later)) [] (sym (own_entries-append seat seen (e ∷ later)) ∙ (ap (own_entries seat) cut ∙ (same ∙ sym (append-nil (own_entries seat seen)))))
 
   pub next_is_others : e.seat ≢ seat
-  next_is_others is = let h : own e.seat (e ∷ later) ≡ [] = subst (λ s. own s (e ∷ later) ≡ []) (sym is) rest_is_nil in let k : e ∷ own e.seat later ≡ [] = sym (own-self e later) ∙ h in absurd cc
+  next_is_others is = let h : own_entries e.seat (e ∷ later) ≡ [] = subst (λ s. own_entries s (e ∷ later) ≡ []) (sym is) rest_is_nil in let k : e ∷ own_entries e.seat later ≡ [] = sym (own_entries-self e later) ∙ h in absurd cc
 
-  pub own_of_next : own seat (seen ++ e ∷ []) ≡ own seat seen
+  pub own_of_next : own_entries seat (seen ++ e ∷ []) ≡ own_entries seat seen
   own_of_next = own_push_other seat seen e next_is_others
 
 head_after-push : (seats : ℕ) (before : List Entry) (word : ℕ) (chain : List Entry) (e : Entry) → head_after seats before word (chain ++ e ∷ []) ≡ cell_of seats (before ++ chain) e + 1

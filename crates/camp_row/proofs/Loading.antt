@@ -1,5 +1,5 @@
 -- Loads keep the invariant, and teach what `specs/Inside/Steps` says.
-use Rattle.camp_row.proofs.Words.{◌≡◌, ℕ, ◌+◌, ◌*◌, ◌<◌, List, [], ◌∷◌, ◌++◌, length, cond, ◌==◌, sym, refl, ap, ◌∙◌, subst, arith, set, slice_index, All, map, All-weaker, All-map, Entry, Knowledge, IsProperPrefix, own, entry_count, cell_of, head_word, FitsRow, Part, parts_of, finds, index_word, HasCell, Knows, IsRuled, SeatFindsChain, LoadedHead, Walked, Advanced, sum_by, spent}
+use Rattle.camp_row.proofs.Words.{◌≡◌, ℕ, ◌+◌, ◌*◌, ◌<◌, List, [], ◌∷◌, ◌++◌, length, cond, ◌==◌, sym, refl, ap, ◌∙◌, subst, arith, set, slice_index, All, map, All-weaker, All-map, Entry, Knowledge, IsProperPrefix, own_entries, entry_count, cell_of, head_word, FitsRow, Part, parts_of, finds, index_word, HasCell, Knows, IsRuled, SeatFindsChain, LoadedHead, Walked, Advanced, sum_by, spent}
 use Rattle.camp_row.proofs.Prefixes.{prefix_refl, cut_longer, cut_pushed}
 use Rattle.camp_row.proofs.Cells.{own_of_next}
 use Rattle.camp_row.proofs.Ruling.{Owes, only, sum_set, parts_of-cons, keep, word_same, knows, keep_words}
@@ -67,7 +67,7 @@ module _ (seats per_seat id : ℕ) (p : Part) (i : ℕ) where
       let later : List Entry = next.rest ++ k.ahead.rest in
       let cut : p.seen ++ e ∷ later ≡ ruled.chain = cut_longer p.seen e next.rest p.ahead k.ahead.rest ruled.chain next.is k.ahead.is in
       let q : Part = record p { seen = p.seen ++ e ∷ [] } in
-      let own_is : own p.number q.seen ≡ own p.number p.seen = own_of_next p.number p.seen e later ruled.chain cut k.own_seen in
+      let own_is : own_entries p.number q.seen ≡ own_entries p.number p.seen = own_of_next p.number p.seen e later ruled.chain cut k.own_seen in
       let entry_count_is : entry_count p.number q.seen ≡ entry_count p.number p.seen = ap length own_is in
       let held : HasCell words (cell_of p.seats p.seen e) (head_word p.seats p.seen) e.index =
       subst (λ s. HasCell words (cell_of s p.seen e) (head_word s p.seen) e.index) (sym k.sizes.0) (ruled.linked p.seen e later cut) in (

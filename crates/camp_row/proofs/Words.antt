@@ -14,7 +14,7 @@ pub use Rattle.atomic_table.proofs.Lists.{at_set, at_snoc, set_else}
 pub use Rattle.atomic_table.specs.Seated.{TableId}
 pub use Rattle.atomic_table.specs.Table.{Allows, Joins, Me, Splits, State, keeps}
 pub use Rattle.atomic_table.specs.declared.shared.Seat.{Seat}
-pub use Rattle.camp_row.specs.Chains.{FitsRow, IsPrefix, IsProperPrefix, cell_of, head_after, head_word, own, entry_count}
+pub use Rattle.camp_row.specs.Chains.{FitsRow, IsPrefix, IsProperPrefix, cell_of, head_after, head_word, own_entries, entry_count}
 pub use Rattle.camp_row.specs.Inside.Parts.{IsSoundPart, Part, all_fresh, finds, fresh, known_of, part_of, parts_of}
 pub use Rattle.camp_row.specs.Inside.PassFields.{IsPass, known, part}
 pub use Rattle.camp_row.specs.Inside.RowFields.{IsRow, id_of}

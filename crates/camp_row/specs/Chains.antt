@@ -14,12 +14,12 @@ pub record IsProperPrefix {A : Type 0} (prefix whole : List A) : Type 0 where
   pub is : prefix ++ next ∷ rest ≡ whole
 
 -- the entries of a chain that one seat published
-abbrev pub own : ℕ → List Entry → List Entry
-own seat chain = filter (λ entry. entry.seat == seat) chain
+abbrev pub own_entries : ℕ → List Entry → List Entry
+own_entries seat chain = filter (λ entry. entry.seat == seat) chain
 
 -- the number of entries of a chain that one seat published
 abbrev pub entry_count : ℕ → List Entry → ℕ
-entry_count seat chain = length (own seat chain)
+entry_count seat chain = length (own_entries seat chain)
 
 -- the cell of an entry: the n-th entry of seat s, n from 0, has cell n * seats + s
 abbrev pub cell_of : ℕ → List Entry → Entry → ℕ

@@ -3,7 +3,7 @@ use Rattle.std.specs.Prelude.{◌≡◌, ◌≢◌, ◌⊎◌, ℕ, ◌<◌, Lis
 use Rattle.atomic_table.specs.Seated.{TableId}
 use Rattle.camp_row.specs.declared.entries.Entry.{Entry}
 use Rattle.camp_row.specs.declared.trails.Next.{Next}
-use Rattle.camp_row.specs.Chains.{IsPrefix, IsProperPrefix, own, cell_of, head_word}
+use Rattle.camp_row.specs.Chains.{IsPrefix, IsProperPrefix, own_entries, cell_of, head_word}
 
 -- the most seats of a row
 abbrev pub most_seats : ℕ
@@ -36,7 +36,7 @@ new_pass row number = record { row = row; number = number; seen = []; ahead = []
 -- what was seen is a prefix of the chain that was found, in which the seat has no entry that its pass has not seen
 pub record IsSound (known : PassState) : Type 0 where
   pub prefix : IsPrefix known.seen known.ahead
-  pub own_seen : own known.number known.ahead ≡ own known.number known.seen
+  pub own_seen : own_entries known.number known.ahead ≡ own_entries known.number known.seen
 
 -- the pass finds the chain as it is now: it has only grown, it begins with what was seen, and the seat has no new
 -- entry in it

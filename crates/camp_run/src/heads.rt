@@ -1,7 +1,7 @@
 //! Runs in threads over a head.
 ghost use Rattle.std.specs.Prelude.{◌<◌, ◌≤◌, IfOk, IfErr};
 ghost use Rattle.camp_clients.specs.Runs.{IsShared};
-ghost use Rattle.camp_clients.specs.Sections.{most_tries};
+ghost use Rattle.camp_clients.specs.Sections.{most_run_tries};
 ghost use Rattle.camp_repo.specs.Objects.{repository_within};
 ghost use Rattle.camp_run.specs.Outputs.{IsOutput};
 ghost use Rattle.camp_run.specs.Runs.{IsNotForeign, Runs};
@@ -35,7 +35,7 @@ pub fn run_head<T: Threads + Wait + Sync, R: Read, W: Write, G: Gate + Sync>(
     tries: u32,
     gate: &G,
 ) -> Result<(), RunFault>
-    requires { (0 < tries) × (tries ≤ most_tries) }
+    requires { (0 < tries) × (tries ≤ most_run_tries) }
     ensures runs { Runs (IsShared (repository_within limits) tries) history
         (R.remaining reader.old) (R.remaining reader.new) (W.contents writer.old) result (W.contents writer.new) }
     ensures not_foreign { IfErr result IsNotForeign }
@@ -63,7 +63,7 @@ pub fn run_head_at<
     gate: &G,
     section_gate: &S,
 ) -> Result<(), RunFault>
-    requires { (0 < tries) × (tries ≤ most_tries) }
+    requires { (0 < tries) × (tries ≤ most_run_tries) }
     ensures runs { Runs (IsShared (repository_within limits) tries) history
         (R.remaining reader.old) (R.remaining reader.new) (W.contents writer.old) result (W.contents writer.new) }
     ensures not_foreign { IfErr result IsNotForeign }
@@ -92,7 +92,7 @@ fn head_text<T: Threads + Wait + Sync, G: Gate + Sync, S: SectionGate + Sync>(
     gate: &G,
     section_gate: &S,
 ) -> Result<Vec<u8>, AllocError>
-    requires { (0 < tries) × (tries ≤ most_tries) }
+    requires { (0 < tries) × (tries ≤ most_run_tries) }
     ensures { IfOk result (λ text. IsOutput (IsShared (repository_within limits) tries) history script.now text.items) }
 {
     let plan = HeadPlan {

@@ -1,5 +1,5 @@
 -- A reader gives the script of the definitions.
-use Rattle.camp_script.proofs.Common.{◌≡◌, ℕ, ◌+◌, Bool, true, false, not, ◌&&◌, ◌||◌, ◌==◌, nat_le, cond, List, [], ◌∷◌, ◌++◌, length, codes, refl, sym, ap, ◌∙◌, Option, None, Some, Result, Ok, Err, arith, length-append, cond-false, nat_tests, Edit, Primitive, Hunk, is_writing, Call, Command, Nothing, Ask, BeginEdit, BeginGroup, BeginSection, command_of, words_of, OpenEdit, OpenRecord, Progress, start, after_change, obey, heed, read_from, LineFault, bytes_eq, if◌then◌else◌, GroupLine, NoChange, WholeChange, EditChange, EndGroup, group_line_of, grown, ended, edit_of, group_of, after_body_line, after_entry, with_change, ◌>>=◌, in_turn, NumberedLine, Entry, Item, numbered, up_to, pieces, begins_with, begins_edit, begins_group, words_on, ends_body, entries_of, entry_words, ends_group, items_of, first_section, clients_of, is_full, with_asked, after_item, after_client, script_of_lines}
+use Rattle.camp_script.proofs.Common.{◌≡◌, ℕ, ◌+◌, Bool, true, false, not, ◌&&◌, ◌||◌, ◌==◌, nat_le, cond, List, [], ◌∷◌, ◌++◌, length, codes, refl, sym, ap, ◌∙◌, Option, None, Some, Result, Ok, Err, arith, length-append, cond-false, nat_tests, Edit, Primitive, Hunk, is_writing, Call, Command, Nothing, Ask, BeginEdit, BeginGroup, BeginSection, command_of, words_of, OpenEdit, OpenRecord, Progress, start, after_change, obey, heed, read_from, LineFault, bytes_eq, if◌then◌else◌, GroupLine, NoChange, WholeChange, EditChange, EndGroup, group_line_of, grown, ended_edit, parsed_edit, group_of, after_body_line, after_entry, with_change, ◌>>=◌, in_turn, NumberedLine, Entry, Item, numbered, up_to, pieces, begins_with, begins_edit, begins_group, words_on, ends_body, line_entries, entry_words, ends_group, items_of, first_section, clients_of, is_full, with_asked, after_item, after_client, script_of_lines}
 use Rattle.std.specs.List.{list_any}
 use Rattle.camp_call.specs.declared.calls.Call.TheVariants as call
 use Rattle.camp_script.specs.Faults.{fault_at}
@@ -67,9 +67,9 @@ from_body closed calls branch name opened grouped changes begun edit lines =
 
 -- from each state a reader gives what the rest of the lines means
 record Agrees (n : ℕ) (lines : List (List ℕ)) : Type 0 where
-  pub beyond : (closed : List (List Call)) (calls : List Call) → read_from n (outside closed calls) lines ≡ rest_of_script closed calls (items_of (entries_of (numbered n lines)))
+  pub beyond : (closed : List (List Call)) (calls : List Call) → read_from n (outside closed calls) lines ≡ rest_of_script closed calls (items_of (line_entries (numbered n lines)))
   pub in_group : (closed : List (List Call)) (calls : List Call) (branch name : List ℕ) (opened : ℕ) (changes : List Primitive)
-      → read_from n (inside closed calls branch name opened true changes None) lines ≡ from_group closed calls branch name opened changes (entries_of (numbered n lines))
+      → read_from n (inside closed calls branch name opened true changes None) lines ≡ from_group closed calls branch name opened changes (line_entries (numbered n lines))
   pub in_body : (closed : List (List Call)) (calls : List Call) (branch name : List ℕ) (opened : ℕ) (grouped : Bool) (changes : List Primitive) (begun : ℕ) (edit : Edit)
       → read_from n (inside closed calls branch name opened grouped changes (Some (record { opened = begun; edit = edit }))) lines
       ≡ from_body closed calls branch name opened grouped changes begun edit (numbered n lines)
@@ -90,7 +90,7 @@ module _ (n : ℕ) (bytes : List ℕ) (lines : List (List ℕ)) (next : Agrees (
   -- after the line `end`
   body_ends : (grouped : Bool) (changes : List Primitive) (begun : ℕ) (edit : Edit) (r : Result Edit LineFault)
       → ((r >>= λ edit. after_change n (inside closed calls branch name opened grouped changes (Some (record { opened = begun; edit = edit }))) (record { branch = branch; name = name; opened = opened; grouped = grouped; changes = changes; open_edit = Some (record { opened = begun; edit = edit }) }) (Hunk edit)) >>= λ p. read_from (n + 1) p lines)
-      ≡ (((r >>= λ edit. Ok edit) >>= λ edit. Ok (Hunk edit)) >>= λ change. behind_body closed calls branch name opened grouped (changes ++ change ∷ []) (entries_of (numbered (n + 1) lines)))
+      ≡ (((r >>= λ edit. Ok edit) >>= λ edit. Ok (Hunk edit)) >>= λ change. behind_body closed calls branch name opened grouped (changes ++ change ∷ []) (line_entries (numbered (n + 1) lines)))
   body_ends grouped changes begun edit (Err fault) = refl
   body_ends true changes begun edit (Ok more) = next.in_group closed calls branch name opened (changes ++ Hunk more ∷ [])
   body_ends false changes begun edit (Ok more) =
@@ -111,12 +111,12 @@ module _ (n : ℕ) (bytes : List ℕ) (lines : List (List ℕ)) (next : Agrees (
   body_line grouped changes begun edit =
       elim (bytes_eq bytes (codes "end")) as
       (λ b. ((cond b
-      ((ended n edit >>= λ edit. after_change n (inside closed calls branch name opened grouped changes (Some (record { opened = begun; edit = edit }))) (record { branch = branch; name = name; opened = opened; grouped = grouped; changes = changes; open_edit = Some (record { opened = begun; edit = edit }) }) (Hunk edit)))
+      ((ended_edit n edit >>= λ edit. after_change n (inside closed calls branch name opened grouped changes (Some (record { opened = begun; edit = edit }))) (record { branch = branch; name = name; opened = opened; grouped = grouped; changes = changes; open_edit = Some (record { opened = begun; edit = edit }) }) (Hunk edit)))
       (grown n edit bytes >>= λ edit. Ok (inside closed calls branch name opened grouped changes (Some (record { opened = begun; edit = edit }))))) >>= λ p. read_from (n + 1) p lines)
-      ≡ (((cond b (ended n edit) (grown n edit bytes) >>= λ edit. in_turn after_body_line edit (cond b [] (up_to ends_body (numbered (n + 1) lines))))
+      ≡ (((cond b (ended_edit n edit) (grown n edit bytes) >>= λ edit. in_turn after_body_line edit (cond b [] (up_to ends_body (numbered (n + 1) lines))))
       >>= λ edit. cond (b || list_any ends_body (cond b [] (up_to ends_body (numbered (n + 1) lines)))) (Ok (Hunk edit)) (fault_at begun EditNotEnded))
       >>= λ change. behind_body closed calls branch name opened grouped (changes ++ change ∷ []) (entries_from (not b) (numbered (n + 1) lines)))) [
-        | true ↦ body_ends grouped changes begun edit (ended n edit)
+        | true ↦ body_ends grouped changes begun edit (ended_edit n edit)
         | false ↦ body_grows grouped changes begun (grown n edit bytes)
       ]
 
@@ -142,13 +142,13 @@ module _ (n : ℕ) (bytes : List ℕ) (lines : List (List ℕ)) (next : Agrees (
   group_says (EditChange path place) =
       next.in_body closed calls branch name opened true changes n (record { path = path; line = place; old = []; new = [] })
       ∙ sym (ap (λ (r : Result (List Primitive) LineFault). r >>= λ changes. rest_of_script closed (calls ++ call.Record branch name changes ∷ []) (items_from true (entries_from true (numbered (n + 1) lines))))
-      (behind_step (edit_of n path place (up_to ends_body (numbered (n + 1) lines))) (λ change. changes ++ change ∷ []) _ _)
-      ∙ twice (edit_of n path place (up_to ends_body (numbered (n + 1) lines))) _ _)
+      (behind_step (parsed_edit n path place (up_to ends_body (numbered (n + 1) lines))) (λ change. changes ++ change ∷ []) _ _)
+      ∙ twice (parsed_edit n path place (up_to ends_body (numbered (n + 1) lines))) _ _)
   group_says EndGroup =
       elim (length changes == 0) as
       (λ b. (cond b (fault_at n BadGroup) (Ok (outside closed (calls ++ call.Record branch name changes ∷ []))) >>= λ p. read_from (n + 1) p lines)
       ≡ (((cond b (fault_at n BadGroup) (Ok changes) >>= λ changes. Ok changes) >>= λ changes. Ok changes)
-      >>= λ changes. rest_of_script closed (calls ++ call.Record branch name changes ∷ []) (items_of (entries_of (numbered (n + 1) lines))))) [
+      >>= λ changes. rest_of_script closed (calls ++ call.Record branch name changes ∷ []) (items_of (line_entries (numbered (n + 1) lines))))) [
         | true ↦ refl
         | false ↦ next.beyond closed (calls ++ call.Record branch name changes ∷ [])
       ]
@@ -159,7 +159,7 @@ module _ (n : ℕ) (bytes : List ℕ) (lines : List (List ℕ)) (next : Agrees (
   group_meets (Ok said) h =
       group_says said ∙ ap (λ b. group_where b (is_end said) (Ok said)) (sym h.value.edits) ∙ ap (λ b. group_where (begins_edit (words_of bytes)) b (Ok said)) (sym h.value.ends)
 
-  group_line : read_from n (inside closed calls branch name opened true changes None) (bytes ∷ lines) ≡ from_group closed calls branch name opened changes (entries_of (numbered n (bytes ∷ lines)))
+  group_line : read_from n (inside closed calls branch name opened true changes None) (bytes ∷ lines) ≡ from_group closed calls branch name opened changes (line_entries (numbered n (bytes ∷ lines)))
   group_line = group_meets (group_line_of n (length changes) (words_of bytes)) (fits_group n (length changes) (words_of bytes))
 
 -- ---- outside
@@ -214,12 +214,12 @@ module _ (n : ℕ) (bytes : List ℕ) (lines : List (List ℕ)) (next : Agrees (
   script_asks (BeginEdit branch name path place) =
       elim (is_full calls) as
       (λ b. (cond b (fault_at n TooManyCommands) (Ok (inside closed calls branch name n false [] (Some (record { opened = n; edit = record { path = path; line = place; old = []; new = [] } })))) >>= λ p. read_from (n + 1) p lines)
-      ≡ (((cond b (fault_at n TooManyCommands) (Ok tt) >>= λ room. edit_of n path place (up_to ends_body (numbered (n + 1) lines)) >>= λ change. Ok (calls ++ call.Record branch name (change ∷ []) ∷ []))
+      ≡ (((cond b (fault_at n TooManyCommands) (Ok tt) >>= λ room. parsed_edit n path place (up_to ends_body (numbered (n + 1) lines)) >>= λ change. Ok (calls ++ call.Record branch name (change ∷ []) ∷ []))
       >>= λ calls. in_turn after_item calls (first_section (items_of (behind_line true))))
       >>= λ calls. in_turn after_client (closed ++ calls ∷ []) (clients_of (items_of (behind_line true))))) [
         | true ↦ refl
         | false ↦ next.in_body closed calls branch name n false [] n (record { path = path; line = place; old = []; new = [] })
-            ∙ sym (behind_step (edit_of n path place (up_to ends_body (numbered (n + 1) lines))) (λ change. calls ++ call.Record branch name (change ∷ []) ∷ []) _ _)
+            ∙ sym (behind_step (parsed_edit n path place (up_to ends_body (numbered (n + 1) lines))) (λ change. calls ++ call.Record branch name (change ∷ []) ∷ []) _ _)
       ]
   script_asks (BeginGroup branch name) =
       elim (is_full calls) as
@@ -251,7 +251,7 @@ module _ (n : ℕ) (bytes : List ℕ) (lines : List (List ℕ)) (next : Agrees (
       ∙ ap (λ b. script_where (begins_edit (words_of bytes)) b (is_section asked) (Ok asked)) (sym h.value.groups)
       ∙ ap (λ b. script_where (begins_edit (words_of bytes)) (begins_group (words_of bytes)) b (Ok asked)) (sym h.value.sections)
 
-  script_line : read_from n (outside closed calls) (bytes ∷ lines) ≡ rest_of_script closed calls (items_of (entries_of (numbered n (bytes ∷ lines))))
+  script_line : read_from n (outside closed calls) (bytes ∷ lines) ≡ rest_of_script closed calls (items_of (line_entries (numbered n (bytes ∷ lines))))
   script_line =
       script_meets (command_of n (words_of bytes)) (fits n (words_of bytes))
       ∙ either_way (begins_with (codes "client") (words_of bytes)) (begins_edit (words_of bytes)) (begins_group (words_of bytes))

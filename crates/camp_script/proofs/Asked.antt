@@ -1,5 +1,5 @@
 -- The meaning of a line agrees with what its first words begin, and can be represented.
-use Rattle.camp_script.proofs.Common.{◌≡◌, ℕ, Bool, true, false, ◌&&◌, ◌||◌, ◌==◌, ◌<◌, ◌≤◌, nat_le, cond, List, [], ◌∷◌, length, drop, slice_index, codes, refl, sym, ap, subst, ◌∙◌, Result, Ok, ⊎_elim, arith, nat_tests, cases_Bool, both_ways, and_parts, IsTrue, bytes_eq, list_all, is_between, is_name, is_path, Primitive, Add, Remove, Call, IsScriptCall, IsChange, IsListed, AreNames, begins_with, begins_edit, begins_group, LineFault, GroupLine, NoChange, WholeChange, EditChange, EndGroup, whole_change, edit_change, change_of, group_line_of, Command, Nothing, Ask, BeginEdit, BeginGroup, BeginSection, branch_line, whole_record, edit_record, record_of, record_line, listed, pull_line, obliterate_line, branch_at, question, command, command_of, ◌>>=◌, no_words, one_word, two_words, name_at, names_at, path_at, number_at, is_line_number}
+use Rattle.camp_script.proofs.Common.{◌≡◌, ℕ, Bool, true, false, ◌&&◌, ◌||◌, ◌==◌, ◌<◌, ◌≤◌, nat_le, cond, List, [], ◌∷◌, length, drop, slice_index, codes, refl, sym, ap, subst, ◌∙◌, Result, Ok, ⊎_elim, arith, nat_tests, cases_Bool, both_ways, and_parts, IsTrue, bytes_eq, list_all, is_between, is_name, is_path, Primitive, Add, Remove, Call, IsScriptCall, IsChange, IsListed, AreNames, begins_with, begins_edit, begins_group, LineFault, GroupLine, NoChange, WholeChange, EditChange, EndGroup, whole_change, edit_change, change_of, group_line_of, Command, Nothing, Ask, BeginEdit, BeginGroup, BeginSection, branch_line, whole_record, edit_record, record_of, record_line, names_or_all, pull_line, obliterate_line, branch_at, question, command, command_of, ◌>>=◌, no_words, one_word, two_words, name_at, names_at, path_at, number_at, is_line_number}
 use Rattle.std.proofs.lemmas.Slice.Eq.{bytes_eq-Decides}
 use Rattle.camp_call.specs.declared.calls.Call.TheVariants as call
 use Rattle.camp_script.proofs.Holding.{Holds, fails, bind, either, behind}
@@ -95,7 +95,7 @@ module _ (word : List ℕ) (words : List (List ℕ)) (skipped : (slice_index wor
   no_group : begins_group (word ∷ words) ≡ false
   no_group = ap (λ b. b && begins_with (codes "group") (drop 3 (word ∷ words))) (no_comment word (codes "record") skipped refl)
 
-listed_good : (names : List (List ℕ)) → AreNames names → IsListed (listed names)
+listed_good : (names : List (List ℕ)) → AreNames names → IsListed (names_or_all names)
 listed_good [] h = tt
 listed_good (name ∷ names) h = (omega arith, h)
 

@@ -1,5 +1,5 @@
 -- The canonical text of a call, line by line.
-use Rattle.camp_script.proofs.Common.{◌≡◌, ℕ, ◌≤◌, ◌==◌, true, false, List, [], ◌∷◌, ◌++◌, map, codes, count_by, refl, sym, ap, ◌∙◌, append_assoc, append-nil, arith, Ok, flat_map, flat_map-cons, AllByRecursion, join_with_byte, Primitive, Add, Remove, Hunk, is_writing, Call, lines_of, words_of, line_text, signed_line, Lines, is_line, IsChange, IsScriptCall, call_text, change_body, change_text, record_text, section_text, script_of, call_words}
+use Rattle.camp_script.proofs.Common.{◌≡◌, ℕ, ◌≤◌, ◌==◌, true, false, List, [], ◌∷◌, ◌++◌, map, codes, count_by, refl, sym, ap, ◌∙◌, append_assoc, append-nil, arith, Ok, flat_map, flat_map-cons, AllByRecursion, join_with_byte, Primitive, Add, Remove, Hunk, is_writing, Call, lines_of, words_of, line_text, signed_line, Lines, is_line, IsChange, IsScriptCall, call_text, change_body, canonical_change, record_text, section_text, script_of, call_words}
 use Rattle.camp_call.specs.declared.calls.Call.TheVariants as call
 use Rattle.camp_script.specs.Canonical.{change_head, script_text}
 use Rattle.camp_script.proofs.CanonicalCalls.{next_line, reads_back, regrouped, words_are}
@@ -63,18 +63,18 @@ body_read (Hunk edit) rest h =
     ∙ sym (regrouped_lines minus plus (codes "end" ∷ []) (lines_of rest))
 body_read change rest h = refl
 
-change_read : (change : Primitive) (rest : List ℕ) → IsChange change → lines_of (change_text change ++ rest) ≡ change_lines change ++ lines_of rest
+change_read : (change : Primitive) (rest : List ℕ) → IsChange change → lines_of (canonical_change change ++ rest) ≡ change_lines change ++ lines_of rest
 change_read change rest h =
     ap lines_of (append_assoc (line_text (change_head change)) (change_body change) rest)
     ∙ first_words (change_head change) (change_body change ++ rest) (head_are change h)
     ∙ ap (λ ls. join_with_byte 32 (change_head change) ∷ ls) (body_read change rest h)
 
-changes_read : (changes : List Primitive) (rest : List ℕ) → AllByRecursion IsChange changes → lines_of (flat_map change_text changes ++ rest) ≡ flat_map change_lines changes ++ lines_of rest
+changes_read : (changes : List Primitive) (rest : List ℕ) → AllByRecursion IsChange changes → lines_of (flat_map canonical_change changes ++ rest) ≡ flat_map change_lines changes ++ lines_of rest
 changes_read [] rest h = refl
 changes_read (change ∷ changes) rest h =
-    let text = flat_map change_text changes in
-    ap (λ t. lines_of (t ++ rest)) (flat_map-cons change_text change changes)
-    ∙ ap lines_of (append_assoc (change_text change) text rest)
+    let text = flat_map canonical_change changes in
+    ap (λ t. lines_of (t ++ rest)) (flat_map-cons canonical_change change changes)
+    ∙ ap lines_of (append_assoc (canonical_change change) text rest)
     ∙ change_read change (text ++ rest) h.0
     ∙ ap (λ ls. change_lines change ++ ls) (changes_read changes rest h.1)
     ∙ sym (append_assoc (change_lines change) (flat_map change_lines changes) (lines_of rest))
@@ -82,10 +82,10 @@ changes_read (change ∷ changes) rest h =
 
 -- a group, by the words of its first line
 group_read : (words : List (List ℕ)) (changes : List Primitive) (rest : List ℕ) → AreWords words → AllByRecursion IsChange changes
-    → lines_of (((line_text words ++ flat_map change_text changes) ++ line_text (codes "done" ∷ [])) ++ rest)
+    → lines_of (((line_text words ++ flat_map canonical_change changes) ++ line_text (codes "done" ∷ [])) ++ rest)
     ≡ (join_with_byte 32 words ∷ (flat_map change_lines changes ++ codes "done" ∷ [])) ++ lines_of rest
 group_read words changes rest are h =
-    let text = flat_map change_text changes in
+    let text = flat_map canonical_change changes in
     let done = line_text (codes "done" ∷ []) in
     ap lines_of (regrouped (line_text words) text done rest)
     ∙ first_words words (text ++ (done ++ rest)) are
@@ -123,9 +123,9 @@ words_called c h = words_joined (first_words_of c) (words_are c h)
 abbrev pub EndsWithFeed : List ℕ → Type 0
 EndsWithFeed bytes = (front : List ℕ) × (bytes ≡ front ++ 10 ∷ [])
 
-group_ends : (words : List (List ℕ)) (changes : List Primitive) → EndsWithFeed ((line_text words ++ flat_map change_text changes) ++ line_text (codes "done" ∷ []))
+group_ends : (words : List (List ℕ)) (changes : List Primitive) → EndsWithFeed ((line_text words ++ flat_map canonical_change changes) ++ line_text (codes "done" ∷ []))
 group_ends words changes =
-    let front = line_text words ++ flat_map change_text changes in
+    let front = line_text words ++ flat_map canonical_change changes in
     (front ++ codes "done", sym (append_assoc front (codes "done") (10 ∷ [])))
 
 alone_ends : (words : List (List ℕ)) (change : Primitive) → EndsWithFeed (line_text words ++ change_body change)

@@ -3,7 +3,7 @@ use Rattle.camp_script.proofs.Common.{◌≡◌, ℕ, ◌+◌, ◌^◌, ◌<◌,
 use Rattle.camp_base.specs.declared.TheConstants.{MAX_NAME_LENGTH, MAX_PATH_LENGTH}
 use Rattle.camp_call.specs.declared.calls.Call.TheVariants as call
 use Rattle.camp_prim.specs.Commuting.{path_of}
-use Rattle.camp_script.specs.Canonical.{ReadsBack, IsScriptCall, IsChange, AreLines, AreNames, IsListed, change_head, change_body, change_text, record_text, call_text, section_text, client_text, script_text}
+use Rattle.camp_script.specs.Canonical.{ReadsBack, IsScriptCall, IsChange, AreLines, AreNames, IsListed, change_head, change_body, canonical_change, record_text, call_text, section_text, client_text, script_text}
 use Rattle.camp_script.proofs.CanonicalLines.{both, all_weaker, is_word, is_word_byte, is_one_line, AreWords, first_line, first_words, words_joined}
 use Rattle.camp_script.proofs.Agreement.{reads_as_defined}
 use Rattle.camp_script.proofs.CanonicalNumbers.{decimal_is_word, decimal_is_line_number, value_of-decimal}
@@ -246,22 +246,22 @@ module _ (closed : List (List Call)) (done : List Call) (branch name : List ℕ)
 
   -- the changes of a group
   changes_read : (n : ℕ) (before changes : List Primitive) (rest : List ℕ) → length before + length changes ≤ 64 → AllByRecursion IsChange changes
-      → Reads n (in_group before) (flat_map change_text changes ++ rest) (in_group (before ++ changes)) rest
+      → Reads n (in_group before) (flat_map canonical_change changes ++ rest) (in_group (before ++ changes)) rest
   changes_read n before [] rest few h = record { line = n; is = ap (λ cs. read_from n (in_group cs) (lines_of rest)) (sym (append-nil before)) }
   changes_read n before (change ∷ changes) rest few h =
-      let text = flat_map change_text changes in
+      let text = flat_map canonical_change changes in
       let long : length (before ++ change ∷ []) ≡ length before + 1 = length-append before (change ∷ []) in
-      same_bytes (flat_map change_text (change ∷ changes) ++ rest) _ (ap (λ t. t ++ rest) (flat_map-cons change_text change changes) ∙ regrouped (line_text (change_head change)) (change_body change) text rest)
+      same_bytes (flat_map canonical_change (change ∷ changes) ++ rest) _ (ap (λ t. t ++ rest) (flat_map-cons canonical_change change changes) ∙ regrouped (line_text (change_head change)) (change_body change) text rest)
       (then (change_read n before change (text ++ rest) (omega arith) h.0) (λ k.
       subst (λ cs. Reads k (in_group (before ++ change ∷ [])) (text ++ rest) (in_group cs) rest) (append_assoc before (change ∷ []) changes)
       (changes_read k (before ++ change ∷ []) changes rest (omega (arith, long)) h.1)))
 
 -- a patch whose changes are in a group
 group_read : (n : ℕ) (closed : List (List Call)) (done : List Call) (branch name : List ℕ) (changes : List Primitive) (rest : List ℕ) → is_name branch ≡ true → is_name name ≡ true → 1 ≤ length changes → length changes ≤ 64 → AllByRecursion IsChange changes → is_full done ≡ false
-    → Reads n (after closed done) (((line_text (codes "record" ∷ branch ∷ name ∷ codes "group" ∷ []) ++ flat_map change_text changes) ++ line_text (codes "done" ∷ [])) ++ rest) (after closed (done ++ call.Record branch name changes ∷ [])) rest
+    → Reads n (after closed done) (((line_text (codes "record" ∷ branch ∷ name ∷ codes "group" ∷ []) ++ flat_map canonical_change changes) ++ line_text (codes "done" ∷ [])) ++ rest) (after closed (done ++ call.Record branch name changes ∷ [])) rest
 group_read n closed done branch name changes rest b m some few h room =
     let first = line_text (codes "record" ∷ branch ∷ name ∷ codes "group" ∷ []) in
-    let text = flat_map change_text changes in
+    let text = flat_map canonical_change changes in
     let end = line_text (codes "done" ∷ []) in
     same_bytes (((first ++ text) ++ end) ++ rest) (first ++ (text ++ (end ++ rest))) (regrouped first text end rest)
     (then (words_read n closed done (codes "record" ∷ branch ∷ name ∷ codes "group" ∷ []) (text ++ (end ++ rest)) (BeginGroup branch name) _

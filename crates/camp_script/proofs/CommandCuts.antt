@@ -3,7 +3,7 @@ use Rattle.camp_script.proofs.Common.{◌≡◌, ℕ, ◌+◌, ◌≤◌, ◌&&�
 use Rattle.std.specs.Option.{is_some}
 use Rattle.camp_script.specs.Gives.{Gives, GivesFaultFirst}
 use Rattle.std.proofs.lemmas.Slice.Eq.{bytes_eq-Decides}
-use Rattle.camp_script.specs.CommandLines.{ComesTo, HasRead, entry_lines, taken, taken_by, wanted_after, wanted_lines, wants}
+use Rattle.camp_script.specs.CommandLines.{GivesScript, HasRead, entry_lines, taken, taken_by, wanted_after, wanted_lines, wants}
 use Rattle.camp_script.specs.Inside.Steps.{wanted_in}
 use Rattle.camp_script.specs.declared.command_lines.CommandLines.{CommandLines}
 use Rattle.camp_script.specs.declared.cuts.Wanted.{Wanted}
@@ -169,8 +169,8 @@ first_read command first begun starts number fault given wanted =
     let read = subst (λ (p : Progress). after_line 1 p.open_record p first ≡ Ok command.reading) starts given in
     record {
       takes = λ others. first_takes first others command.wanted (wanted ∙ opened_by (command_of 1 (words_of first)) command.reading read);
-      reads = λ others. subst (λ n. ComesTo command.fault n command.reading others (script_of_lines (first ∷ others))) (sym number)
-          (subst (λ f. ComesTo f 1 command.reading others (script_of_lines (first ∷ others))) (sym fault) (first_comes first others (Ok command.reading) read));
+      reads = λ others. subst (λ n. GivesScript command.fault n command.reading others (script_of_lines (first ∷ others))) (sym number)
+          (subst (λ f. GivesScript f 1 command.reading others (script_of_lines (first ∷ others))) (sym fault) (first_comes first others (Ok command.reading) read));
     }
 
 pub first_faulty : (command : CommandLines) (first : List ℕ) (begun : Progress) (fault : LineFault) (met : ScriptFault) → begun ≡ start → command.fault ≡ Some (Line fault)
@@ -180,13 +180,13 @@ first_faulty command first begun fault met starts told is given wanted =
     (subst (λ f. IsFaultFirst f (after_line 1 begun.open_record begun first)) is given) in
     record {
       takes = λ others. first_takes first others command.wanted (wanted ∙ alone_by (command_of 1 (words_of first)) fault read);
-      reads = λ others. subst (λ f. ComesTo f command.number command.reading others (script_of_lines (first ∷ others))) (sym told)
+      reads = λ others. subst (λ f. GivesScript f command.number command.reading others (script_of_lines (first ∷ others))) (sym told)
           (first_comes first others (Err fault) read);
     }
 
 -- a fault stays, whatever is read after it
 fault_stays : (f : Option ScriptFault) (n m : ℕ) (one other : Progress) (these those : List (List ℕ)) (script : Result (List (List Call)) LineFault)
-    → is_some f ≡ true → ComesTo f n one these script → ComesTo f m other those script
+    → is_some f ≡ true → GivesScript f n one these script → GivesScript f m other those script
 fault_stays None n m one other these those script faulty comes = absurd (false≢true faulty)
 fault_stays (Some fault) n m one other these those script faulty comes = comes
 
@@ -206,36 +206,36 @@ module _ (old new : CommandLines) (first line : List ℕ) (rest : List (List ℕ
       ∙ ap (λ b. rest ++ cond b (line ∷ wanted_lines (wanted_after old.wanted line) others) []) more
       ∙ ap (λ w. rest ++ (line ∷ wanted_lines w others)) (sym after) ∙ sym (append_assoc rest (line ∷ []) (wanted_lines new.wanted others))
 
-  next_has : ((others : List (List ℕ)) → ComesTo new.fault new.number new.reading others (script others)) → HasRead new first (rest ++ line ∷ [])
+  next_has : ((others : List (List ℕ)) → GivesScript new.fault new.number new.reading others (script others)) → HasRead new first (rest ++ line ∷ [])
   next_has comes = record {
     takes = next_takes;
-    reads = λ others. subst (λ ls. ComesTo new.fault new.number new.reading others (script_of_lines (first ∷ ls))) (sym (append_assoc rest (line ∷ []) others)) (comes others);
+    reads = λ others. subst (λ ls. GivesScript new.fault new.number new.reading others (script_of_lines (first ∷ ls))) (sym (append_assoc rest (line ∷ []) others)) (comes others);
   }
 
   pub passed_over : is_some old.fault ≡ true → new.fault ≡ old.fault → HasRead new first (rest ++ line ∷ [])
   passed_over faulty same =
-      next_has (λ others. subst (λ f. ComesTo f new.number new.reading others (script others)) (sym same)
+      next_has (λ others. subst (λ f. GivesScript f new.number new.reading others (script others)) (sym same)
       (fault_stays old.fault old.number new.number old.reading new.reading (line ∷ others) others (script others) faulty (has.reads (line ∷ others))))
 
   pub out_of_memory : new.fault ≡ Some Memory → HasRead new first (rest ++ line ∷ [])
-  out_of_memory now = next_has (λ others. subst (λ f. ComesTo f new.number new.reading others (script others)) (sym now) tt)
+  out_of_memory now = next_has (λ others. subst (λ f. GivesScript f new.number new.reading others (script others)) (sym now) tt)
 
   module _ (number : ℕ) (none : old.fault ≡ None) (counts : number ≡ old.number + 1) where
     comes : (r : Result Progress LineFault) → after_line number old.reading.open_record old.reading line ≡ r → (others : List (List ℕ))
         → script others ≡ (r >>= λ next. read_from (number + 1) next others)
     comes r read others =
-        subst (λ f. ComesTo f old.number old.reading (line ∷ others) (script others)) none (has.reads (line ∷ others))
+        subst (λ f. GivesScript f old.number old.reading (line ∷ others) (script others)) none (has.reads (line ∷ others))
         ∙ ap (λ n. after_line n old.reading.open_record old.reading line >>= λ next. read_from (n + 1) next others) (sym counts)
         ∙ ap (λ r. r >>= λ next. read_from (number + 1) next others) read
 
     pub next_read : new.fault ≡ old.fault → new.number ≡ number → after_line number old.reading.open_record old.reading line ≡ Ok new.reading → HasRead new first (rest ++ line ∷ [])
     next_read same is read =
-        next_has (λ others. subst (λ f. ComesTo f new.number new.reading others (script others)) (sym (same ∙ none))
+        next_has (λ others. subst (λ f. GivesScript f new.number new.reading others (script others)) (sym (same ∙ none))
         (comes (Ok new.reading) read others ∙ ap (λ n. read_from (n + 1) new.reading others) (sym is)))
 
     pub next_faulty : (fault : ScriptFault) → new.fault ≡ Some fault → IsFaultFirst fault (after_line number old.reading.open_record old.reading line) → HasRead new first (rest ++ line ∷ [])
     next_faulty (Line fault) now read =
-        next_has (λ others. subst (λ f. ComesTo f new.number new.reading others (script others)) (sym now) (comes (Err fault) read others))
+        next_has (λ others. subst (λ f. GivesScript f new.number new.reading others (script others)) (sym now) (comes (Err fault) read others))
     next_faulty Memory now read = out_of_memory now
 
 -- ---- the result
@@ -246,13 +246,13 @@ gives (Err (Line fault)) reading first = first
 gives (Err Memory) reading first = tt
 
 module _ (command : CommandLines) (first : List ℕ) (rest : List (List ℕ)) (has : HasRead command first rest) where
-  all_read : ComesTo command.fault command.number command.reading [] (script_of_lines (first ∷ rest))
-  all_read = subst (λ ls. ComesTo command.fault command.number command.reading [] (script_of_lines (first ∷ ls))) (append-nil rest) (has.reads [])
+  all_read : GivesScript command.fault command.number command.reading [] (script_of_lines (first ∷ rest))
+  all_read = subst (λ ls. GivesScript command.fault command.number command.reading [] (script_of_lines (first ∷ ls))) (append-nil rest) (has.reads [])
 
   pub comes_to_fault : (fault : ScriptFault) → command.fault ≡ Some fault → IsFaultOf fault (script_of_lines (first ∷ rest))
-  comes_to_fault fault is = subst (λ f. ComesTo f command.number command.reading [] (script_of_lines (first ∷ rest))) is all_read
+  comes_to_fault fault is = subst (λ f. GivesScript f command.number command.reading [] (script_of_lines (first ∷ rest))) is all_read
 
   pub comes_to_script : (r : Result (List (List Call)) ScriptFault) → command.fault ≡ None → GivesFaultFirst r (finished command.reading command.reading.open_record) → Gives r (script_of_lines (first ∷ rest))
   comes_to_script r none ends =
-      subst (Gives r) (sym (subst (λ f. ComesTo f command.number command.reading [] (script_of_lines (first ∷ rest))) none all_read))
+      subst (Gives r) (sym (subst (λ f. GivesScript f command.number command.reading [] (script_of_lines (first ∷ rest))) none all_read))
       (gives r (finished command.reading command.reading.open_record) ends)

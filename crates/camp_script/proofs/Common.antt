@@ -19,9 +19,9 @@ pub use Rattle.camp_call.specs.declared.calls.Call.{Call}
 pub use Rattle.camp_prim.specs.Hunks.{Edit, IsInRange}
 pub use Rattle.camp_prim.specs.declared.primitives.Primitive.{Primitive}
 pub use Rattle.camp_prim.specs.declared.primitives.Primitive.TheVariants.{Add, Hunk, Remove}
-pub use Rattle.camp_script.specs.Canonical.{AreLines, AreNames, IsChange, IsListed, IsScriptCall, call_text, change_body, change_text, record_text, section_text}
-pub use Rattle.camp_script.specs.Changes.{EditChange, EndGroup, GroupLine, NoChange, WholeChange, after_body_line, after_entry, change_of, edit_change, edit_of, ended, group_line_of, group_of, grown, side_at, whole_change, with_change, with_new, with_old}
-pub use Rattle.camp_script.specs.Commands.{Ask, BeginEdit, BeginGroup, BeginSection, Command, Nothing, branch_at, branch_line, command, command_of, edit_record, listed, obliterate_line, pull_line, question, record_line, record_of, short_command, whole_record}
+pub use Rattle.camp_script.specs.Canonical.{AreLines, AreNames, IsChange, IsListed, IsScriptCall, call_text, change_body, canonical_change, record_text, section_text}
+pub use Rattle.camp_script.specs.Changes.{EditChange, EndGroup, GroupLine, NoChange, WholeChange, after_body_line, after_entry, change_of, edit_change, parsed_edit, ended_edit, group_line_of, group_of, grown, side_at, whole_change, with_change, with_new, with_old}
+pub use Rattle.camp_script.specs.Commands.{Ask, BeginEdit, BeginGroup, BeginSection, Command, Nothing, branch_at, branch_line, command, command_of, edit_record, names_or_all, obliterate_line, pull_line, question, record_line, record_of, short_command, whole_record}
 pub use Rattle.camp_script.specs.Gives.{HasNoFault, IsFaultFirst, IsFaultOf}
 pub use Rattle.camp_script.specs.HistoryTexts.{call_words, entries_text, entry_text, listed_words}
 pub use Rattle.camp_script.specs.Inside.Progress.{OpenEdit, OpenRecord, Progress, after_call, after_change, after_head, after_record, finished, not_ended, record_at, start, with_call, with_edit, with_one_more, with_open_edit, with_record}
@@ -30,11 +30,12 @@ pub use Rattle.camp_script.specs.Inside.Steps.{SaysSomething, after_body, after_
 pub use Rattle.camp_script.specs.Keeping.{CanStand, calls_of, kept_text}
 pub use Rattle.camp_script.specs.Lines.{is_blank, is_skipped, lines_of, without_empty_last, without_end, words_of}
 pub use Rattle.camp_script.specs.Outputs.{HaveTexts, answers_text, client_answers, clients_answers}
-pub use Rattle.camp_script.specs.Pieces.{Entry, Item, NumberedLine, begins_edit, begins_group, begins_with, clients_of, ends_body, ends_group, entries_of, entry_words, first_section, items_of, numbered, pieces, up_to, words_on}
+pub use Rattle.camp_script.specs.Pieces.{Entry, Item, NumberedLine, begins_edit, begins_group, begins_with, clients_of, ends_body, ends_group, line_entries, entry_words, first_section, items_of, numbered, pieces, up_to, words_on}
 pub use Rattle.camp_script.specs.Reading.{after_client, after_item, is_full, script_of, script_of_lines, with_asked}
 pub use Rattle.camp_script.specs.Texts.{HasText, file_text, line_text, name_text, pair_text, signed_line, tree_text}
 pub use Rattle.camp_script.specs.Wanting.{ScriptMayWant, first_command}
-pub use Rattle.camp_script.specs.Words.{in_turn, is_line_number, name_at, names_at, no_words, number_at, one_word, path_at, two_words, value_of, ◌>>=◌}
+pub use Rattle.camp_script.specs.Words.{in_turn, is_line_number, name_at, names_at, no_words, number_at, one_word, path_at, two_words, value_of}
+pub use Rattle.camp_base.specs.Results.{◌>>=◌}
 pub use Rattle.camp_script.specs.declared.faults.LineFault.{LineFault}
 pub use Rattle.camp_script.specs.declared.faults.ScriptFault.{ScriptFault}
 pub use Rattle.camp_script.specs.declared.faults.ScriptFault.TheVariants.{Line, Memory}

@@ -1,5 +1,5 @@
 -- The line `end` of a body with a fault.
-use Rattle.camp_script.proofs.Common.{arith, nat_tests, ◌≡◌, ℕ, Bool, true, false, List, [], ◌∷◌, ◌++◌, ◌==◌, length, if◌then◌else◌, refl, ap, Result, Ok, Err, Primitive, Hunk, LineFault, ScriptFault, Line, Memory, ◌>>=◌, ended, IsFaultFirst, HasNoFault, OpenEdit, OpenRecord, Progress, after_change}
+use Rattle.camp_script.proofs.Common.{arith, nat_tests, ◌≡◌, ℕ, Bool, true, false, List, [], ◌∷◌, ◌++◌, ◌==◌, length, if◌then◌else◌, refl, ap, Result, Ok, Err, Primitive, Hunk, LineFault, ScriptFault, Line, Memory, ◌>>=◌, ended_edit, IsFaultFirst, HasNoFault, OpenEdit, OpenRecord, Progress, after_change}
 use Rattle.camp_script.specs.Inside.Asking.{ended_change}
 use Rattle.camp_script.specs.Inside.Steps.{after_end}
 
@@ -26,4 +26,4 @@ fails_first line progress begun (Err told) Memory is = is
 
 -- a fault of the body is one of the line
 pub end_fails : (line : ℕ) (progress : Progress) (begun : OpenRecord) (edit : OpenEdit) (fault : ScriptFault) → IsFaultFirst fault (ended_change line edit.edit) → IsFaultFirst fault (after_end line progress begun edit)
-end_fails line progress begun edit fault is = fails_first line progress begun (ended line edit.edit) fault is
+end_fails line progress begun edit fault is = fails_first line progress begun (ended_edit line edit.edit) fault is

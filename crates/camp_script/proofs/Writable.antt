@@ -1,5 +1,5 @@
 -- The calls of whatever is read are calls that a script can contain, within its limits.
-use Rattle.camp_script.proofs.Common.{◌≡◌, ℕ, ◌+◌, ◌^◌, ◌<◌, ◌≤◌, Bool, true, false, ◌&&◌, ◌==◌, nat_lt, nat_le, cond, List, [], ◌∷◌, ◌++◌, length, count_by, ◌∙◌, subst, None, Some, Option, arith, length-append, nat_tests, sum_by-append, sum_by-cons, AllByRecursion, is_name, is_path, is_line, Primitive, Hunk, is_writing, Call, Edit, Command, Nothing, Ask, BeginEdit, BeginGroup, BeginSection, command_of, lines_of, words_of, is_full, obey, heed, after_body, after_record_line, after_line, read_from, IfOk, IsTrue, bytes_eq, codes, GroupLine, NoChange, WholeChange, EditChange, EndGroup, group_line_of, side_at, with_old, with_new, grown, ended, OpenEdit, OpenRecord, Progress, start, with_call, with_record, after_head, after_record, after_change, with_one_more, finished, not_ended, record_at, with_edit, with_open_edit}
+use Rattle.camp_script.proofs.Common.{◌≡◌, ℕ, ◌+◌, ◌^◌, ◌<◌, ◌≤◌, Bool, true, false, ◌&&◌, ◌==◌, nat_lt, nat_le, cond, List, [], ◌∷◌, ◌++◌, length, count_by, ◌∙◌, subst, None, Some, Option, arith, length-append, nat_tests, sum_by-append, sum_by-cons, AllByRecursion, is_name, is_path, is_line, Primitive, Hunk, is_writing, Call, Edit, Command, Nothing, Ask, BeginEdit, BeginGroup, BeginSection, command_of, lines_of, words_of, is_full, obey, heed, after_body, after_record_line, after_line, read_from, IfOk, IsTrue, bytes_eq, codes, GroupLine, NoChange, WholeChange, EditChange, EndGroup, group_line_of, side_at, with_old, with_new, grown, ended_edit, OpenEdit, OpenRecord, Progress, start, with_call, with_record, after_head, after_record, after_change, with_one_more, finished, not_ended, record_at, with_edit, with_open_edit}
 use Rattle.camp_script.proofs.TextLemmas.{all_more}
 use Rattle.camp_call.specs.declared.calls.Call.TheVariants as call
 use Rattle.camp_script.specs.Canonical.{IsScriptCall, IsChange, AreLines, CanBeWritten, ReadIsWritable}
@@ -123,7 +123,7 @@ module _ (n : ℕ) (p : Progress) (g : GoodCalls p) where
   change_good : (begun : OpenRecord) (change : Primitive) → GoodRecord p.calls (with_one_more begun change) → Holds Good (after_change n p begun change)
   change_good begun change h = either Good begun.grouped _ _ (λ _. record { value = opens (with_one_more begun change) h }) (λ _. record_ends (with_one_more begun change) h)
 
-  ended_good : (changes : List Primitive) (edit : Edit) → GoodEdit changes edit → Holds (λ edit. (length changes < 64) × IsChange (Hunk edit)) (ended n edit)
+  ended_good : (changes : List Primitive) (edit : Edit) → GoodEdit changes edit → Holds (λ edit. (length changes < 64) × IsChange (Hunk edit)) (ended_edit n edit)
   ended_good changes edit k =
       either (λ edit. (length changes < 64) × IsChange (Hunk edit)) (length edit.old + length edit.new == 0) _ _ (λ _. fails)
       (λ some. either (λ edit. (length changes < 64) × IsChange (Hunk edit)) (nat_lt (2 ^ 30) (edit.line + length edit.old + length edit.new)) _ _ (λ _. fails)
@@ -144,7 +144,7 @@ module _ (n : ℕ) (p : Progress) (g : GoodCalls p) where
   body_good : (begun : OpenRecord) (body : OpenEdit) → GoodRecord p.calls begun → GoodEdit begun.changes body.edit → (bytes : List ℕ) → Holds Good (after_body n p begun body bytes)
   body_good begun body h k bytes =
       either Good (bytes_eq bytes (codes "end")) _ _
-      (λ _. bind (λ edit. (length begun.changes < 64) × IsChange (Hunk edit)) Good (ended n body.edit) _ (ended_good begun.changes body.edit k)
+      (λ _. bind (λ edit. (length begun.changes < 64) × IsChange (Hunk edit)) Good (ended_edit n body.edit) _ (ended_good begun.changes body.edit k)
       (λ edit l. change_good begun (Hunk edit) (changed begun (Hunk edit) h l.0 l.1)))
       (λ _. bind (GoodEdit begun.changes) Good (grown n body.edit bytes) _ (grown_good begun.changes body.edit k bytes)
       (λ edit l. record { value = opens (with_open_edit begun (record { opened = body.opened; edit = edit })) (edited begun (record { opened = body.opened; edit = edit }) h l) }))

@@ -1,5 +1,5 @@
 -- The canonical text of calls, growing piece by piece.
-use Rattle.camp_script.proofs.Common.{◌≡◌, ℕ, ◌+◌, ◌<◌, List, [], ◌∷◌, ◌++◌, codes, get_or, length, take, sym, ap, subst, ◌∙◌, append_assoc, append-nil, Result, flat_map-append, take_more, decimal, flat_map, AllByRecursion, Primitive, Add, Remove, Hunk, Call, call_text, change_text, change_body, record_text, section_text, spaced, line_text, OnOk, CanStand, calls_of}
+use Rattle.camp_script.proofs.Common.{◌≡◌, ℕ, ◌+◌, ◌<◌, List, [], ◌∷◌, ◌++◌, codes, get_or, length, take, sym, ap, subst, ◌∙◌, append_assoc, append-nil, Result, flat_map-append, take_more, decimal, flat_map, AllByRecursion, Primitive, Add, Remove, Hunk, Call, call_text, canonical_change, change_body, record_text, section_text, spaced, line_text, OnOk, CanStand, calls_of}
 use Rattle.camp_script.specs.Inside.Written.{patch_text}
 use Rattle.std.proofs.lemmas.List.{map-append}
 use Rattle.camp_script.proofs.TextLemmas.{all_more}
@@ -22,9 +22,9 @@ record_front branch name = (codes "record" ++ spaced (branch ∷ name ∷ [])) +
 
 module _ (branch name : List ℕ) where
   group_begun : (changes : List Primitive)
-      → line_text (codes "record" ∷ branch ∷ name ∷ codes "group" ∷ []) ++ flat_map change_text changes ++ line_text (codes "done" ∷ []) ≡ record_front branch name ++ (line_text (codes "group" ∷ []) ++ flat_map change_text changes ++ line_text (codes "done" ∷ []))
+      → line_text (codes "record" ∷ branch ∷ name ∷ codes "group" ∷ []) ++ flat_map canonical_change changes ++ line_text (codes "done" ∷ []) ≡ record_front branch name ++ (line_text (codes "group" ∷ []) ++ flat_map canonical_change changes ++ line_text (codes "done" ∷ []))
   group_begun changes =
-      let each = flat_map change_text changes in
+      let each = flat_map canonical_change changes in
       ap (λ t. t ++ line_text (codes "done" ∷ [])) (begun (codes "record") (branch ∷ name ∷ []) (codes "group") [] each)
       ∙ append_assoc (record_front branch name) (line_text (codes "group" ∷ []) ++ each) (line_text (codes "done" ∷ []))
 

@@ -30,15 +30,15 @@ change_body (Hunk hunk) =
     flat_map (signed_line minus_sign) hunk.old ++ flat_map (signed_line plus_sign) hunk.new ++ line_text (codes "end" ∷ [])
 
 -- a change of a group
-abbrev pub change_text : Primitive → List ℕ
-change_text change = line_text (change_head change) ++ change_body change
+abbrev pub canonical_change : Primitive → List ℕ
+canonical_change change = line_text (change_head change) ++ change_body change
 
 -- a record: a single change is on the line of the record, others are in a group
 abbrev pub record_text : List ℕ → List ℕ → List Primitive → List ℕ
 record_text branch name (change ∷ []) =
     line_text (codes "record" ∷ branch ∷ name ∷ change_head change) ++ change_body change
 record_text branch name changes =
-    line_text (codes "record" ∷ branch ∷ name ∷ codes "group" ∷ []) ++ flat_map change_text changes
+    line_text (codes "record" ∷ branch ∷ name ∷ codes "group" ∷ []) ++ flat_map canonical_change changes
     ++ line_text (codes "done" ∷ [])
 
 -- a call in a script: a record with its bodies; any other call on one line, as in a history

@@ -11,7 +11,8 @@ use Rattle.camp_script.specs.Faults.{fault_at}
 use Rattle.camp_script.specs.Lines.{is_skipped}
 use Rattle.camp_script.specs.Pieces.{NumberedLine, Entry, ends_body, ends_group, entry_words}
 use Rattle.camp_script.specs.Signs.{minus_sign, plus_sign}
-use Rattle.camp_script.specs.Words.{◌>>=◌, in_turn, no_words, one_word, two_words, path_at, number_at}
+use Rattle.camp_script.specs.Words.{in_turn, no_words, one_word, two_words, path_at, number_at}
+use Rattle.camp_base.specs.Results.{◌>>=◌}
 use Rattle.camp_script.specs.declared.faults.FaultKind.TheVariants.{BadGroup, BadEdit, BadNumber, BadLine}
 use Rattle.camp_script.specs.declared.faults.FaultKind.TheVariants.{EditNotEnded, GroupNotEnded}
 use Rattle.camp_script.specs.declared.faults.LineFault.{LineFault}
@@ -38,8 +39,8 @@ grown line edit (sign ∷ bytes) =
 
 -- an edit whose `end` is on a line: a side has lines, and the edit's line and the counts of its old and new lines add
 -- up to at most 2^30
-abbrev pub ended : ℕ → Edit → Result Edit LineFault
-ended line edit =
+abbrev pub ended_edit : ℕ → Edit → Result Edit LineFault
+ended_edit line edit =
     if length edit.old + length edit.new == 0 then fault_at line BadEdit
     else (if nat_lt greatest_reach (edit.line + length edit.old + length edit.new) then fault_at line BadNumber
     else Ok edit)
@@ -47,12 +48,12 @@ ended line edit =
 -- an edit after a line of its body
 abbrev pub after_body_line : Edit → NumberedLine → Result Edit LineFault
 after_body_line edit line =
-    if ends_body line then ended line.number edit else grown line.number edit line.bytes
+    if ends_body line then ended_edit line.number edit else grown line.number edit line.bytes
 
 -- the change of an edit of a path, at an index of the changes: its body, line by line, ending with `end`; without
 -- `end`, the fault is at the line of the script that begins the edit
-abbrev pub edit_of : ℕ → List ℕ → ℕ → List NumberedLine → Result Primitive LineFault
-edit_of line path place body =
+abbrev pub parsed_edit : ℕ → List ℕ → ℕ → List NumberedLine → Result Primitive LineFault
+parsed_edit line path place body =
     in_turn after_body_line (record { path = path; line = place; old = []; new = [] }) body >>= λ edit.
     if list_any ends_body body then Ok (Hunk edit) else fault_at line EditNotEnded
 
@@ -94,7 +95,7 @@ abbrev pub with_change : List Primitive → Entry → GroupLine → Result (List
 with_change changes entry NoChange = Ok changes
 with_change changes entry (WholeChange change) = Ok (changes ++ change ∷ [])
 with_change changes entry (EditChange path place) =
-    edit_of entry.head.number path place entry.rest >>= λ change. Ok (changes ++ change ∷ [])
+    parsed_edit entry.head.number path place entry.rest >>= λ change. Ok (changes ++ change ∷ [])
 with_change changes entry EndGroup =
     if length changes == 0 then fault_at entry.head.number BadGroup else Ok changes
 

@@ -8,7 +8,7 @@ use Rattle.camp_script.specs.Gives.{IsFaultOf}
 use Rattle.camp_script.specs.Inside.Progress.{Progress}
 use Rattle.camp_script.specs.Inside.Steps.{read_from}
 use Rattle.camp_script.specs.Lines.{words_of}
-use Rattle.camp_script.specs.Pieces.{NumberedLine, Entry, begins_edit, begins_with, ends_body, ends_group, entries_of, numbered, up_to}
+use Rattle.camp_script.specs.Pieces.{NumberedLine, Entry, begins_edit, begins_with, ends_body, ends_group, line_entries, numbered, up_to}
 use Rattle.camp_script.specs.Reading.{script_of_lines}
 use Rattle.camp_script.specs.declared.command_lines.CommandLines.{CommandLines}
 use Rattle.camp_script.specs.declared.cuts.Wanted.{Wanted}
@@ -22,7 +22,7 @@ entry_lines entry = entry.head ∷ entry.rest
 
 -- the lines of a group: those of its entries, up to `done`
 abbrev pub group_lines : List NumberedLine → List NumberedLine
-group_lines lines = flat_map entry_lines (up_to ends_group (entries_of lines))
+group_lines lines = flat_map entry_lines (up_to ends_group (line_entries lines))
 
 -- what belongs to a first line, by what it asks for: a body if an edit begins; a group if one begins; else nothing,
 -- so a line with a fault is a command of its own
@@ -58,12 +58,12 @@ wanted_lines wanted (line ∷ lines) = if wants wanted then line ∷ wanted_line
 
 -- the result of a command: if no line had a fault, the script that the reader gives; else the fault of the line that
 -- had one. Says nothing of the script if memory ran out.
-abbrev pub ComesTo : Option ScriptFault → ℕ → Progress → List (List ℕ) → Result (List (List Call)) LineFault → Type 0
-ComesTo None number reading others script = script ≡ read_from (number + 1) reading others
-ComesTo (Some fault) number reading others script = IsFaultOf fault script
+abbrev pub GivesScript : Option ScriptFault → ℕ → Progress → List (List ℕ) → Result (List (List Call)) LineFault → Type 0
+GivesScript None number reading others script = script ≡ read_from (number + 1) reading others
+GivesScript (Some fault) number reading others script = IsFaultOf fault script
 
 -- a command has read its first line and these of the lines after it: the lines that belong to it are these and the
 -- wanted ones of the others, and reading on gives the script of all
 pub record HasRead (command : CommandLines) (first : List ℕ) (rest : List (List ℕ)) : Type 0 where
   pub takes : (others : List (List ℕ)) → taken first (rest ++ others) ≡ rest ++ wanted_lines command.wanted others
-  pub reads : (others : List (List ℕ)) → ComesTo command.fault command.number command.reading others (script_of_lines (first ∷ rest ++ others))
+  pub reads : (others : List (List ℕ)) → GivesScript command.fault command.number command.reading others (script_of_lines (first ∷ rest ++ others))

@@ -7,7 +7,8 @@ use Rattle.camp_call.specs.declared.calls.Call.{Call}
 use Rattle.camp_call.specs.declared.calls.Call.TheVariants as call
 use Rattle.camp_script.specs.Faults.{fault_at}
 use Rattle.camp_script.specs.Lines.{is_skipped}
-use Rattle.camp_script.specs.Words.{◌>>=◌, no_words, one_word, two_words, three_words}
+use Rattle.camp_script.specs.Words.{no_words, one_word, two_words, three_words}
+use Rattle.camp_base.specs.Results.{◌>>=◌}
 use Rattle.camp_script.specs.Words.{name_at, path_at, number_at, names_at}
 use Rattle.camp_script.specs.declared.faults.FaultKind.TheVariants.{UnknownCommand, WrongNumberOfWords}
 use Rattle.camp_script.specs.declared.faults.LineFault.{LineFault}
@@ -59,15 +60,15 @@ abbrev pub record_line : ℕ → List (List ℕ) → Result Command LineFault
 record_line line words = three_words line words >>= λ head. record_of line head.0 head.1 head.2 head.3
 
 -- the names that a pull lists; without a list it pulls all
-abbrev pub listed : List (List ℕ) → Option (List (List ℕ))
-listed [] = None
-listed (name ∷ names) = Some (name ∷ names)
+abbrev pub names_or_all : List (List ℕ) → Option (List (List ℕ))
+names_or_all [] = None
+names_or_all (name ∷ names) = Some (name ∷ names)
 
 -- `pull FROM TO` or `pull FROM TO NAME ..`, from `FROM` on
 abbrev pub pull_line : ℕ → List (List ℕ) → Result Command LineFault
 pull_line line (from ∷ to ∷ names) =
     name_at line from >>= λ from. name_at line to >>= λ to. names_at line names >>= λ names.
-    Ok (Ask (call.Pull from to (listed names)))
+    Ok (Ask (call.Pull from to (names_or_all names)))
 pull_line line others = fault_at line WrongNumberOfWords
 
 -- `obliterate BRANCH NAME ..`, from `BRANCH` on

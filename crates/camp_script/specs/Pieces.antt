@@ -72,8 +72,8 @@ abbrev pub Entry : Type 0
 Entry = Piece NumberedLine
 
 -- the entries of lines
-abbrev pub entries_of : List NumberedLine → List Entry
-entries_of lines = pieces (λ line. begins_edit (words_on line)) ends_body false lines
+abbrev pub line_entries : List NumberedLine → List Entry
+line_entries lines = pieces (λ line. begins_edit (words_on line)) ends_body false lines
 
 -- the words of the line of an entry
 abbrev pub entry_words : Entry → List (List ℕ)

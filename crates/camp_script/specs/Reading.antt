@@ -4,13 +4,14 @@ use Rattle.std.specs.Prelude.{List, [], ◌∷◌, ◌++◌, length, count_by, R
 use Rattle.camp_call.specs.Calls.{is_writing}
 use Rattle.camp_call.specs.declared.calls.Call.{Call}
 use Rattle.camp_call.specs.declared.calls.Call.TheVariants as call
-use Rattle.camp_script.specs.Changes.{edit_of, group_of}
+use Rattle.camp_script.specs.Changes.{parsed_edit, group_of}
 use Rattle.camp_script.specs.Commands.{Command, Nothing, Ask, BeginEdit, BeginGroup, BeginSection, command_of}
 use Rattle.camp_script.specs.Faults.{fault_at}
 use Rattle.camp_script.specs.Lines.{lines_of}
-use Rattle.camp_script.specs.Pieces.{Piece, Item, numbered, words_on, entries_of, items_of, item_line, first_section, clients_of}
+use Rattle.camp_script.specs.Pieces.{Piece, Item, numbered, words_on, line_entries, items_of, item_line, first_section, clients_of}
 use Rattle.camp_script.specs.Sections.{most_sections, most_writing_calls}
-use Rattle.camp_script.specs.Words.{◌>>=◌, in_turn}
+use Rattle.camp_script.specs.Words.{in_turn}
+use Rattle.camp_base.specs.Results.{◌>>=◌}
 use Rattle.camp_script.specs.declared.faults.FaultKind.TheVariants.{TooManyClients, TooManyCommands}
 use Rattle.camp_script.specs.declared.faults.LineFault.{LineFault}
 
@@ -34,7 +35,7 @@ with_asked calls item (Ask new) =
     else Ok (calls ++ new ∷ [])
 with_asked calls item (BeginEdit branch name path place) =
     room_at (item_line item).number calls >>= λ room.
-    edit_of (item_line item).number path place item.head.rest >>= λ change.
+    parsed_edit (item_line item).number path place item.head.rest >>= λ change.
     Ok (calls ++ call.Record branch name (change ∷ []) ∷ [])
 with_asked calls item (BeginGroup branch name) =
     room_at (item_line item).number calls >>= λ room. group_of (item_line item).number item.rest >>= λ changes.
@@ -55,7 +56,7 @@ after_client sections client =
 -- the script that lines represent: the calls of the opening, followed by those of each client
 abbrev pub script_of_lines : List (List ℕ) → Result (List (List Call)) LineFault
 script_of_lines lines =
-    let items = items_of (entries_of (numbered 1 lines)) in
+    let items = items_of (line_entries (numbered 1 lines)) in
     in_turn after_item [] (first_section items) >>= λ calls. in_turn after_client (calls ∷ []) (clients_of items)
 
 -- the script that bytes represent

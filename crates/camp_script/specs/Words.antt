@@ -3,17 +3,12 @@ use Rattle.std.specs.Prelude.{ℕ, ◌+◌, ◌*◌, ◌-◌, Bool, ◌&&◌, if
 use Rattle.std.specs.Prelude.{List, [], ◌∷◌, length, fold, Option, None, Some, Result, Ok, Err}
 use Rattle.std.specs.List.{list_all}
 use Rattle.camp_base.specs.Bytes.{is_name, is_path}
+use Rattle.camp_base.specs.Results.{◌>>=◌}
 use Rattle.camp_base.specs.Signs.{digit_zero, is_between, is_digit}
 use Rattle.camp_script.specs.Faults.{fault_at}
 use Rattle.camp_script.specs.declared.faults.FaultKind.{FaultKind}
 use Rattle.camp_script.specs.declared.faults.FaultKind.TheVariants.{WrongNumberOfWords, BadName, BadPath, BadNumber}
 use Rattle.camp_script.specs.declared.faults.LineFault.{LineFault}
-
--- continues after a value; the first fault stays
-infixl 10 ◌>>=◌
-abbrev pub ◌>>=◌ : {A B E : Type 0} → Result A E → (A → Result B E) → Result B E
-(Ok x) >>= next = next x
-(Err fault) >>= next = Err fault
 
 -- a step for each element, from the first to the last; the first fault stays
 abbrev pub in_turn : {A B E : Type 0} → (A → B → Result A E) → A → List B → Result A E

@@ -4,8 +4,8 @@ ghost use Rattle.camp_script.specs.Gives.{Advances, GivesFaultFirst};
 ghost use Rattle.camp_script.specs.Inside.Files.{change_at};
 ghost use Rattle.camp_script.specs.Lines.{is_skipped, words_of};
 ghost use Rattle.camp_script.specs.Commands as command;
-ghost use Rattle.camp_script.specs.Commands.{branch_line, whole_record, edit_record, record_line, pull_line, obliterate_line, branch_at, question, short_command, command, command_of, listed};
-ghost use Rattle.camp_script.specs.Inside.Asking.{Asks, IsCounted, command_asked};
+ghost use Rattle.camp_script.specs.Commands.{branch_line, whole_record, edit_record, record_line, pull_line, obliterate_line, branch_at, question, short_command, command, command_of, names_or_all};
+ghost use Rattle.camp_script.specs.Inside.Asking.{ParsesLine, EditLineIsCounted, command_asked};
 ghost use Rattle.camp_script.specs.Inside.Steps.{obey, obeyed};
 
 use crate::faults::{FaultKind, ScriptFault, at_line};
@@ -69,7 +69,7 @@ impl Reading {
 
     // Executes the meaning of a line.
     fn obey(&mut self, number: u64, asked: Asked) -> Result<(), ScriptFault>
-        requires { IsCounted asked }
+        requires { EditLineIsCounted asked }
         ensures { Advances result self.new (obey number self.old (command_asked asked)) }
     {
         match asked {
@@ -134,7 +134,7 @@ impl Reading {
 
     // Parses a command from its first word and the others.
     fn asked_by(&self, number: u64, word: &[u8], words: Words<'_>) -> Result<Asked, ScriptFault>
-        ensures { Asks number self.now result (command number word.now words.entry) }
+        ensures { ParsesLine number self.now result (command number word.now words.entry) }
     {
         if word == b"pull".as_slice() {
             return self.read_pull(number, words);
@@ -153,7 +153,7 @@ impl Reading {
         word: &[u8],
         words: &[&[u8]],
     ) -> Result<Asked, ScriptFault>
-        ensures { Asks number self.now result (short_command number word.now (map (λ word. word.now) words.now)) }
+        ensures { ParsesLine number self.now result (short_command number word.now (map (λ word. word.now) words.now)) }
     {
         if word == b"branch".as_slice() {
             return self.read_branch(number, words);
@@ -169,7 +169,7 @@ impl Reading {
     }
 
     fn read_branch(&self, number: u64, words: &[&[u8]]) -> Result<Asked, ScriptFault>
-        ensures { Asks number self.now result (branch_line number (map (λ word. word.now) words.now)) }
+        ensures { ParsesLine number self.now result (branch_line number (map (λ word. word.now) words.now)) }
     {
         let (new, from) = two_words(number, words)?;
         let new = name_at(number, new)?;
@@ -178,7 +178,7 @@ impl Reading {
     }
 
     fn read_record(&self, number: u64, words: &[&[u8]]) -> Result<Asked, ScriptFault>
-        ensures { Asks number self.now result (record_line number (map (λ word. word.now) words.now)) }
+        ensures { ParsesLine number self.now result (record_line number (map (λ word. word.now) words.now)) }
     {
         let (branch, name, change, rest) = three_words(number, words)?;
         if change == b"add".as_slice() {
@@ -210,7 +210,7 @@ impl Reading {
         name: &[u8],
         path: &[u8],
     ) -> Result<Asked, ScriptFault>
-        ensures { Asks number self.now result (whole_record (change_at file) number branch.now name.now path.now) }
+        ensures { ParsesLine number self.now result (whole_record (change_at file) number branch.now name.now path.now) }
     {
         let branch = name_at(number, branch)?;
         let name = name_at(number, name)?;
@@ -232,7 +232,7 @@ impl Reading {
         path: &[u8],
         line: &[u8],
     ) -> Result<Asked, ScriptFault>
-        ensures { Asks number self.now result (edit_record number branch.now name.now path.now line.now) }
+        ensures { ParsesLine number self.now result (edit_record number branch.now name.now path.now line.now) }
     {
         let branch = name_at(number, branch)?;
         let name = name_at(number, name)?;
@@ -248,7 +248,7 @@ impl Reading {
     }
 
     fn read_pull(&self, number: u64, mut words: Words<'_>) -> Result<Asked, ScriptFault>
-        ensures { Asks number self.now result (pull_line number words.entry) }
+        ensures { ParsesLine number self.now result (pull_line number words.entry) }
     {
         let Some(from) = words.next() else {
             return Err(at_line(number, FaultKind::WrongNumberOfWords));
@@ -261,12 +261,12 @@ impl Reading {
         test_names(number, words.again())?;
         self.test_room(number)?;
         let names = names_at(self.allocator(), number, words)?;
-        let names = listed(names);
+        let names = names_or_all(names);
         Ok(Asked::Call(Call::Pull { from, to, names }))
     }
 
     fn read_obliterate(&self, number: u64, mut words: Words<'_>) -> Result<Asked, ScriptFault>
-        ensures { Asks number self.now result (obliterate_line number words.entry) }
+        ensures { ParsesLine number self.now result (obliterate_line number words.entry) }
     {
         let Some(branch) = words.next() else {
             return Err(at_line(number, FaultKind::WrongNumberOfWords));
@@ -282,7 +282,7 @@ impl Reading {
     }
 
     fn read_question(&self, number: u64, word: &[u8], words: &[&[u8]]) -> Result<Asked, ScriptFault>
-        ensures { Asks number self.now result (question number word.now (map (λ word. word.now) words.now)) }
+        ensures { ParsesLine number self.now result (question number word.now (map (λ word. word.now) words.now)) }
     {
         if word == b"tree".as_slice() {
             return Ok(Asked::Call(Call::Tree(branch_at(number, words)?)));
@@ -318,8 +318,8 @@ fn one_change(alloc: Global, change: Primitive) -> Result<Changes, AllocError>
 }
 
 // Returns the names that a pull lists; without a list it pulls all.
-fn listed(names: Names) -> Option<Names>
-    ensures { result ≡ listed names }
+fn names_or_all(names: Names) -> Option<Names>
+    ensures { result ≡ names_or_all names }
 {
     if names.as_slice().is_empty() {
         return None;

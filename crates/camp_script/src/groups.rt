@@ -10,8 +10,8 @@ ghost use Rattle.camp_script.specs.Gives.{Advances, GivesFaultFirst, IsFaultFirs
 ghost use Rattle.camp_script.specs.Inside.Files.{change_at};
 ghost use Rattle.camp_script.specs.Inside.ReadingFields.{open_record_of, open_edit_of, edit_so_far, IsOpen, HasRoomFor};
 ghost use Rattle.camp_script.specs.Lines.{is_skipped, words_of};
-ghost use Rattle.camp_script.specs.Changes.{whole_change, edit_change, change_of, group_line_of, grown, ended};
-ghost use Rattle.camp_script.specs.Inside.Asking.{HasRoomToAdd, Tells, ended_change, line_told};
+ghost use Rattle.camp_script.specs.Changes.{whole_change, edit_change, change_of, group_line_of, grown, ended_edit};
+ghost use Rattle.camp_script.specs.Inside.Asking.{HasRoomForChange, ParsesGroupLine, ended_change, line_told};
 ghost use Rattle.camp_script.specs.Inside.Progress.{after_change, with_edit, with_one_more, with_record};
 ghost use Rattle.camp_script.specs.Inside.Steps.{heed, heeded, after_end, after_body, after_record_line, SaysSomethingIn};
 
@@ -97,7 +97,7 @@ impl Reading {
     // Executes the meaning of a line of a group.
     fn heed(&mut self, number: u64, begun: OpenRecord, told: Told) -> Result<(), ScriptFault>
         requires open { IsOpen self.old.calls begun }
-        requires room { HasRoomToAdd (length begun.changes.items) told }
+        requires room { HasRoomForChange (length begun.changes.items) told }
         ensures { Advances result self.new (heed number self.old (open_record_of begun) (line_told told)) }
     {
         match told {
@@ -148,7 +148,7 @@ impl Reading {
         word: &[u8],
         words: &[&[u8]],
     ) -> Result<Told, ScriptFault>
-        ensures { Tells number self.now (open_record_of begun.now) result (change_of number (length begun.now.changes.items) word.now (map (λ word. word.now) words.now)) }
+        ensures { ParsesGroupLine number self.now (open_record_of begun.now) result (change_of number (length begun.now.changes.items) word.now (map (λ word. word.now) words.now)) }
     {
         if word == b"add".as_slice() {
             let path = one_word(number, words)?;
@@ -176,7 +176,7 @@ impl Reading {
         file: WholeFile,
         path: &[u8],
     ) -> Result<Told, ScriptFault>
-        ensures { Tells number self.now (open_record_of begun.now) result (whole_change (change_at file) number (length begun.now.changes.items) path.now) }
+        ensures { ParsesGroupLine number self.now (open_record_of begun.now) result (whole_change (change_at file) number (length begun.now.changes.items) path.now) }
     {
         if begun.changes.len() >= MAX_CHANGES {
             return Err(at_line(number, FaultKind::BadGroup));
@@ -192,7 +192,7 @@ impl Reading {
         path: &[u8],
         line: &[u8],
     ) -> Result<Told, ScriptFault>
-        ensures { Tells number self.now (open_record_of begun.now) result (edit_change number (length begun.now.changes.items) path.now line.now) }
+        ensures { ParsesGroupLine number self.now (open_record_of begun.now) result (edit_change number (length begun.now.changes.items) path.now line.now) }
     {
         if begun.changes.len() >= MAX_CHANGES {
             return Err(at_line(number, FaultKind::BadGroup));
@@ -281,9 +281,9 @@ fn close(alloc: Global, number: u64, edit: OpenEdit) -> Result<Primitive, Script
 // Checks that the body of an edit may end here.
 fn test_body(number: u64, edit: &OpenEdit) -> Result<(), ScriptFault>
     requires { 1 ≤ edit.now.line }
-    ensures passed { IfOk result (λ _. ended number (edit_so_far edit.now) ≡ Ok (edit_so_far edit.now)) }
+    ensures passed { IfOk result (λ _. ended_edit number (edit_so_far edit.now) ≡ Ok (edit_so_far edit.now)) }
     ensures range { IfOk result (λ _. IsInRange (edit_so_far edit.now)) }
-    ensures fault { IfErr result (λ fault. IsFaultFirst fault (ended number (edit_so_far edit.now))) }
+    ensures fault { IfErr result (λ fault. IsFaultFirst fault (ended_edit number (edit_so_far edit.now))) }
     ensures told { IfErr result (λ fault. fault ≢ ScriptFault.Memory) }
 {
     if edit.old.is_empty() && edit.new.is_empty() {

@@ -35,11 +35,11 @@ impl Model for Reading {
 
     ghost Value = { Progress };
 
-    ghost use Rattle.camp_script.specs.Inside.ReadingFields.{progress_of, IsKept};
+    ghost use Rattle.camp_script.specs.Inside.ReadingFields.{progress_of, SectionsAreCounted};
 
     ghost view = { progress_of };
 
-    ghost invariant = { IsKept };
+    ghost invariant = { SectionsAreCounted };
 }
 
 impl Reading {

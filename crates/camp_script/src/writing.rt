@@ -3,7 +3,7 @@ ghost use Rattle.std.specs.Prelude.{◌≡◌, ◌++◌, false, IfErr, IfOk, IsT
 ghost use Rattle.std.specs.List.{flat_map, AllByRecursion};
 ghost use Rattle.camp_base.specs.Bytes.{is_name};
 ghost use Rattle.camp_prim.specs.declared.primitives.Primitive.TheVariants as primitive;
-ghost use Rattle.camp_script.specs.Canonical.{change_text, call_text, record_text, section_text, AreLines, IsChange, IsScriptCall};
+ghost use Rattle.camp_script.specs.Canonical.{canonical_change, call_text, record_text, section_text, AreLines, IsChange, IsScriptCall};
 ghost use Rattle.camp_script.specs.Inside.Written.{patch_text};
 ghost use Rattle.camp_script.specs.Keeping.{CanStand, ListsNames, calls_of, kept_text};
 ghost use Rattle.camp_script.specs.Texts.{signed_line};
@@ -73,7 +73,7 @@ pub fn kept_text(alloc: Global, history: &[(u32, Call)]) -> Result<Vec<u8>, Allo
 
 /// Renders changes in the form of a group, with the bodies of their edits.
 pub fn changes_text(alloc: Global, changes: &[Primitive]) -> Result<Vec<u8>, AllocError>
-    ensures text { IfOk result (λ text. text.items ≡ flat_map change_text changes.now) }
+    ensures text { IfOk result (λ text. text.items ≡ flat_map canonical_change changes.now) }
     ensures changes { IfOk result (λ _. AllByRecursion IsChange changes.now) }
 {
     let mut text = Vec::new(alloc);
@@ -145,7 +145,7 @@ fn append_patch(text: &mut Vec<u8>, changes: &[Primitive]) -> Result<(), AllocEr
 }
 
 fn append_changes(text: &mut Vec<u8>, changes: &[Primitive]) -> Result<(), AllocError>
-    ensures text { OnOk result (text.new.items ≡ text.old.items ++ flat_map change_text changes.now) }
+    ensures text { OnOk result (text.new.items ≡ text.old.items ++ flat_map canonical_change changes.now) }
     ensures changes { IfOk result (λ _. AllByRecursion IsChange changes.now) }
 {
     for change in changes {
@@ -156,7 +156,7 @@ fn append_changes(text: &mut Vec<u8>, changes: &[Primitive]) -> Result<(), Alloc
 
 // Renders a change with its body.
 fn append_change(text: &mut Vec<u8>, change: &Primitive) -> Result<(), AllocError>
-    ensures text { OnOk result (text.new.items ≡ text.old.items ++ change_text change.now) }
+    ensures text { OnOk result (text.new.items ≡ text.old.items ++ canonical_change change.now) }
     ensures change { IfOk result (λ _. IsChange change.now) }
 {
     match change {
@@ -167,7 +167,7 @@ fn append_change(text: &mut Vec<u8>, change: &Primitive) -> Result<(), AllocErro
 }
 
 fn append_edit(text: &mut Vec<u8>, hunk: &Hunk) -> Result<(), AllocError>
-    ensures text { OnOk result (text.new.items ≡ text.old.items ++ change_text (primitive.Hunk hunk.now)) }
+    ensures text { OnOk result (text.new.items ≡ text.old.items ++ canonical_change (primitive.Hunk hunk.now)) }
     ensures change { IfOk result (λ _. IsChange (primitive.Hunk hunk.now)) }
 {
     let mut place = Buffer::new();

@@ -6,7 +6,8 @@ use Rattle.camp_base.specs.Signs.{newline}
 use Rattle.camp_stream.proofs.ItemLemmas.{items_back}
 use Rattle.camp_stream.specs.CommandTexts.{IsWritableIfAny, CommandsComeBack, IsWritableInside, StreamsComeBack, stream_command_bytes, stream_text, IsWritableBlob, IsWritableCommit, IsWritableReset, IsWritableTag, blob_text, change_item, file_change_bytes, commit_text, contents_text, data_item_bytes, description_text, merge_text, optional_item, reset_text, tag_text}
 use Rattle.camp_stream.specs.CommandValues.{BlobValue, ChangeValue, CommandValue, CommitValue, ResetValue, TagValue, BlobCommand, CheckpointCommand, CommitCommand, DeleteEntries, DeleteEntry, DoneCommand, FeatureCommand, OptionCommand, ProgressCommand, ResetCommand, SetEntry, TagCommand}
-use Rattle.camp_stream.specs.Commands.{◌>>=◌, ReadResult, as_command, blank_if, blob_at, change_if, changes_at, command_at, command_from, commit_at, data_at, data_if, first_item, item_if_wanted, located, many, mark_if, merges_at, must_be_wanted, next_command, optional, optional_text, stream_at, unless_done, required, reset_at, short_command, tag_at, text_if, with_others}
+use Rattle.camp_stream.specs.Commands.{ReadResult, as_command, blank_if, blob_at, change_if, changes_at, command_at, command_from, commit_at, data_at, data_if, first_item, item_if_wanted, located, many, mark_if, merges_at, must_be_wanted, next_command, optional, optional_text, stream_at, unless_done, required, reset_at, short_command, tag_at, text_if, with_others}
+use Rattle.camp_base.specs.Results.{◌>>=◌}
 use Rattle.camp_stream.specs.StreamItems.{IsWritable, ItemAndRest, item_at, item_text}
 use Rattle.camp_stream.specs.StreamValues.{ItemValue, Bare, Blank, Data, Mark, Text}
 use Rattle.camp_stream.specs.declared.items.BareItem.TheVariants.{Blob, Checkpoint, Done}

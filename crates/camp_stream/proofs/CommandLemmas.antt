@@ -1,6 +1,7 @@
 -- Values that are read one after another, and commands that are written and read.
 use Rattle.std.proofs.Common.{◌≡◌, ℕ, suc, ◌+◌, ◌-◌, ◌<◌, ◌≤◌, List, [], ◌∷◌, ◌++◌, Option, None, Some, Ok, Err, refl, sym, ap, ◌∙◌, append_assoc, append-nil, arith}
-use Rattle.camp_stream.specs.Commands.{◌>>=◌, FailsToRead, ReadResult, many, with_others}
+use Rattle.camp_stream.specs.Commands.{FailsToRead, ReadResult, many, with_others}
+use Rattle.camp_base.specs.Results.{◌>>=◌}
 use Rattle.camp_stream.specs.declared.commands.ReadError.{ReadError}
 use Rattle.camp_stream.specs.declared.commands.ReadError.TheVariants as error
 

@@ -1,6 +1,7 @@
 -- Commands of a stream as bytes, and the first command of bytes or its fault.
 use Rattle.std.specs.Prelude.{◌≡◌, ℕ, zero, suc, ◌+◌, ◌-◌, ◌==◌, if◌then◌else◌, List, [], ◌∷◌, length, take, Option, None, Some, Result, Ok, Err, bytes_eq}
 use Rattle.std.specs.List.{count_by}
+use Rattle.camp_base.specs.Results.{◌>>=◌}
 use Rattle.camp_base.specs.Signs.{newline}
 use Rattle.camp_stream.specs.CommandValues.{BlobValue, ChangeValue, CommandValue, CommitValue, ResetValue, TagValue, BlobCommand, CheckpointCommand, CommitCommand, DeleteEntries, DeleteEntry, DoneCommand, FeatureCommand, OptionCommand, ProgressCommand, ResetCommand, SetEntry, TagCommand}
 use Rattle.camp_stream.specs.StreamItems.{ItemAndRest, item_at, text_word}
@@ -18,12 +19,6 @@ use Rattle.camp_stream.specs.declared.items.TextItem.TheVariants as text
 -- a value and the bytes after it, or the first fault
 abbrev pub ReadResult : Type 0 → Type 0
 ReadResult A = Result (A × List ℕ) StreamFault
-
--- one step of reading after another: the first fault ends it
-infixl 10 ◌>>=◌
-abbrev pub ◌>>=◌ : {A B : Type 0} → Result A StreamFault → (A → Result B StreamFault) → Result B StreamFault
-(Ok found) >>= next = next found
-(Err fault) >>= next = Err fault
 
 -- a fault of the item at the front of these bytes
 abbrev pub item_fault : StreamFaultKind → List ℕ → StreamFault

@@ -1,5 +1,5 @@
 -- The canonical text of a call is a command for exactly this call, and no other command is a prefix of it.
-use Rattle.camp_talk.proofs.Words.{◌≡◌, ℕ, ◌+◌, ◌≤◌, Bool, true, false, cond, ◌==◌, List, [], ◌∷◌, ◌++◌, length, length-append, map, drop, codes, Ok, refl, sym, ap, subst, ◌∙◌, arith, append_assoc, append-nil, map-append, length-map, ⊎_elim, cases_Bool, flat_map, onto_first, lines-feed, lines-other, Call, lines_of, words_of, begins_with, begins_edit, script_of_lines, IsCommand, IsLeft, TakesAll, as_read, bytes_eq, call_part, lines_in, script_in, taken, wants, parsed_command, parsed_lines, first_of}
+use Rattle.camp_talk.proofs.Words.{◌≡◌, ℕ, ◌+◌, ◌≤◌, Bool, true, false, cond, ◌==◌, List, [], ◌∷◌, ◌++◌, length, length-append, map, drop, codes, Ok, refl, sym, ap, subst, ◌∙◌, arith, append_assoc, append-nil, map-append, length-map, ⊎_elim, cases_Bool, flat_map, onto_first, lines-feed, lines-other, Call, lines_of, words_of, begins_with, begins_edit, script_of_lines, IsCommand, IsLeft, TakesAll, as_read, bytes_eq, call_part, lines_in, script_in, lines_taken, wants, parsed_command, parsed_lines, first_of}
 use Rattle.std.specs.List.{AllByRecursion, join_with_byte}
 use Rattle.std.proofs.lemmas.List.Concat.{flat_map-cons}
 use Rattle.camp_call.specs.declared.calls.Call.TheVariants as call
@@ -119,7 +119,7 @@ module _ (c : Call) (can : IsScriptCall c) (short : IsReadWhole c) where
   whole : script_of_lines (first ∷ lines_behind c) ≡ Ok ((c ∷ []) ∷ [])
   whole = ap script_of_lines (sym (lines_called c can)) ∙ text_reads c can
 
-  takes_just : (others : List (List ℕ)) → taken first (lines_behind c ++ others) ≡ lines_behind c
+  takes_just : (others : List (List ℕ)) → lines_taken first (lines_behind c ++ others) ≡ lines_behind c
   takes_just others =
       ap (λ line. command.taken line (lines_behind c ++ others)) call_is
       ∙ first_takes_by_words first (lines_behind c) ((c ∷ []) ∷ []) whole (lines_behind c ++ others)
@@ -234,7 +234,7 @@ module _ (c d x y : List ℕ) (is : IsCommand c) (too : IsCommand d) (same : c +
 
   same_rest : is.rest ≡ too.rest
   same_rest =
-      sym (is.takes (lines_in x)) ∙ (λ i. taken (first_of (both_lines i)) (other_lines (both_lines i))) ∙ too.takes (lines_in y)
+      sym (is.takes (lines_in x)) ∙ (λ i. lines_taken (first_of (both_lines i)) (other_lines (both_lines i))) ∙ too.takes (lines_in y)
 
   -- bytes that begin with a command begin with no other
   pub one_command : c ≡ d
@@ -261,7 +261,7 @@ no_bytes (byte ∷ bytes) none = absurd (omega (arith, none, some_lines byte byt
 -- if a command is at the start, the last command left by the end of the input is exactly that
 pub left_is : (d y : List ℕ) → IsCommand d → IsLeft (d ++ y) → y ≡ []
 left_is d y is left =
-    let all : taken is.first (is.rest ++ lines_in y) ≡ is.rest ++ lines_in y = subst TakesAll (lines_with d is y) left in
+    let all : lines_taken is.first (is.rest ++ lines_in y) ≡ is.rest ++ lines_in y = subst TakesAll (lines_with d is y) left in
     let long : length is.rest ≡ length (is.rest ++ lines_in y) = ap (λ ls. length ls) (sym (is.takes (lines_in y)) ∙ all) in
     no_bytes y (omega (arith, long, length-append is.rest (lines_in y), length-map (lines_of y) as_read))
 

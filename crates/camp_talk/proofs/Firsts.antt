@@ -1,5 +1,5 @@
 -- The lines that were read are a command: a first line, and those that belong to it.
-use Rattle.camp_talk.proofs.Words.{◌≡◌, ℕ, Bool, true, false, List, [], ◌∷◌, ◌++◌, length, map, Option, refl, sym, ap, subst, ◌∙◌, arith, lines_of, script_of_lines, CommandLines, Consumes, Consumes-trans, Ends, HasRead, IsCommand, IsLeft, ReadsCommand, ReadsHeld, ReadsLine, ReadsLines, ReadsNext, ReadsWithin, StopsAtLine, ended, with_last, TakesAll, append-nil, length-map, lines_in, ◌≤◌, as_read, call_part, first_of, script_in, taken, wants}
+use Rattle.camp_talk.proofs.Words.{◌≡◌, ℕ, Bool, true, false, List, [], ◌∷◌, ◌++◌, length, map, Option, refl, sym, ap, subst, ◌∙◌, arith, lines_of, script_of_lines, CommandLines, Consumes, Consumes-trans, Ends, HasRead, IsCommand, IsLeft, ReadsCommand, ReadsHeld, ReadsLine, ReadsLines, ReadsNext, ReadsWithin, StopsAtLine, ended, with_last, TakesAll, append-nil, length-map, lines_in, ◌≤◌, as_read, call_part, first_of, script_in, lines_taken, wants}
 use Rattle.camp_script.proofs.CommandCuts.{none_wanted, one_wanted, takes_wanted}
 use Rattle.camp_talk.proofs.Cuts.{EndsWithLine, ends_with_line, with_last-append}
 use Rattle.camp_talk.proofs.Parts.{ends_after, lines_after, lines_are_read, lines_held, none_left, reads_on}
@@ -7,7 +7,7 @@ use Rattle.camp_talk.proofs.Parts.{ends_after, lines_after, lines_are_read, line
 module _ (a b : Option (List ℕ)) (bytes : List ℕ) where
   -- lines that were read are a command, if exactly the others belong to the first
   is_command : (first : List ℕ) (rest : List (List ℕ)) → ReadsLines a b [] bytes (first ∷ rest) []
-      → ((others : List (List ℕ)) → taken first (rest ++ others) ≡ rest) → ReadsHeld a b true bytes
+      → ((others : List (List ℕ)) → lines_taken first (rest ++ others) ≡ rest) → ReadsHeld a b true bytes
   is_command first rest reads takes =
       let ends = whole_ends reads.whole reads.left reads.are_read reads.is_read in
       let lines = lines_are_read a b [] bytes (first ∷ rest) [] reads in
@@ -109,7 +109,7 @@ module _ (a b c : Option (List ℕ)) (mid bytes : List ℕ) (x y : CommandLines)
       let now : HasRead y (call_part first) all = goes (call_part first) rest has in
       let read : ReadsLines a c [] bytes ((first ∷ rest) ++ []) last = reads_on a b c [] mid bytes (first ∷ rest) [] last reads then in
       let same : with_last ((first ∷ rest) ++ []) last ≡ first ∷ all = with_last-append (first ∷ rest) [] last in
-      let taken_is : taken first all ≡ all = ap (taken first) (sym (append-nil all)) ∙ now.takes [] ∙ append-nil all in
+      let taken_is : lines_taken first all ≡ all = ap (lines_taken first) (sym (append-nil all)) ∙ now.takes [] ∙ append-nil all in
       record {
         held = is_left a c bytes ((first ∷ rest) ++ []) last read (subst TakesAll (sym same) taken_is)
             (ends_after a b c (ended reads.whole ++ reads.left) reads.consumes ends);
@@ -146,7 +146,7 @@ all_on a b bytes x true (first, rest, reads, has) all = record {
 
 -- ---- no more was read than a command has
 
--- at most one line is taken whole
+-- at most one line is lines_taken whole
 takes_few : (lines : List (List ℕ)) → length lines ≤ 1 → TakesAll lines
 takes_few [] few = tt
 takes_few (line ∷ []) few = takes_wanted (call_part line) []
@@ -175,7 +175,7 @@ first_within a b bytes false (last, reads, ends) = record {
 -- a command is no more than a command
 pub command_left : (a b : Option (List ℕ)) (whole : Bool) (command : List ℕ) → ReadsCommand a b whole command → IsLeft command
 command_left a b true command (reads, is) =
-    subst TakesAll (sym is.lines) (ap (taken is.first) (sym (append-nil is.rest)) ∙ is.takes [])
+    subst TakesAll (sym is.lines) (ap (lines_taken is.first) (sym (append-nil is.rest)) ∙ is.takes [])
 command_left a b false command (reads, is, ends) = is
 
 pub command_read : (a b : Option (List ℕ)) (whole : Bool) (command : List ℕ) → ReadsCommand a b whole command → Consumes a b command

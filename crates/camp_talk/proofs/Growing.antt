@@ -1,5 +1,5 @@
 -- Answering commands and requests removes no call from the history.
-use Rattle.camp_talk.proofs.Words.{◌≡◌, ◌⊎◌, inl, inr, ℕ, Bool, true, List, [], ◌∷◌, Option, Result, Ok, Err, sym, subst, LineFault, Answers, SessionState, AnswersParsed, RunsOutOfMemory, parsed_command, Entries, Exchange, AnswersInOrder, ParsedCommand}
+use Rattle.camp_talk.proofs.Words.{◌≡◌, ◌⊎◌, inl, inr, ℕ, Bool, true, List, [], ◌∷◌, Option, Result, Ok, Err, sym, subst, LineFault, AnswersCommand, SessionState, AnswersParsed, RunsOutOfMemory, parsed_command, Entries, Exchange, AnswersInOrder, ParsedCommand}
 use Rattle.camp_object.specs.Books.{IsEarlier}
 use Rattle.camp_object.proofs.SameBooks.{earlier_same, earlier_self, earlier_through}
 use Rattle.camp_talk.specs.Diagnostics.{no_diagnostic}
@@ -18,7 +18,7 @@ grows_so : (before : SessionState) (command text : List ℕ) (now : Entries) →
 grows_so before command text now (inl reports) = tells_grow before (parsed_command command) text now reports
 grows_so before command text now (inr want) = earlier_same before.history now want.2
 
-pub answers_grow : (before : SessionState) (command text : List ℕ) (after : SessionState) → Answers before command text after → IsEarlier before.history after.history
+pub answers_grow : (before : SessionState) (command text : List ℕ) (after : SessionState) → AnswersCommand before command text after → IsEarlier before.history after.history
 answers_grow before command text after answers = grows_so before command text after.history answers.reports
 
 follow_grow : (first : SessionState) (exchanges : List Exchange) (last : SessionState) → AnswersInOrder first exchanges last → IsEarlier first.history last.history

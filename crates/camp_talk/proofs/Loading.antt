@@ -1,5 +1,5 @@
 -- Loading commands, one after the other.
-use Rattle.camp_talk.proofs.Words.{◌≡◌, ℕ, ◌+◌, Bool, true, false, List, [], ◌∷◌, ◌++◌, Option, Result, Ok, Err, Vec, refl, sym, ap, subst, ◌∙◌, append-nil, flat_map, Consumes, Consumes-nil, Consumes-trans, flat_map-append, All-append, All-cons, All-nil, LineFault, Answers, SessionState, AnswersParsed, parsed_command, Entries, Exchange, ParsedCommand, DoesOne, ExecutesNext, LoadsOne, Done, Fails, ReadsCommand, ReportsSuccess, LacksMemory, reports_failure}
+use Rattle.camp_talk.proofs.Words.{◌≡◌, ℕ, ◌+◌, Bool, true, false, List, [], ◌∷◌, ◌++◌, Option, Result, Ok, Err, Vec, refl, sym, ap, subst, ◌∙◌, append-nil, flat_map, Consumes, Consumes-nil, Consumes-trans, flat_map-append, All-append, All-cons, All-nil, LineFault, AnswersCommand, SessionState, AnswersParsed, parsed_command, Entries, Exchange, ParsedCommand, DoesOne, ExecutesNext, LoadsOne, Done, Fails, ReadsCommand, ReportsSuccess, LacksMemory, reports_failure}
 use Rattle.camp_talk.specs.declared.questions.ParsedCommand.TheVariants as parsed
 use Rattle.camp_talk.proofs.NotDone.{by_reply}
 use Rattle.camp_talk.proofs.StepLemmas.{answered, one_more}
@@ -19,7 +19,7 @@ failure_keeps before parsed text now reports fails = by_parsed before text now f
 
 module _ (a b : Option (List ℕ)) (before after : SessionState) where
   -- it was done
-  one_done_at : (whole : Bool) (command text : List ℕ) → ReadsCommand a b whole command → Answers before command text after
+  one_done_at : (whole : Bool) (command text : List ℕ) → ReadsCommand a b whole command → AnswersCommand before command text after
       → ReportsSuccess text → LoadsOne a b before (Ok whole) after
   one_done_at true command text (reads, is) answers well = record {
     exchange = record { command = command; answer = text };

@@ -12,7 +12,7 @@ use Rattle.camp_repo.specs.States.{Contents}
 use Rattle.camp_talk.specs.Diagnostics.{Diagnostic}
 use Rattle.camp_talk.specs.Obstacles.{call_about, sides_text, target}
 use Rattle.camp_talk.specs.Parsing.{reason_at}
-use Rattle.camp_talk.specs.Laws.{CausesAreReported, NamesCause, RefusalsAreDescribed, names_in}
+use Rattle.camp_talk.specs.Laws.{CausesAreReported, NamesCause, RefusalsAreDescribed, refusal_names}
 use Rattle.camp_talk.specs.Refusals.{reason_of, saying}
 use Rattle.camp_talk.specs.Reports.{cure_at, diagnostic_of, diagnostic_with, found_text, reason_in, refusal_lines, shown_line}
 use Rattle.camp_talk.specs.declared.questions.ParsedCommand.TheVariants as parsed
@@ -49,7 +49,7 @@ module _ (at : ℕ) (digits : List ℕ) (is : decimal at ≡ digits) (are : is_w
       ∙ of
 
 -- each refusal's answer has its reason
-reason_of_answer : (refused : Refusal) → AreNames (names_in refused)
+reason_of_answer : (refused : Refusal) → AreNames (refusal_names refused)
     → reason_in (words_of (first_of (lines_of (reply_text (Refused refused))))) ≡ Some (reason_of refused)
 reason_of_answer (refusal.NoBranch branch) = reason_of_number 4 (codes "4") (decimal_digit 4 (omega arith)) refl reason.NoBranch refl (branch ∷ [])
 reason_of_answer (refusal.BranchExists branch) = reason_of_number 5 (codes "5") (decimal_digit 5 (omega arith)) refl reason.BranchExists refl (branch ∷ [])

@@ -1,5 +1,5 @@
 -- Steps of a conversation, one after the other.
-use Rattle.camp_talk.proofs.Words.{refl, sym, ap, subst, ◌∙◌, ◌≢◌, ⊎_elim, cases_Bool, append-nil, flat_map, flat_map-append, Gives, lines_of, LineFault, ScriptFault, Answers, SessionState, AnswersParsed, RunsOutOfMemory, parsed_command, IsCommand, IsLeft, Entries, IsReading, IsResponse, IsWriting, UpdatesDiagnostic, UpdatesDiagnosticOf, lines_in, is_silent, answer_or_memory, ParsedCommand, ◌≡◌, ◌≤◌, ◌⊎◌, inl, inr, ℕ, ◌+◌, ◌^◌, Bool, true, false, List, [], ◌∷◌, ◌++◌, length, Option, Result, Ok, Err, Vec, IfOk, OnErr, Appends, Consumes, Appends-nil, Appends-trans, Consumes-nil, Consumes-trans, Exchange, Exchanges, AnswersInOrder, HasAnswered, ReadsNone, ReadsTooMuch, ReadsWithin, Stops, TakesStep}
+use Rattle.camp_talk.proofs.Words.{refl, sym, ap, subst, ◌∙◌, ◌≢◌, ⊎_elim, cases_Bool, append-nil, flat_map, flat_map-append, Gives, lines_of, LineFault, ScriptFault, AnswersCommand, SessionState, AnswersParsed, RunsOutOfMemory, parsed_command, IsCommand, IsLeft, Entries, IsReading, IsResponse, IsWriting, UpdatesDiagnostic, UpdatesDiagnosticOf, lines_in, is_silent, answer_or_memory, ParsedCommand, ◌≡◌, ◌≤◌, ◌⊎◌, inl, inr, ℕ, ◌+◌, ◌^◌, Bool, true, false, List, [], ◌∷◌, ◌++◌, length, Option, Result, Ok, Err, Vec, IfOk, OnErr, Appends, Consumes, Appends-nil, Appends-trans, Consumes-nil, Consumes-trans, Exchange, Exchanges, AnswersInOrder, HasAnswered, ReadsNone, ReadsTooMuch, ReadsWithin, Stops, TakesStep}
 use Rattle.std.specs.Io.KnownBytes.{Keeps}
 use Rattle.camp_talk.specs.Diagnostics.{Diagnostic}
 use Rattle.camp_talk.specs.Answers.{UpdatesDiagnosticAt}
@@ -45,7 +45,7 @@ module _ {Z E : Type 0} (before after : SessionState) (command : List ℕ) where
   learned_by (Err error) says = says.2
 
   pub answered : (response : Result (Vec ℕ Z) E) → IsResponse before command response after.history after.diagnostic
-      → after.lines ≡ before.lines + length (lines_of command) → Answers before command (answer_or_memory response) after
+      → after.lines ≡ before.lines + length (lines_of command) → AnswersCommand before command (answer_or_memory response) after
   answered response says counts = record { reports = answered_by response says; counts = counts; updates = learned_by response says }
 
 abbrev pub at_lines : ℕ → Entries → Diagnostic → SessionState
@@ -79,7 +79,7 @@ module _ (remaining rest old new : Option (List ℕ)) (before after : SessionSta
 
 -- one more command is answered
 pub one_more : (first middle last : SessionState) (exchanges : List Exchange) (more : Exchange) → AnswersInOrder first exchanges middle
-    → IsCommand more.command → Answers middle more.command more.answer last → AnswersInOrder first (exchanges ++ more ∷ []) last
+    → IsCommand more.command → AnswersCommand middle more.command more.answer last → AnswersInOrder first (exchanges ++ more ∷ []) last
 one_more first middle last [] more follow is answers =
     subst (λ standing. AnswersInOrder standing (more ∷ []) last) (sym follow) (last, is, answers, refl)
 one_more first middle last (exchange ∷ exchanges) more (next, command, answered, follow) is answers =

@@ -1,7 +1,7 @@
 -- The answers of a view, command by command.
 use Rattle.camp_talk.proofs.Words.{◌≡◌, ℕ, true, false, List, [], ◌∷◌, ◌++◌, length, Some, ap, append-nil, append_assoc, flat_map, flat_map-append, refl, subst, sym, take, take-append_seam, ◌∙◌, Call, Exchange, IsCommand, IsNotWriting, IsReading}
 use Rattle.camp_talk.specs.Inside.Viewing.{HasAnsweredView, SeesStep}
-use Rattle.camp_talk.specs.Views.{AnswersView, Sees, SeesAll}
+use Rattle.camp_talk.specs.Views.{AnswersView, AnswersViewCommand, SeesAll}
 use Rattle.camp_talk.specs.declared.faults.TalkFault.{TalkFault}
 use Rattle.camp_talk.specs.declared.faults.TalkFault.TheVariants.{Internal}
 use Rattle.camp_call.specs.Calls.{is_writing}
@@ -43,7 +43,7 @@ module _ (state : Contents) where
 
   -- one more command is answered
   one_more : (first middle last : ℕ) (exchanges : List Exchange) (more : Exchange) → SeesAll state first exchanges middle
-      → IsCommand more.command → Sees state middle more last → SeesAll state first (exchanges ++ more ∷ []) last
+      → IsCommand more.command → AnswersViewCommand state middle more last → SeesAll state first (exchanges ++ more ∷ []) last
   one_more first middle last [] more sees is one =
       subst (λ (before : ℕ). SeesAll state before (more ∷ []) last) (sym sees) (last, is, one, refl)
   one_more first middle last (exchange ∷ exchanges) more (next, command, seen, sees) is one =

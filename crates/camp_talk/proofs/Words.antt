@@ -19,9 +19,9 @@ pub use Rattle.camp_script.specs.Reading.{script_of_lines}
 pub use Rattle.camp_script.specs.Texts.{reply_text}
 pub use Rattle.camp_script.specs.declared.faults.LineFault.{LineFault}
 pub use Rattle.camp_script.specs.declared.faults.ScriptFault.{ScriptFault}
-pub use Rattle.camp_talk.specs.Answers.{Answers, AnswersParsed, RunsOutOfMemory, SessionState, UpdatesDiagnostic, is_silent}
+pub use Rattle.camp_talk.specs.Answers.{AnswersCommand, AnswersParsed, RunsOutOfMemory, SessionState, UpdatesDiagnostic, is_silent}
 pub use Rattle.camp_talk.specs.Parsing.{first_of, parsed_command, parsed_lines, question_of, short_question}
-pub use Rattle.camp_talk.specs.Cutting.{IsCommand, IsLeft, IsLine, TakesAll, as_read, lines_in, script_in, taken}
+pub use Rattle.camp_talk.specs.Cutting.{IsCommand, IsLeft, IsLine, TakesAll, as_read, lines_in, script_in, lines_taken}
 pub use Rattle.camp_talk.specs.Entries.{Entries}
 pub use Rattle.camp_talk.specs.Inside.ExecutingNext.{DoesOne, ExecutesNext, IsResponse, LoadsOne, UpdatesDiagnosticOf}
 pub use Rattle.camp_talk.specs.Inside.Parts.{Ends, EndsAt, GoesOn, IsReading, ReadsHeld, ReadsLine, ReadsLines, ReadsNext, StopsAtLine, StopsInLine, Takes, ended, feed_of, last_seen, seen_of, with_last}

@@ -71,7 +71,7 @@ abbrev pub RunsOutOfMemory : SessionState → List ℕ → List ℕ → Entries 
 RunsOutOfMemory before command text now = (is_silent command ≡ false) × (text ≡ memory_text) × (now ≡ before.history)
 
 -- a command is answered, unless memory ran out; its lines were read; and if it was not done, its diagnostic is kept
-pub record Answers (before : SessionState) (command text : List ℕ) (after : SessionState) : Type 0 where
+pub record AnswersCommand (before : SessionState) (command text : List ℕ) (after : SessionState) : Type 0 where
   pub reports : AnswersParsed before (parsed_command command) text after.history ⊎ RunsOutOfMemory before command text after.history
   pub counts : after.lines ≡ before.lines + length (lines_of command)
   pub updates : UpdatesDiagnostic before command text after.diagnostic

@@ -40,8 +40,8 @@ abbrev pub script_in : List (List ℕ) → Result (List (List Call)) LineFault
 script_in lines = script_of_lines (call_lines lines)
 
 -- the following lines that belong to a first line, by its call
-abbrev pub taken : List ℕ → List (List ℕ) → List (List ℕ)
-taken first lines = command.taken (call_part first) lines
+abbrev pub lines_taken : List ℕ → List (List ℕ) → List (List ℕ)
+lines_taken first lines = command.taken (call_part first) lines
 
 -- bytes are a command: they end with a line, and whatever follows, exactly the lines after the first belong to it
 pub record IsCommand (bytes : List ℕ) : Type 0 where
@@ -50,12 +50,12 @@ pub record IsCommand (bytes : List ℕ) : Type 0 where
   pub lines : lines_in bytes ≡ first ∷ rest
   pub front : List ℕ
   pub ended : bytes ≡ front ++ newline ∷ []
-  pub takes : (others : List (List ℕ)) → taken first (rest ++ others) ≡ rest
+  pub takes : (others : List (List ℕ)) → lines_taken first (rest ++ others) ≡ rest
 
 -- all remaining lines belong to a first line
 abbrev pub TakesAll : List (List ℕ) → Type 0
 TakesAll [] = Unit {0}
-TakesAll (first ∷ rest) = taken first rest ≡ rest
+TakesAll (first ∷ rest) = lines_taken first rest ≡ rest
 
 -- bytes are the last command, which the end of the input may cut off: nothing, or a first line and lines that belong
 -- to it

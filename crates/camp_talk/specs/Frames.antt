@@ -7,7 +7,7 @@ use Rattle.camp_base.specs.Signs.{newline}
 use Rattle.camp_script.specs.Words.{count_of}
 use Rattle.camp_talk.specs.Cutting.{IsLine}
 use Rattle.camp_talk.specs.Entries.{Entries}
-use Rattle.camp_talk.specs.Faults.{fault_status, fault_words}
+use Rattle.camp_talk.specs.Faults.{fault_status, talk_fault_words}
 use Rattle.camp_talk.specs.Requests.{AnswersRequest, AnswersSome}
 use Rattle.camp_talk.specs.Talks.{AppendsSome}
 use Rattle.camp_talk.specs.declared.frames.FrameFault.{FrameFault}
@@ -187,7 +187,7 @@ abbrev pub frame_words : FrameFault → List ℕ
 frame_words NoNumber = codes "the line before a request is not a number of 1 to 10 digits"
 frame_words TooLarge = codes "a request has more than 268435456 bytes"
 frame_words Cut = codes "the input ends inside a request"
-frame_words (Talk fault) = fault_words fault
+frame_words (Talk fault) = talk_fault_words fault
 
 -- the exit status for it
 abbrev pub frame_status : FrameFault → ℕ

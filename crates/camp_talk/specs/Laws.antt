@@ -22,16 +22,16 @@ use Rattle.camp_script.specs.declared.faults.FaultKind.{FaultKind}
 use Rattle.camp_script.specs.declared.faults.LineFault.{LineFault}
 use Rattle.camp_talk.specs.Diagnostics.{Diagnostic, advanced, begins_command, is_recovering, may_be, recovery_of_line}
 use Rattle.camp_talk.specs.Obstacles.{absent_sides, call_about, lack_text, lacked_text, no_branch_text, sides_text, target}
-use Rattle.camp_talk.specs.Answers.{Answers, SessionState, memory_text}
+use Rattle.camp_talk.specs.Answers.{AnswersCommand, SessionState, memory_text}
 use Rattle.camp_talk.specs.Parsing.{first_of, parsed_command}
 use Rattle.camp_talk.specs.Cutting.{IsLine, lines_in, longest_read}
-use Rattle.camp_talk.specs.Dialogues.{Leads}
+use Rattle.camp_talk.specs.Dialogues.{StepsLead}
 use Rattle.camp_talk.specs.Entries.{Entries}
 use Rattle.camp_talk.specs.Frames.{BeginsNoFrame, Counter, EndsWithin, HasNoFrame, ServesAt, ServesInTurn, most_bytes}
 use Rattle.camp_talk.specs.Loads.{Loads, reports_failure}
 use Rattle.camp_talk.specs.Refusals.{reason_of, saying}
 use Rattle.camp_talk.specs.QuestionAnswers.{counted}
-use Rattle.camp_talk.specs.Reports.{cause_found, cause_text, cure_at, cut_off, diagnostic_of, fault_lines, hint_text, is_unknown, line_at, may_record, recovery_text, refusal_report, rule, shown_line, word_text}
+use Rattle.camp_talk.specs.Reports.{cause_found, cause_text, cure_at, cut_off, diagnostic_of, fault_lines, hint_text, is_unknown, line_at, may_record, recovery_text, refusal_report, rule, shown_line, word_report}
 use Rattle.camp_talk.specs.declared.faults.LoadFault.TheVariants.{Answer, Memory, Talk}
 use Rattle.camp_talk.specs.declared.faults.LoadFault.{LoadFault}
 use Rattle.camp_talk.specs.declared.questions.ParsedCommand.TheVariants as parsed
@@ -39,7 +39,7 @@ use Rattle.camp_talk.specs.declared.questions.ParsedCommand.{ParsedCommand}
 use Rattle.camp_why.specs.Causes.{IsSo, refusal_by}
 use Rattle.camp_why.specs.Grounds.{IsGround}
 use Rattle.camp_why.specs.Hints.{hint}
-use Rattle.camp_why.specs.Laws.{IsInRange, wants_cause}
+use Rattle.camp_why.specs.Laws.{ChangesAreInRange, wants_cause}
 use Rattle.camp_why.specs.declared.causes.Cause.{Cause}
 
 -- the first line of a counted text has the word and the number of lines that follow, and these are the lines of the
@@ -52,7 +52,7 @@ CountsMatchLines =
 -- steps that serve requests one after the other give each the answer after those before it
 abbrev pub RequestsAreServedInTurn : Type 0
 RequestsAreServedInTurn =
-    (first last : Counter) (over : List Counter) → Leads ServesAt first over last →
+    (first last : Counter) (over : List Counter) → StepsLead ServesAt first over last →
     ServesInTurn first.left last.left first.held last.held first.history last.history
 
 -- what is read of a request that is not served: a line that is no number of bytes, or too great a one, begins no frame;
@@ -73,7 +73,7 @@ Failed (Ok (parsed.Question question)) text = (refusal : Refusal) × (text ≡ r
 -- an answer is a failure exactly if its command has a fault, it is a refusal, or memory ran out
 abbrev pub FailuresAreReported : Type 0
 FailuresAreReported =
-    (before : SessionState) (command text : List ℕ) (after : SessionState) → Answers before command text after →
+    (before : SessionState) (command text : List ℕ) (after : SessionState) → AnswersCommand before command text after →
     (reports_failure text ≡ true) ↔ (Failed (parsed_command command) text ⊎ (text ≡ memory_text))
 
 -- no line of the text of a call is longer than a conversation reads
@@ -115,22 +115,22 @@ pub record NamesCause (state : Contents) (call : Call) (refusal : Refusal) (line
 abbrev pub CausesAreReported : Type 0
 CausesAreReported =
     (before : Diagnostic) (state : Contents) (command : List ℕ) (call : Call) (refusal : Refusal) → IsLawfulState state → IsCall call →
-    IsInRange call → parsed_command command ≡ Ok (parsed.Call call) → step state call ≡ refused refusal →
+    ChangesAreInRange call → parsed_command command ≡ Ok (parsed.Call call) → step state call ≡ refused refusal →
     wants_cause call refusal ≡ true → NamesCause state call refusal (first_of (lines_in command)) (diagnostic_of before state command (reply_text (Refused refusal))).report
 
 -- the names in a refusal
-abbrev pub names_in : Refusal → List (List ℕ)
-names_in (refusal.NoBranch branch) = branch ∷ []
-names_in (refusal.BranchExists branch) = branch ∷ []
-names_in (refusal.PatchExists name) = name ∷ []
-names_in (refusal.NoPatch name) = name ∷ []
-names_in refusal.NothingToDo = []
-names_in refusal.TooLarge = []
-names_in refusal.DoesNotApply = []
-names_in (refusal.Depends patch on) = patch ∷ on ∷ []
-names_in (refusal.Diverged name) = name ∷ []
-names_in (refusal.NoMerge left right) = left ∷ right ∷ []
-names_in (refusal.SameBranch branch) = branch ∷ []
+abbrev pub refusal_names : Refusal → List (List ℕ)
+refusal_names (refusal.NoBranch branch) = branch ∷ []
+refusal_names (refusal.BranchExists branch) = branch ∷ []
+refusal_names (refusal.PatchExists name) = name ∷ []
+refusal_names (refusal.NoPatch name) = name ∷ []
+refusal_names refusal.NothingToDo = []
+refusal_names refusal.TooLarge = []
+refusal_names refusal.DoesNotApply = []
+refusal_names (refusal.Depends patch on) = patch ∷ on ∷ []
+refusal_names (refusal.Diverged name) = name ∷ []
+refusal_names (refusal.NoMerge left right) = left ∷ right ∷ []
+refusal_names (refusal.SameBranch branch) = branch ∷ []
 
 -- the report on a refusal is about the name in it: that there is no such branch, or that a branch lacks this patch
 abbrev pub ReportsName : Contents → Call → Refusal → Type 0
@@ -154,7 +154,7 @@ pub record DescribesRefusal (state : Contents) (call : Call) (refusal : Refusal)
 abbrev pub RefusalsAreDescribed : Type 0
 RefusalsAreDescribed =
     (before : Diagnostic) (state : Contents) (command : List ℕ) (call : Call) (refusal : Refusal) → IsLawfulState state → IsCall call →
-    IsInRange call → AreNames (names_in refusal) → parsed_command command ≡ Ok (parsed.Call call) → step state call ≡ refused refusal →
+    ChangesAreInRange call → AreNames (refusal_names refusal) → parsed_command command ≡ Ok (parsed.Call call) → step state call ≡ refused refusal →
     DescribesRefusal state call refusal (first_of (lines_in command)) (diagnostic_of before state command (reply_text (Refused refusal))).report
 
 -- lines after a command with a fault describe it: its answer, the line that has the fault, as much of it as is shown,
@@ -162,7 +162,7 @@ RefusalsAreDescribed =
 pub record DescribesFault (fault : LineFault) (command answer lines : List ℕ) : Type 0 where
   pub line : List ℕ
   pub is : line ≡ line_at fault.line (lines_in command)
-  pub reports : lines ≡ answer ++ shown_line line ++ word_text fault.kind line
+  pub reports : lines ≡ answer ++ shown_line line ++ word_report fault.kind line
       ++ hint_text (hint fault.kind line) ++ rule fault.kind
       ++ recovery_text (cut_off fault.line fault.kind (first_of (lines_in command)))
 

@@ -3,7 +3,7 @@ use Rattle.std.specs.Prelude.{◌≡◌, ℕ, ◌+◌, Bool, true, false, ◌||�
 use Rattle.std.specs.List.{All, flat_map}
 use Rattle.std.specs.Io.KnownBytes.{Consumes}
 use Rattle.camp_talk.specs.Diagnostics.{no_diagnostic}
-use Rattle.camp_talk.specs.Answers.{Answers, AnswersParsed, SessionState, is_silent, memory_text}
+use Rattle.camp_talk.specs.Answers.{AnswersCommand, AnswersParsed, SessionState, is_silent, memory_text}
 use Rattle.camp_talk.specs.Parsing.{parsed_command}
 use Rattle.camp_talk.specs.Entries.{Entries}
 use Rattle.camp_talk.specs.Talks.{AnswersInOrder, Exchange, ReadsCommand, ReadsNone}
@@ -33,7 +33,7 @@ module _ (remaining rest : Option (List ℕ)) where
     pub exchange : Exchange
     pub reads : ReadsCommand remaining rest false exchange.command
     pub after : SessionState
-    pub answers : Answers before exchange.command exchange.answer after
+    pub answers : AnswersCommand before exchange.command exchange.answer after
     pub well : ReportsSuccess exchange.answer
     pub same : now ≡ after.history
 

@@ -6,11 +6,12 @@ use Rattle.camp_talk.specs.Cutting.{lines_in, script_in}
 use Rattle.camp_script.specs.Faults.{fault_at}
 use Rattle.camp_script.specs.Lines.{lines_of, words_of}
 use Rattle.camp_script.specs.Pieces.{begins_with}
-use Rattle.camp_script.specs.Words.{◌>>=◌, name_at, names_at, no_words, one_word, path_at, two_words}
+use Rattle.camp_script.specs.Words.{name_at, names_at, no_words, one_word, path_at, two_words}
+use Rattle.camp_base.specs.Results.{◌>>=◌}
 use Rattle.camp_script.specs.declared.faults.FaultKind.TheVariants.{BadNumber, UnknownCommand, WrongNumberOfWords}
 use Rattle.camp_script.specs.declared.faults.LineFault.{LineFault}
 use Rattle.camp_talk.specs.Help.{commands, example}
-use Rattle.camp_talk.specs.Refusals.{number_of, reasons}
+use Rattle.camp_talk.specs.Refusals.{reason_number, reasons}
 use Rattle.camp_talk.specs.declared.questions.ParsedCommand.{ParsedCommand}
 use Rattle.camp_talk.specs.declared.questions.ParsedCommand.TheVariants as parsed
 use Rattle.camp_talk.specs.declared.questions.Reason.{Reason}
@@ -73,7 +74,7 @@ topic_at word = topic_of (first_begun word commands)
 
 -- the first of some reasons that has a number
 abbrev pub first_numbered : List ℕ → List Reason → Option Reason
-first_numbered number reasons = find (λ reason. bytes_eq (number_of reason) number) reasons
+first_numbered number reasons = find (λ reason. bytes_eq (reason_number reason) number) reasons
 
 -- the reason of a number of a refusal
 abbrev pub reason_at : List ℕ → Option Reason

@@ -22,7 +22,7 @@ use Rattle.camp_questions.specs.Marks.{AreMarked}
 use Rattle.camp_questions.specs.OpenConflicts.{AreOpen}
 use Rattle.camp_questions.specs.Pictures.{IsPictured, Picture}
 use Rattle.camp_questions.specs.Places.{File as MarkedFile, Place}
-use Rattle.camp_questions.specs.Showing.{IsShown, Patch}
+use Rattle.camp_questions.specs.Showing.{IsShown, PatchContents}
 use Rattle.camp_questions.specs.Sides.{IsSide}
 use Rattle.camp_questions.specs.declared.annotations.Annotated.{Annotated}
 use Rattle.camp_questions.specs.declared.annotations.Annotated.TheVariants.{File, NoFile}
@@ -33,7 +33,7 @@ use Rattle.camp_questions.specs.declared.marking.Marked.TheVariants as marked
 use Rattle.camp_questions.specs.declared.marking.Version.{Version}
 use Rattle.camp_repo.specs.Objects.{repository}
 use Rattle.camp_repo.specs.States.{Contents}
-use Rattle.camp_script.specs.Canonical.{change_text}
+use Rattle.camp_script.specs.Canonical.{canonical_change}
 use Rattle.camp_script.specs.HistoryTexts.{history_text}
 use Rattle.camp_script.specs.Keeping.{kept_text}
 use Rattle.camp_script.specs.Lines.{lines_of}
@@ -83,7 +83,7 @@ open_answer pairs = pairs_answer (codes "open") pairs
 
 -- the changes of a side, in the form of a group of a script
 abbrev pub side_answer : List Primitive → List ℕ
-side_answer changes = counted (codes "side") (flat_map change_text changes)
+side_answer changes = counted (codes "side") (flat_map canonical_change changes)
 
 -- a side of a hunk: `side`, the name of its patch and the number of its lines, followed by each after `+`
 abbrev pub side_text : Version → List ℕ
@@ -128,8 +128,8 @@ abbrev pub catch_line : Catch → List ℕ
 catch_line catch = catch_text [] catch ++ newline ∷ []
 
 -- a patch: its catches, followed by its changes, in the form of a group of a script
-abbrev pub patch_answer : Patch → List ℕ
-patch_answer patch = counted (codes "show") (flat_map catch_line patch.catches ++ flat_map change_text patch.changes)
+abbrev pub patch_answer : PatchContents → List ℕ
+patch_answer patch = counted (codes "show") (flat_map catch_line patch.catches ++ flat_map canonical_change patch.changes)
 
 -- the conflicts that would become unresolved, and those that would be resolved
 abbrev pub changes_answer : Standing → List ℕ

@@ -27,21 +27,21 @@ reason_of (refusal.NoMerge left right) = reason.NoMerge
 reason_of (refusal.SameBranch branch) = reason.SameBranch
 
 -- its number
-abbrev pub number_of : Reason → List ℕ
-number_of reason.BadName = codes "1"
-number_of reason.BadPath = codes "2"
-number_of reason.BadLine = codes "3"
-number_of reason.NoBranch = codes "4"
-number_of reason.BranchExists = codes "5"
-number_of reason.PatchExists = codes "6"
-number_of reason.NoPatch = codes "7"
-number_of reason.NothingToDo = codes "8"
-number_of reason.TooLarge = codes "9"
-number_of reason.DoesNotApply = codes "10"
-number_of reason.Depends = codes "11"
-number_of reason.Diverged = codes "12"
-number_of reason.NoMerge = codes "13"
-number_of reason.SameBranch = codes "14"
+abbrev pub reason_number : Reason → List ℕ
+reason_number reason.BadName = codes "1"
+reason_number reason.BadPath = codes "2"
+reason_number reason.BadLine = codes "3"
+reason_number reason.NoBranch = codes "4"
+reason_number reason.BranchExists = codes "5"
+reason_number reason.PatchExists = codes "6"
+reason_number reason.NoPatch = codes "7"
+reason_number reason.NothingToDo = codes "8"
+reason_number reason.TooLarge = codes "9"
+reason_number reason.DoesNotApply = codes "10"
+reason_number reason.Depends = codes "11"
+reason_number reason.Diverged = codes "12"
+reason_number reason.NoMerge = codes "13"
+reason_number reason.SameBranch = codes "14"
 
 -- the form of a refusal, and its meaning; the first three are reported as faults
 abbrev pub saying : Reason → List ℕ

@@ -140,9 +140,9 @@ misnamed_text word =
     if nat_lt most_shown (length word) then page (codes "A word of more than 200 bytes is no name." ∷ []) else no_name_text word
 
 -- text: which word has the fault, if it is one of many
-abbrev pub word_text : FaultKind → List ℕ → List ℕ
-word_text kind.BadName line = misnamed_text (misnamed (words_of line))
-word_text other line = []
+abbrev pub word_report : FaultKind → List ℕ → List ℕ
+word_report kind.BadName line = misnamed_text (misnamed (words_of line))
+word_report other line = []
 
 -- text: the lines after it are taken for its own, if it has some
 abbrev pub recovery_text : Recovery → List ℕ
@@ -156,7 +156,7 @@ recovery_text GroupBody = page (codes "After it, lines that begin no command are
 -- it are taken for its own
 abbrev pub fault_lines : FaultKind → List ℕ → List ℕ → Recovery → List ℕ
 fault_lines kind line answer recovery =
-    answer ++ shown_line line ++ word_text kind line ++ hint_text (hint kind line) ++ rule kind ++ recovery_text recovery
+    answer ++ shown_line line ++ word_report kind line ++ hint_text (hint kind line) ++ rule kind ++ recovery_text recovery
 
 -- ---- of a command that is refused
 
@@ -208,8 +208,8 @@ hindrance_text (hindrance.TooLong count) =
     codes ": it would have " ++ decimal count ++ codes " lines, and 1000000 is the most.\n"
 
 -- the number of a change, and the path of its file
-abbrev pub change_text : ℕ → List ℕ → List ℕ
-change_text change path = codes "Change " ++ decimal change ++ codes ", file " ++ path
+abbrev pub change_report : ℕ → List ℕ → List ℕ
+change_report change path = codes "Change " ++ decimal change ++ codes ", file " ++ path
 
 -- text: a number is the limit
 abbrev pub most_text : ℕ → List ℕ
@@ -224,9 +224,9 @@ cause_text (cause.FullBranch has more most) =
 cause_text (cause.FullWithPull has more most) =
     two_numbers (codes "TO has ") has (codes " changes, and the pull brings ") more (codes " more: ") ++ most_text most
 cause_text (cause.LongSide change path old new) =
-    change_text change path
+    change_report change path
     ++ two_numbers (codes ": the edit has ") old (codes " old lines and ") new (codes " new ones, and 65535 is the most of each.\n")
-cause_text (cause.Stops stop) = change_text stop.change stop.path ++ hindrance_text stop.why
+cause_text (cause.Stops stop) = change_report stop.change stop.path ++ hindrance_text stop.why
 
 -- the same, if its refusal does not say it all
 abbrev pub found_text : Option Cause → List ℕ

@@ -2,7 +2,7 @@
 use Rattle.std.specs.Prelude.{◌≡◌, ◌⊎◌, ℕ, List, [], ◌++◌}
 use Rattle.std.specs.List.{flat_map}
 use Rattle.camp_talk.specs.Diagnostics.{no_diagnostic}
-use Rattle.camp_talk.specs.Answers.{Answers, SessionState}
+use Rattle.camp_talk.specs.Answers.{AnswersCommand, SessionState}
 use Rattle.camp_talk.specs.Cutting.{IsCommand, IsLeft}
 use Rattle.camp_talk.specs.Entries.{Entries}
 use Rattle.camp_talk.specs.Talks.{AnswersInOrder, Exchange}
@@ -16,7 +16,7 @@ pub record AnswersRequest (history : Entries) (request answer : List ℕ) (now :
   pub after : SessionState
   pub follow : AnswersInOrder (record { history = history; lines = 0; diagnostic = no_diagnostic }) exchanges middle
   pub is : IsLeft last.command
-  pub answers : Answers middle last.command last.answer after
+  pub answers : AnswersCommand middle last.command last.answer after
   pub same : now ≡ after.history
   pub asks : request ≡ flat_map (λ exchange. exchange.command) exchanges ++ last.command
   pub reports : answer ≡ flat_map (λ exchange. exchange.answer) exchanges ++ last.answer
@@ -27,7 +27,7 @@ pub record AsksOneMore (middle : SessionState) (rest front : List ℕ) (now : En
   pub more : List ℕ
   pub is : IsCommand last.command ⊎ (IsLeft last.command × (more ≡ []))
   pub reached : SessionState
-  pub answers : Answers middle last.command last.answer reached
+  pub answers : AnswersCommand middle last.command last.answer reached
   pub same : now ≡ reached.history
   pub asks : rest ≡ last.command ++ more
   pub unsaid : List ℕ

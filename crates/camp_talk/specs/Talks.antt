@@ -3,7 +3,7 @@ use Rattle.std.specs.Prelude.{◌≡◌, ◌^◌, ◌+◌, ◌<◌, ◌≤◌, �
 use Rattle.std.specs.List.{flat_map}
 use Rattle.std.specs.Io.KnownBytes.{Appends, Consumes, IsAtEnd, Keeps}
 use Rattle.camp_script.specs.Lines.{lines_of}
-use Rattle.camp_talk.specs.Answers.{Answers, SessionState}
+use Rattle.camp_talk.specs.Answers.{AnswersCommand, SessionState}
 use Rattle.camp_talk.specs.Cutting.{IsCommand, IsLeft}
 use Rattle.camp_talk.specs.Entries.{Entries}
 use Rattle.camp_talk.specs.declared.faults.TalkFault.{TalkFault}
@@ -56,7 +56,7 @@ module _ (remaining rest old new : Option (List ℕ)) where
   pub record Exchanges (whole : Bool) (before after : SessionState) : Type 0 where
     pub exchange : Exchange
     pub reads : ReadsCommand remaining rest whole exchange.command
-    pub answers : Answers before exchange.command exchange.answer after
+    pub answers : AnswersCommand before exchange.command exchange.answer after
     pub writes : Appends old new exchange.answer
 
   -- a command was read and executed, and a prefix of its answer was written; its lines are not counted
@@ -65,7 +65,7 @@ module _ (remaining rest old new : Option (List ℕ)) where
     pub exchange : Exchange
     pub reads : ReadsCommand remaining rest whole exchange.command
     pub reached : SessionState
-    pub answers : Answers before exchange.command exchange.answer reached
+    pub answers : AnswersCommand before exchange.command exchange.answer reached
     pub same : after ≡ record { history = reached.history; lines = before.lines; diagnostic = reached.diagnostic }
     pub writes : AppendsSome old new exchange.answer
 
@@ -88,7 +88,7 @@ module _ (remaining rest old new : Option (List ℕ)) where
 abbrev pub AnswersInOrder : SessionState → List Exchange → SessionState → Type 0
 AnswersInOrder first [] last = first ≡ last
 AnswersInOrder first (exchange ∷ others) last =
-    (next : SessionState) × IsCommand exchange.command × Answers first exchange.command exchange.answer next × AnswersInOrder next others last
+    (next : SessionState) × IsCommand exchange.command × AnswersCommand first exchange.command exchange.answer next × AnswersInOrder next others last
 
 -- exactly these commands were read and answered so far
 pub record HasAnswered (remaining rest old new : Option (List ℕ)) (first last : SessionState) : Type 0 where

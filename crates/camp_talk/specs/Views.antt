@@ -56,20 +56,20 @@ ShowsAt false state line parsed text = ShowsParsed state parsed text
 
 -- the answer to a parsed command: a fault, by its line, counted from the start of the request; a fault of its own, if
 -- it asks for more than a state has; else the answer of a conversation at this state
-abbrev pub Shows : Contents → ℕ → Result ParsedCommand LineFault → List ℕ → Type 0
-Shows state before (Err fault) text = text ≡ fault_text (before + fault.line) fault.kind
-Shows state before (Ok parsed) text = ShowsAt (is_beyond parsed) state (before + 1) parsed text
+abbrev pub ShowsAnswer : Contents → ℕ → Result ParsedCommand LineFault → List ℕ → Type 0
+ShowsAnswer state before (Err fault) text = text ≡ fault_text (before + fault.line) fault.kind
+ShowsAnswer state before (Ok parsed) text = ShowsAt (is_beyond parsed) state (before + 1) parsed text
 
 -- a command is answered, given the number of lines before it; then its own are counted too
-pub record Sees (state : Contents) (before : ℕ) (exchange : Exchange) (after : ℕ) : Type 0 where
-  pub shows : Shows state before (parsed_command exchange.command) exchange.answer
+pub record AnswersViewCommand (state : Contents) (before : ℕ) (exchange : Exchange) (after : ℕ) : Type 0 where
+  pub shows : ShowsAnswer state before (parsed_command exchange.command) exchange.answer
   pub counts : after ≡ before + length (lines_of exchange.command)
 
 -- commands are answered one after the other, each at the same state
 abbrev pub SeesAll : Contents → ℕ → List Exchange → ℕ → Type 0
 SeesAll state first [] last = first ≡ last
 SeesAll state first (exchange ∷ others) last =
-    (next : ℕ) × IsCommand exchange.command × Sees state first exchange next × SeesAll state next others last
+    (next : ℕ) × IsCommand exchange.command × AnswersViewCommand state first exchange next × SeesAll state next others last
 
 -- a request is commands, one after the other, and perhaps a last one cut off by its end; the answer is that of each,
 -- in order
@@ -80,6 +80,6 @@ pub record AnswersView (state : Contents) (request answer : List ℕ) : Type 0 w
   pub after : ℕ
   pub sees : SeesAll state 0 exchanges middle
   pub is : IsLeft last.command
-  pub ends : Sees state middle last after
+  pub ends : AnswersViewCommand state middle last after
   pub asks : request ≡ flat_map (λ exchange. exchange.command) exchanges ++ last.command
   pub reports : answer ≡ flat_map (λ exchange. exchange.answer) exchanges ++ last.answer

@@ -1,7 +1,7 @@
 //! Why a command with a fault was not done.
 ghost use Rattle.std.specs.Prelude.{◌≡◌, ◌++◌, IfOk, codes, take};
 ghost use Rattle.camp_script.specs.Lines.{lines_of};
-ghost use Rattle.camp_talk.specs.Reports.{body_rule, cut_off, cut_text, fault_diagnostic, fault_lines, hint_text, is_consequence, is_no_command, line_at, may_record, misnamed_text, most_shown, own_fault_diagnostic, recovery_text, rule, shown_line, word_text};
+ghost use Rattle.camp_talk.specs.Reports.{body_rule, cut_off, cut_text, fault_diagnostic, fault_lines, hint_text, is_consequence, is_no_command, line_at, may_record, misnamed_text, most_shown, own_fault_diagnostic, recovery_text, rule, shown_line, word_report};
 
 use crate::Diagnostic;
 use crate::answer_parts::{both, joined};
@@ -109,7 +109,7 @@ fn fault_lines(
     let hint = hint_text(find_hint(kind, line)).as_bytes();
     let recovery = recovery_text(recovery).as_bytes();
     let rules = joined(alloc, &[hint, rule(kind).as_bytes(), recovery]);
-    let front = both(with_line(alloc, answer, line), word_text(alloc, kind, line));
+    let front = both(with_line(alloc, answer, line), word_report(alloc, kind, line));
     both(front, rules)
 }
 
@@ -157,8 +157,8 @@ fn shown_end(line: &[u8]) -> &str
 }
 
 // Renders which word has the fault, if it is one of many.
-fn word_text(alloc: Global, kind: FaultKind, line: &[u8]) -> Result<Vec<u8>, AllocError>
-    ensures { IfOk result (λ text. text.items ≡ word_text kind line.now) }
+fn word_report(alloc: Global, kind: FaultKind, line: &[u8]) -> Result<Vec<u8>, AllocError>
+    ensures { IfOk result (λ text. text.items ≡ word_report kind line.now) }
 {
     match kind {
         FaultKind::BadName => misnamed_text(alloc, misnamed(line)),

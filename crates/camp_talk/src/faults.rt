@@ -1,6 +1,6 @@
 //! Why a conversation ends before its input does.
 ghost use Rattle.std.specs.Prelude.{◌≡◌, Some};
-ghost use Rattle.camp_talk.specs.Faults.{fault_status, fault_words, load_status, load_words};
+ghost use Rattle.camp_talk.specs.Faults.{fault_status, talk_fault_words, load_status, load_words};
 
 use bstr::BStr;
 use camp_script::without_end;
@@ -33,7 +33,7 @@ impl TalkFault {
 }
 
 impl fmt::Display for TalkFault {
-    ghost output = { λ fault. Some (fault_words fault) };
+    ghost output = { λ fault. Some (talk_fault_words fault) };
 
     fn fmt<W: fmt::Write>(&self, f: &mut fmt::Formatter<W>) -> fmt::Result {
         match self {

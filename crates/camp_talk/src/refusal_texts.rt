@@ -1,7 +1,7 @@
 //! The texts about refusals.
 ghost use Rattle.std.specs.Prelude.{◌≡◌, IfOk};
 ghost use Rattle.std.specs.List.{flat_map};
-ghost use Rattle.camp_talk.specs.Refusals.{cure, number_of, reasons, refusal_text, saying};
+ghost use Rattle.camp_talk.specs.Refusals.{cure, reason_number, reasons, refusal_text, saying};
 
 use crate::answer_parts::joined;
 use crate::questions::Reason;
@@ -49,8 +49,8 @@ pub(crate) fn reasons() -> [Reason; 14]
 }
 
 /// Returns the number of a refusal.
-pub(crate) fn number_of(reason: Reason) -> &'static str
-    ensures { result.now ≡ number_of reason }
+pub(crate) fn reason_number(reason: Reason) -> &'static str
+    ensures { result.now ≡ reason_number reason }
 {
     match reason {
         Reason::BadName => "1",

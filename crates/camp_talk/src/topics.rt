@@ -10,7 +10,7 @@ ghost use Rattle.camp_talk.specs.Help.{example};
 use crate::help_answers::{commands, example};
 use crate::parsing::{first_line, is_word};
 use crate::questions::{Reason, Topic};
-use crate::refusal_texts::{number_of, reasons};
+use crate::refusal_texts::{reason_number, reasons};
 use camp_script::{FaultKind, ScriptFault, at_line, begins_with};
 
 /// Parses the topic of help, by the words after `help`.
@@ -65,7 +65,7 @@ fn first_numbered<'a>(number: &[u8], reasons: &'a [Reason]) -> Option<&'a Reason
 {
     reasons
         .iter()
-        .find(|reason| is_word(number_of(**reason).as_bytes(), number))
+        .find(|reason| is_word(reason_number(**reason).as_bytes(), number))
 }
 
 // Returns the command that a word begins.

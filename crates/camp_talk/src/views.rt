@@ -6,7 +6,7 @@ ghost use Rattle.camp_script.specs.declared.faults.LineFault.{LineFault as SpecF
 ghost use Rattle.camp_talk.specs.Inside.Responses.{IsNotWriting};
 ghost use Rattle.camp_talk.specs.Inside.Viewing.{SeesStep};
 ghost use Rattle.camp_talk.specs.Talks.{HasGrown};
-ghost use Rattle.camp_talk.specs.Views.{AnswersView, Shows, beyond_text};
+ghost use Rattle.camp_talk.specs.Views.{AnswersView, ShowsAnswer, beyond_text};
 ghost use Rattle.camp_talk.specs.declared.questions.ParsedCommand.{ParsedCommand as SpecParsedCommand};
 
 use crate::answer_parts::joined;
@@ -90,7 +90,7 @@ fn append_view(
     answer: &mut Vec<u8>,
 ) -> Result<(), TalkFault>
     ensures shows { IfOk result (λ _. (text : List ℕ) × (answer.new.items ≡ answer.old.items ++ text)
-        × ((reading : Result SpecParsedCommand SpecFault) → Gives command.now.parsed reading → Shows state.now lines.old reading text)) }
+        × ((reading : Result SpecParsedCommand SpecFault) → Gives command.now.parsed reading → ShowsAnswer state.now lines.old reading text)) }
     ensures counts { IfOk result (λ _. (lines.new ≡ lines.old + length (lines_of command.now.bytes.items)) × (lines.new < 2 ^ 64)) }
     ensures kept { OnErr result (answer.new.items ≡ answer.old.items) }
     ensures unwritten { IfErr result IsNotWriting }
@@ -114,7 +114,7 @@ fn show(
     parsed: &Result<ParsedCommand, ScriptFault>,
 ) -> Result<Vec<u8>, AllocError>
     ensures { IfOk result (λ text. (reading : Result SpecParsedCommand SpecFault) → Gives parsed.now reading →
-        Shows state.now before reading text.items) }
+        ShowsAnswer state.now before reading text.items) }
 {
     match parsed {
         Ok(ParsedCommand::Nothing) => Ok(Vec::new(alloc)),
@@ -129,7 +129,7 @@ fn show(
 // Renders the reply to a call that asks; that of its fault to one that would write.
 #[tactic(auto, using(crate::proofs::ViewLemmas::leads_on))]
 fn show_reply(alloc: Global, state: &State, before: u64, call: &Call) -> Result<Vec<u8>, AllocError>
-    ensures { IfOk result (λ text. Shows state.now before (Ok (SpecParsedCommand.Call call.now)) text.items) }
+    ensures { IfOk result (λ text. ShowsAnswer state.now before (Ok (SpecParsedCommand.Call call.now)) text.items) }
 {
     if call.is_writing() {
         return beyond_text(alloc, before);
@@ -149,7 +149,7 @@ fn show_answer_of(
     before: u64,
     question: &Question,
 ) -> Result<Vec<u8>, AllocError>
-    ensures { IfOk result (λ text. Shows state.now before (Ok (SpecParsedCommand.Question question.now)) text.items) }
+    ensures { IfOk result (λ text. ShowsAnswer state.now before (Ok (SpecParsedCommand.Question question.now)) text.items) }
 {
     match question {
         Question::History | Question::Keep => beyond_text(alloc, before),

@@ -4,7 +4,7 @@ ghost use Rattle.camp_script.specs.Gives.{Gives};
 ghost use Rattle.camp_script.specs.Lines.{lines_of, words_of};
 ghost use Rattle.camp_script.specs.declared.faults.LineFault.{LineFault as SpecFault};
 ghost use Rattle.camp_talk.specs.Parsing.{first_of};
-ghost use Rattle.camp_talk.specs.Reports.{against_text, cause_found, cause_text, change_text, cure_at, diagnostic_with, ends_text, facts_text, found_text, hindrance_text, is_failure, lacks_text, limit_cure, met_lines, met_text, misfit_text, most_text, reason_in, refusal_lines, refusal_report, report_or_none, trimmed, two_numbers, why_answer};
+ghost use Rattle.camp_talk.specs.Reports.{against_text, cause_found, cause_text, change_report, cure_at, diagnostic_with, ends_text, facts_text, found_text, hindrance_text, is_failure, lacks_text, limit_cure, met_lines, met_text, misfit_text, most_text, reason_in, refusal_lines, refusal_report, report_or_none, trimmed, two_numbers, why_answer};
 ghost use Rattle.camp_talk.specs.declared.questions.ParsedCommand.{ParsedCommand as SpecParsedCommand};
 ghost use Rattle.camp_why.specs.declared.misfits.Misfit.TheVariants.{EndsBefore};
 
@@ -261,11 +261,11 @@ fn cause_text(alloc: Global, cause: &Cause) -> Result<Vec<u8>, AllocError>
             old,
             new,
         } => both(
-            change_text(alloc, *change, path),
+            change_report(alloc, *change, path),
             long_text(alloc, *old, *new),
         ),
         Cause::Stops(stop) => both(
-            change_text(alloc, stop.change, &stop.path),
+            change_report(alloc, stop.change, &stop.path),
             hindrance_text(alloc, &stop.why),
         ),
     }
@@ -299,8 +299,8 @@ fn two_numbers<'a>(
 }
 
 // Renders the number of a change, and the path of its file.
-fn change_text(alloc: Global, change: usize, path: &Path) -> Result<Vec<u8>, AllocError>
-    ensures { IfOk result (λ text. text.items ≡ change_text change path.now) }
+fn change_report(alloc: Global, change: usize, path: &Path) -> Result<Vec<u8>, AllocError>
+    ensures { IfOk result (λ text. text.items ≡ change_report change path.now) }
 {
     let mut digits = Buffer::new();
     let change = digits.format(change).as_bytes();

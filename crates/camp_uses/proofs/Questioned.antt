@@ -1,6 +1,6 @@
 -- The answer to a question, and the result of a call that uses it.
 use Rattle.camp_uses.proofs.Words.{◌≡◌, ◌≢◌, ◌<◌, ◌||◌, ◌⊎◌, inl, inr, ℕ, Bool, true, false, not, ◌&&◌, List, [], ◌∷◌, ◌++◌, map, length, Option, None, Some, Result, Ok, Err, IsErrAnd, bytes_eq, refl, sym, ap, ◌∙◌, subst, arith, same_Some, Catch, has_patch, is_among, name_of, names_of, other_names}
-use Rattle.camp_uses.proofs.Words.{Outcome, Reply, Next, Answer, AcceptedCallsHaveEffect, Has, Contents, catches_of, Decision, becomes, first_lacked, is_empty, is_full_with, pull_wanted, refused, refused_if, step, wanted, with_patches, IsShown, Patch, patch_in, GoesWithHeld, HasThem, IsRefusal, MayRefuse, MayRefuseFor, PullsAlong}
+use Rattle.camp_uses.proofs.Words.{Outcome, Reply, Next, Answer, AcceptedCallsHaveEffect, Has, Contents, catches_of, Decision, becomes, first_lacked, is_empty, is_full_with, pull_wanted, refused, refused_if, step, wanted, with_patches, IsShown, PatchContents, patch_in, GoesWithHeld, HasThem, IsRefusal, MayRefuse, MayRefuseFor, PullsAlong}
 use Rattle.std.specs.Option.{option_map_or}
 use Rattle.std.proofs.lemmas.List.Folds.{list_any-append}
 use Rattle.camp_branch.specs.declared.faults.Blocked.TheVariants as blocked
@@ -271,7 +271,7 @@ module _ (state : Contents) (branch : List ℕ) (names : List (List ℕ)) (some 
   ]
 
 -- a patch was shown
-pub shown_is : (state : Contents) (branch name : List ℕ) (shown : Patch) → IsShown state branch name (Ok shown) → (catches : List Catch) × Has state branch catches × (shown ≡ patch_in catches name)
+pub shown_is : (state : Contents) (branch name : List ℕ) (shown : PatchContents) → IsShown state branch name (Ok shown) → (catches : List Catch) × Has state branch catches × (shown ≡ patch_in catches name)
 shown_is state branch name shown told =
     let found = answered state branch (name ∷ []) (λ catches answer. answer ≡ Ok (patch_in catches name)) (Ok shown) shown refl told in
     (found.catches, found.has, same_answer (Ok shown) shown (patch_in found.catches name) refl found.is)

@@ -3,7 +3,7 @@ use Rattle.camp_uses.proofs.Words.{◌≡◌, List, Option, None, Some, Result, 
 use Rattle.std.specs.Option.{option_zip}
 use Rattle.camp_catch.specs.Catches.{Fits, FitsAll}
 use Rattle.camp_catch.specs.Commuting.{CommuteCatch}
-use Rattle.camp_catch.specs.Laws.{CommuteKeepsEffects, ListsKeepEffects, MergeIsSymmetric, MergeIsUnique}
+use Rattle.camp_catch.specs.Laws.{CommuteKeepsEffects, ListsKeepEffects, CatchMergeIsSymmetric, MergeIsUnique}
 use Rattle.camp_catch.specs.Merging.{MergeCatch}
 
 -- a pair that two catches commute to fits where the two fit
@@ -25,7 +25,7 @@ each_has_value (Some one) None there e = tt
 each_has_value (Some one) (Some other) there e = (refl, e)
 
 -- what two catches become after each other is the same, whichever is asked first
-pub agreed : {E : Type 0} → MergeIsSymmetric → MergeIsUnique → (j k : Catch) (here : Option (Catch × Catch)) (there : Result (Option (Catch × Catch)) E) (found : Result (Option ((Catch × Catch) × (Catch × Catch))) E) → FindsPair (MergeCatch j k) here → IfOk there (FindsPair (MergeCatch k j)) → IfOk found (λ value. IfSome value (λ pair. (here ≡ Some pair.0) × (there ≡ Ok (Some pair.1)))) → IfOk found (λ value. IfSome value (λ both. (both.0.0 ≡ both.1.1) × (both.0.1 ≡ both.1.0)))
+pub agreed : {E : Type 0} → CatchMergeIsSymmetric → MergeIsUnique → (j k : Catch) (here : Option (Catch × Catch)) (there : Result (Option (Catch × Catch)) E) (found : Result (Option ((Catch × Catch) × (Catch × Catch))) E) → FindsPair (MergeCatch j k) here → IfOk there (FindsPair (MergeCatch k j)) → IfOk found (λ value. IfSome value (λ pair. (here ≡ Some pair.0) × (there ≡ Ok (Some pair.1)))) → IfOk found (λ value. IfSome value (λ both. (both.0.0 ≡ both.1.1) × (both.0.1 ≡ both.1.0)))
 agreed symmetric unique j k here there (Err why) one other are = tt
 agreed symmetric unique j k here there (Ok None) one other are = tt
 agreed symmetric unique j k here there (Ok (Some (a, b))) one other are =

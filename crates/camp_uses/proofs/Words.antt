@@ -21,7 +21,7 @@ pub use Rattle.camp_object.specs.declared.faults.Fault.TheVariants.{Busy, Full, 
 pub use Rattle.camp_object.specs.declared.objects.Decided.TheVariants.{Answer, Next}
 pub use Rattle.camp_prim.specs.Effect.{Applies, Leads}
 pub use Rattle.camp_prim.specs.declared.primitives.Primitive.{Primitive}
-pub use Rattle.camp_questions.specs.Showing.{IsShown, Patch, patch_in}
+pub use Rattle.camp_questions.specs.Showing.{IsShown, PatchContents, patch_in}
 pub use Rattle.camp_repo.specs.Laws.{AcceptedCallsHaveEffect, Has, HistoriesTellTrees}
 pub use Rattle.camp_repo.specs.Objects.{repository}
 pub use Rattle.camp_repo.specs.States.{Contents, catches_of, initial}

@@ -8,7 +8,7 @@ use Rattle.camp_script.specs.Lines.{words_of}
 use Rattle.camp_script.specs.Pieces.{begins_with}
 use Rattle.camp_script.specs.declared.faults.FaultKind.{FaultKind}
 use Rattle.camp_script.specs.declared.faults.FaultKind.TheVariants as kind
-use Rattle.camp_why.specs.Hints.{HasNoForm, HintsAreSeen, IsOfCommand, IsPlain, IsSeen, ShowsNothing, begins, begins_blank, begins_end, begins_inner, begins_quoted, begins_record, begins_signed, begins_zero, edit_hint, ends_in_return, faulty, first_word, form_hint, has_quote, has_return, has_zero_in_front, hint, is_capital_end, is_cut, is_empty, is_end, is_quote, is_return, is_returned_end, is_strange, is_zero, line_hint, number_word, path_word, unsigned_hint, word_hint}
+use Rattle.camp_why.specs.Hints.{HasNoForm, HintsAreSeen, IsOfCommand, HasNoWordHint, HintIsTrue, ShowsNothing, begins, begins_blank, begins_end, begins_inner, begins_quoted, is_record_line, begins_signed, begins_zero, edit_hint, ends_in_return, faulty, first_word, form_hint, has_quote, has_return, has_zero_in_front, hint, is_capital_end, is_overlong, is_empty_line, is_end, is_quote, is_return, is_returned_end, is_strange, is_zero, line_hint, number_word, path_word, unsigned_hint, word_hint}
 use Rattle.camp_why.specs.declared.hints.Hint.{Hint}
 use Rattle.camp_why.specs.declared.hints.Hint.TheVariants as seen
 
@@ -38,12 +38,12 @@ is_nothing other = false
 
 -- the hint is true; if there is none, this holds
 record Says (k : FaultKind) (line : List ℕ) (Else : Type 0) (reported : Hint) : Type 0 where
-  is_seen : IsSeen k line reported
+  is_seen : HintIsTrue k line reported
   else_so : reported ≡ seen.Nothing → Else
 
 module _ (k : FaultKind) (line : List ℕ) {Else : Type 0} where
   -- by a test
-  tell : (test : Bool) (reported other : Hint) → is_nothing reported ≡ false → (test ≡ true → IsSeen k line reported) → (test ≡ false → Says k line Else other) → Says k line Else (cond test reported other)
+  tell : (test : Bool) (reported other : Hint) → is_nothing reported ≡ false → (test ≡ true → HintIsTrue k line reported) → (test ≡ false → Says k line Else other) → Says k line Else (cond test reported other)
   tell true reported other some holds fails = record { is_seen = holds refl; else_so = λ none. absurd (false≢true (sym some ∙ ap is_nothing none)) }
   tell false reported other some holds fails = fails refl
 
@@ -52,7 +52,7 @@ module _ (k : FaultKind) (line : List ℕ) {Else : Type 0} where
 
   module _ (returns : has_return k line ≡ ends_in_return (faulty k line)) (quotes : has_quote k line ≡ list_any is_quote (faulty k line)) where
     -- for the word that has the fault, or else
-    in_word : (other : Hint) → (IsPlain (faulty k line) → Says k line Else other) → Says k line Else (word_hint (faulty k line) other)
+    in_word : (other : Hint) → (HasNoWordHint (faulty k line) → Says k line Else other) → Says k line Else (word_hint (faulty k line) other)
     in_word other plain =
         tell (ends_in_return (faulty k line)) seen.CarriageReturn _ refl (λ e. returns ∙ e) (λ no_return.
         tell (list_any is_strange (faulty k line)) seen.Strange _ refl (λ e. e) (λ none_strange.
@@ -61,10 +61,10 @@ module _ (k : FaultKind) (line : List ℕ) {Else : Type 0} where
         plain (record { returns = no_return; strange = none_strange; quotes = no_quote; capitals = no_capital })))))
 
     in_line : IsOfCommand k → (other : Hint)
-        → (is_cut line ≡ false → begins_signed (first_word (words_of line)) ≡ false → IsPlain (faulty k line) → Says k line Else other)
+        → (is_overlong line ≡ false → begins_signed (first_word (words_of line)) ≡ false → HasNoWordHint (faulty k line) → Says k line Else other)
         → Says k line Else (line_hint line (faulty k line) other)
     in_line is other plain =
-        tell (is_cut line) seen.TooLong _ refl (λ e. e) (λ whole.
+        tell (is_overlong line) seen.TooLong _ refl (λ e. e) (λ whole.
         tell (begins_signed (first_word (words_of line))) seen.OfBody _ refl (λ e. (is, e)) (λ unsigned.
         in_word other (plain whole unsigned)))
 
@@ -73,7 +73,7 @@ module _ (line : List ℕ) where
       → Says kind.UnknownCommand line Else (form_hint line)
   in_form unsigned free =
       tell kind.UnknownCommand line (begins_with (codes "client") (words_of line)) seen.OfScript _ refl (λ e. (refl, e)) (λ script.
-      tell kind.UnknownCommand line (begins_record line) seen.NoChange _ refl (λ e. (refl, e)) (λ change.
+      tell kind.UnknownCommand line (is_record_line line) seen.NoChange _ refl (λ e. (refl, e)) (λ change.
       tell kind.UnknownCommand line (begins_with (codes "whatif") (words_of line)) seen.NoCall _ refl (λ e. (refl, e)) (λ call.
       tell kind.UnknownCommand line (begins_with (codes "help") (words_of line)) seen.NoTopic _ refl (λ e. (refl, e)) (λ topic.
       tell kind.UnknownCommand line (begins_inner line) seen.OfInner seen.Nothing refl (λ e. (refl, e)) (λ inner.
@@ -86,7 +86,7 @@ module _ (line : List ℕ) where
         inner = inner;
       })))))))
 
-  unsigned : {Else : Type 0} → begins_signed line ≡ false → is_end line ≡ false → is_empty line ≡ false
+  unsigned : {Else : Type 0} → begins_signed line ≡ false → is_end line ≡ false → is_empty_line line ≡ false
       → Says kind.BadEdit line Else (unsigned_hint line)
   unsigned none_signed no_end some =
       tell kind.BadEdit line (is_returned_end line) seen.CarriageReturn _ refl (returned_end line) (λ none.
@@ -95,8 +95,8 @@ module _ (line : List ℕ) where
 
   in_body : Says kind.BadEdit line (ShowsNothing kind.BadEdit line) (edit_hint line)
   in_body =
-      tell kind.BadEdit line (is_cut line) seen.TooLong _ refl (λ e. e) (λ whole.
-      tell kind.BadEdit line (is_empty line) seen.Empty _ refl (λ e. (refl, e)) (λ some.
+      tell kind.BadEdit line (is_overlong line) seen.TooLong _ refl (λ e. e) (λ whole.
+      tell kind.BadEdit line (is_empty_line line) seen.Empty _ refl (λ e. (refl, e)) (λ some.
       tell kind.BadEdit line (begins_blank line) seen.Blank _ refl (λ e. (refl, e)) (λ none.
       tell kind.BadEdit line (is_end line) seen.NoLine _ refl (λ e. (refl, e)) (λ no_end.
       tell kind.BadEdit line (begins_end line) seen.MoreThanEnd _ refl (λ e. (refl, e)) (λ none.
@@ -128,7 +128,7 @@ says kind.BadNumber line =
     (and_parts (begins_with (codes "help") (words_of line)) (begins_zero (number_word line))) (λ front.
     nothing kind.BadNumber line (end, returns, zero, front)))))
 says kind.BadEdit line = in_body line
-says kind.BadLine line = tell kind.BadLine line (is_cut line) seen.TooLong seen.Nothing refl (λ e. e) (nothing kind.BadLine line)
+says kind.BadLine line = tell kind.BadLine line (is_overlong line) seen.TooLong seen.Nothing refl (λ e. e) (nothing kind.BadLine line)
 says other line = nothing other line tt
 
 pub are_seen : HintsAreSeen

@@ -162,7 +162,7 @@ pub record HasLongSide (state : Contents) (request : Call) (number : ℕ) (path 
   pub is_long : IsLongAt changes number path old new
 
 -- the changes of a record stop at one of them, from the tree of their branch
-pub record StopsAt (state : Contents) (request : Call) (stop : Stop) : Type 0 where
+pub record RecordStopsAt (state : Contents) (request : Call) (stop : Stop) : Type 0 where
   pub catches : List Catch
   pub changes : List Primitive
   pub in_branch : RecordsIn state request catches changes
@@ -176,4 +176,4 @@ IsSo state request (FullRepository count most) = FillsRepository state request c
 IsSo state request (FullBranch has more most) = FillsBranch state request has more most
 IsSo state request (FullWithPull has more most) = FillsWithPull state request has more most
 IsSo state request (LongSide change path old new) = HasLongSide state request change path old new
-IsSo state request (Stops stop) = StopsAt state request stop
+IsSo state request (Stops stop) = RecordStopsAt state request stop

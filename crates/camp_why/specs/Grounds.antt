@@ -13,7 +13,7 @@ use Rattle.camp_repo.specs.Laws.{Has}
 use Rattle.camp_repo.specs.Outcomes.{obliterated, pulled}
 use Rattle.camp_repo.specs.States.{Contents, catches_of, stands}
 use Rattle.camp_repo.specs.Steps.{listed, refusal_of, refused, step, wanted}
-use Rattle.camp_why.specs.Laws.{IsExplained, IsInRange}
+use Rattle.camp_why.specs.Laws.{IsExplained, ChangesAreInRange}
 
 -- a call names a branch that has to exist
 abbrev pub NeedsBranch : Call → List ℕ → Type 0
@@ -97,5 +97,5 @@ IsGround state request (refusal.SameBranch name) = PullsItself request name
 -- if a lawful state refuses a call, what its refusal says is true
 abbrev pub RefusalsHaveGrounds : Type 0
 RefusalsHaveGrounds =
-    (state : Contents) (request : Call) (refusal : Refusal) → IsLawfulState state → IsCall request → IsInRange request →
+    (state : Contents) (request : Call) (refusal : Refusal) → IsLawfulState state → IsCall request → ChangesAreInRange request →
     step state request ≡ refused refusal → IsGround state request refusal

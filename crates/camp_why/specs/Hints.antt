@@ -65,12 +65,12 @@ abbrev pub is_end : List ℕ → Bool
 is_end line = bytes_eq line (codes "end")
 
 -- a line is empty
-abbrev pub is_empty : List ℕ → Bool
-is_empty line = length line == 0
+abbrev pub is_empty_line : List ℕ → Bool
+is_empty_line line = length line == 0
 
 -- a line is what is read for one with too many bytes: it has 4,098 bytes, the second of them `?`
-abbrev pub is_cut : List ℕ → Bool
-is_cut line = length line == 4098 && slice_index line 1 == 63
+abbrev pub is_overlong : List ℕ → Bool
+is_overlong line = length line == 4098 && slice_index line 1 == 63
 
 -- a word begins with the sign of a line of a body
 abbrev pub begins_signed : List ℕ → Bool
@@ -140,14 +140,14 @@ word_hint word other =
     else other)))
 
 -- a line is a record, perhaps after `whatif`
-abbrev pub begins_record : List ℕ → Bool
-begins_record line = begins_with (codes "record") (words_of (call_part line))
+abbrev pub is_record_line : List ℕ → Bool
+is_record_line line = begins_with (codes "record") (words_of (call_part line))
 
 -- the hint on the first word of a line that is not a command
 abbrev pub form_hint : List ℕ → Hint
 form_hint line =
     if begins_with (codes "client") (words_of line) then seen.OfScript
-    else (if begins_record line then seen.NoChange
+    else (if is_record_line line then seen.NoChange
     else (if begins_with (codes "whatif") (words_of line) then seen.NoCall
     else (if begins_with (codes "help") (words_of line) then seen.NoTopic
     else (if begins_inner line then seen.OfInner
@@ -156,7 +156,7 @@ form_hint line =
 -- the hint on a line with a word that should be a command, by that word and the other words
 abbrev pub line_hint : List ℕ → List ℕ → Hint → Hint
 line_hint line word other =
-    if is_cut line then seen.TooLong
+    if is_overlong line then seen.TooLong
     else (if begins_signed (first_word (words_of line)) then seen.OfBody
     else word_hint word other)
 
@@ -189,7 +189,7 @@ number_hint line =
 
 -- the hint on a line of a body that may be too long
 abbrev pub long_hint : List ℕ → Hint
-long_hint line = if is_cut line then seen.TooLong else seen.Nothing
+long_hint line = if is_overlong line then seen.TooLong else seen.Nothing
 
 -- the hint on a line of a body without a sign
 abbrev pub unsigned_hint : List ℕ → Hint
@@ -201,8 +201,8 @@ unsigned_hint line =
 -- the hint on a line of a body
 abbrev pub edit_hint : List ℕ → Hint
 edit_hint line =
-    if is_cut line then seen.TooLong
-    else (if is_empty line then seen.Empty
+    if is_overlong line then seen.TooLong
+    else (if is_empty_line line then seen.Empty
     else (if begins_blank line then seen.Blank
     else (if is_end line then seen.NoLine
     else (if begins_end line then seen.MoreThanEnd
@@ -249,32 +249,32 @@ IsOfCommand kind = (kind ≡ UnknownCommand) ⊎ (kind ≡ BadGroup)
 
 -- what a hint says of a line with a fault of a kind is true; a hint that only lines of some kinds can have is given
 -- for those kinds only
-abbrev pub IsSeen : FaultKind → List ℕ → Hint → Type 0
-IsSeen kind line seen.Nothing = Unit {0}
-IsSeen kind line seen.OfBody = IsOfCommand kind × (begins_signed (first_word (words_of line)) ≡ true)
-IsSeen kind line seen.OfScript = (kind ≡ UnknownCommand) × (begins_with (codes "client") (words_of line) ≡ true)
-IsSeen kind line seen.NoChange = (kind ≡ UnknownCommand) × (begins_record line ≡ true)
-IsSeen kind line seen.NoCall = (kind ≡ UnknownCommand) × (begins_with (codes "whatif") (words_of line) ≡ true)
-IsSeen kind line seen.NoTopic = (kind ≡ UnknownCommand) × (begins_with (codes "help") (words_of line) ≡ true)
-IsSeen kind line seen.OfInner = (kind ≡ UnknownCommand) × (begins_inner line ≡ true)
-IsSeen kind line seen.TooLong = is_cut line ≡ true
-IsSeen kind line seen.CarriageReturn = has_return kind line ≡ true
-IsSeen kind line seen.Strange = list_any is_strange (faulty kind line) ≡ true
-IsSeen kind line seen.Quotes = has_quote kind line ≡ true
-IsSeen kind line seen.Capitals = list_any is_capital_letter (faulty kind line) ≡ true
-IsSeen kind line seen.Zero = is_zero (faulty kind line) ≡ true
-IsSeen kind line seen.ZeroInFront = (begins_with (codes "help") (words_of line) ≡ true) × (begins_zero (faulty kind line) ≡ true)
-IsSeen kind line seen.Empty = (kind ≡ BadEdit) × (is_empty line ≡ true)
-IsSeen kind line seen.Blank = (kind ≡ BadEdit) × (begins_blank line ≡ true)
-IsSeen kind line seen.NoLine = (kind ≡ BadEdit) × (is_end line ≡ true)
-IsSeen kind line seen.TooFar = (kind ≡ BadNumber) × (is_end line ≡ true)
-IsSeen kind line seen.MoreThanEnd = (kind ≡ BadEdit) × (begins_end line ≡ true)
-IsSeen kind line seen.OldAfterNew = (kind ≡ BadEdit) × (begins (codes "-") line ≡ true)
-IsSeen kind line seen.NoSign =
-    (kind ≡ BadEdit) × (begins_signed line ≡ false) × (is_end line ≡ false) × (is_empty line ≡ false)
+abbrev pub HintIsTrue : FaultKind → List ℕ → Hint → Type 0
+HintIsTrue kind line seen.Nothing = Unit {0}
+HintIsTrue kind line seen.OfBody = IsOfCommand kind × (begins_signed (first_word (words_of line)) ≡ true)
+HintIsTrue kind line seen.OfScript = (kind ≡ UnknownCommand) × (begins_with (codes "client") (words_of line) ≡ true)
+HintIsTrue kind line seen.NoChange = (kind ≡ UnknownCommand) × (is_record_line line ≡ true)
+HintIsTrue kind line seen.NoCall = (kind ≡ UnknownCommand) × (begins_with (codes "whatif") (words_of line) ≡ true)
+HintIsTrue kind line seen.NoTopic = (kind ≡ UnknownCommand) × (begins_with (codes "help") (words_of line) ≡ true)
+HintIsTrue kind line seen.OfInner = (kind ≡ UnknownCommand) × (begins_inner line ≡ true)
+HintIsTrue kind line seen.TooLong = is_overlong line ≡ true
+HintIsTrue kind line seen.CarriageReturn = has_return kind line ≡ true
+HintIsTrue kind line seen.Strange = list_any is_strange (faulty kind line) ≡ true
+HintIsTrue kind line seen.Quotes = has_quote kind line ≡ true
+HintIsTrue kind line seen.Capitals = list_any is_capital_letter (faulty kind line) ≡ true
+HintIsTrue kind line seen.Zero = is_zero (faulty kind line) ≡ true
+HintIsTrue kind line seen.ZeroInFront = (begins_with (codes "help") (words_of line) ≡ true) × (begins_zero (faulty kind line) ≡ true)
+HintIsTrue kind line seen.Empty = (kind ≡ BadEdit) × (is_empty_line line ≡ true)
+HintIsTrue kind line seen.Blank = (kind ≡ BadEdit) × (begins_blank line ≡ true)
+HintIsTrue kind line seen.NoLine = (kind ≡ BadEdit) × (is_end line ≡ true)
+HintIsTrue kind line seen.TooFar = (kind ≡ BadNumber) × (is_end line ≡ true)
+HintIsTrue kind line seen.MoreThanEnd = (kind ≡ BadEdit) × (begins_end line ≡ true)
+HintIsTrue kind line seen.OldAfterNew = (kind ≡ BadEdit) × (begins (codes "-") line ≡ true)
+HintIsTrue kind line seen.NoSign =
+    (kind ≡ BadEdit) × (begins_signed line ≡ false) × (is_end line ≡ false) × (is_empty_line line ≡ false)
 
 -- no hint applies to a word that should be a name or a command
-pub record IsPlain (word : List ℕ) : Type 0 where
+pub record HasNoWordHint (word : List ℕ) : Type 0 where
   pub returns : ends_in_return word ≡ false
   pub strange : list_any is_strange word ≡ false
   pub quotes : list_any is_quote word ≡ false
@@ -284,28 +284,28 @@ pub record IsPlain (word : List ℕ) : Type 0 where
 pub record HasNoForm (line : List ℕ) : Type 0 where
   pub signed : begins_signed (first_word (words_of line)) ≡ false
   pub of_script : begins_with (codes "client") (words_of line) ≡ false
-  pub records : begins_record line ≡ false
+  pub records : is_record_line line ≡ false
   pub foresees : begins_with (codes "whatif") (words_of line) ≡ false
   pub helps : begins_with (codes "help") (words_of line) ≡ false
   pub inner : begins_inner line ≡ false
 
 -- no hint applies to a line with a fault of a kind
 abbrev pub ShowsNothing : FaultKind → List ℕ → Type 0
-ShowsNothing UnknownCommand line = (is_cut line ≡ false) × IsPlain (command_word line) × HasNoForm line
+ShowsNothing UnknownCommand line = (is_overlong line ≡ false) × HasNoWordHint (command_word line) × HasNoForm line
 ShowsNothing BadGroup line =
-    (is_cut line ≡ false) × (begins_signed (first_word (words_of line)) ≡ false) × IsPlain (first_word (words_of line))
-ShowsNothing BadName line = IsPlain (misnamed (words_of line))
+    (is_overlong line ≡ false) × (begins_signed (first_word (words_of line)) ≡ false) × HasNoWordHint (first_word (words_of line))
+ShowsNothing BadName line = HasNoWordHint (misnamed (words_of line))
 ShowsNothing WrongNumberOfWords line =
     (list_any is_return (words_of line) ≡ false) × (list_any begins_quoted (words_of line) ≡ false)
 ShowsNothing BadPath line = (ends_in_return (path_word line) ≡ false) × (list_any is_strange (path_word line) ≡ false)
 ShowsNothing BadNumber line =
     (is_end line ≡ false) × (ends_in_return (number_word line) ≡ false) × (is_zero (number_word line) ≡ false)
     × (has_zero_in_front line ≡ false)
-ShowsNothing BadLine line = is_cut line ≡ false
-ShowsNothing BadEdit line = (is_cut line ≡ false) × (begins (codes "+") line ≡ true)
+ShowsNothing BadLine line = is_overlong line ≡ false
+ShowsNothing BadEdit line = (is_overlong line ≡ false) × (begins (codes "+") line ≡ true)
 ShowsNothing other line = Unit {0}
 
 -- for each kind and each line: the hint is true, and if there is none, none applies
 pub record HintsAreSeen : Type 0 where
-  pub reported : (kind : FaultKind) (line : List ℕ) → IsSeen kind line (hint kind line)
+  pub reported : (kind : FaultKind) (line : List ℕ) → HintIsTrue kind line (hint kind line)
   pub none : (kind : FaultKind) (line : List ℕ) → hint kind line ≡ seen.Nothing → ShowsNothing kind line

@@ -35,12 +35,12 @@ pub record IsExplained (state : Contents) (request : Call) (refusal : Refusal) :
   pub is_so : IsSo state request cause
 
 -- the changes of a call are in range, as each change that a program holds is
-abbrev pub IsInRange : Call → Type 0
-IsInRange (call.Record branch name changes) = AllByRecursion InRange changes
-IsInRange other = Unit {0}
+abbrev pub ChangesAreInRange : Call → Type 0
+ChangesAreInRange (call.Record branch name changes) = AllByRecursion InRange changes
+ChangesAreInRange other = Unit {0}
 
 -- if a call is refused at a state, and its refusal does not say it all, a cause is reported
 abbrev pub RefusalsAreExplained : Type 0
 RefusalsAreExplained =
-    (state : Contents) (request : Call) (refusal : Refusal) → IsLawfulState state → IsCall request → IsInRange request →
+    (state : Contents) (request : Call) (refusal : Refusal) → IsLawfulState state → IsCall request → ChangesAreInRange request →
     step state request ≡ refused refusal → wants_cause request refusal ≡ true → IsExplained state request refusal

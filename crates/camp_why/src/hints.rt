@@ -3,7 +3,7 @@ ghost use Rattle.std.specs.Prelude.{◌≡◌, []};
 ghost use Rattle.std.specs.List.{list_any};
 ghost use Rattle.camp_base.specs.Signs.{is_capital_letter};
 ghost use Rattle.camp_script.specs.Lines.{words_of};
-ghost use Rattle.camp_why.specs.Hints.{begins_blank, begins_end, begins_inner, begins_quoted, begins_signed, begins_zero, call_part, call_word, command_word, count_hint, edit_hint, ends_in_return, first_word, form_hint, has_zero_in_front, hint, is_capital_end, is_cut, is_end, is_other_than_zero, is_quote, is_return, is_returned_end, is_strange, is_zero, last_words, line_hint, misnamed, number_hint, number_word, path_hint, path_word, unsigned_hint, word_hint};
+ghost use Rattle.camp_why.specs.Hints.{begins_blank, begins_end, begins_inner, begins_quoted, begins_signed, begins_zero, call_part, call_word, command_word, count_hint, edit_hint, ends_in_return, first_word, form_hint, has_zero_in_front, hint, is_capital_end, is_overlong, is_end, is_other_than_zero, is_quote, is_return, is_returned_end, is_strange, is_zero, last_words, line_hint, misnamed, number_hint, number_word, path_hint, path_word, unsigned_hint, word_hint};
 
 use camp_base::Name;
 use camp_script::{FaultKind, Words, begins_edit, begins_with, behind_word};
@@ -69,7 +69,7 @@ pub fn find_hint(kind: FaultKind, line: &[u8]) -> Hint
         FaultKind::WrongNumberOfWords => count_hint(line),
         FaultKind::BadPath => path_hint(path_word(line)),
         FaultKind::BadNumber => number_hint(line),
-        FaultKind::BadLine if is_cut(line) => Hint::TooLong,
+        FaultKind::BadLine if is_overlong(line) => Hint::TooLong,
         FaultKind::BadEdit => edit_hint(line),
         _ => Hint::Nothing,
     }
@@ -79,7 +79,7 @@ pub fn find_hint(kind: FaultKind, line: &[u8]) -> Hint
 fn line_hint(line: &[u8], word: &[u8], other: Hint) -> Hint
     ensures { result ≡ line_hint line.now word.now other }
 {
-    if is_cut(line) {
+    if is_overlong(line) {
         return Hint::TooLong;
     }
     if begins_signed(first_word(line)) {
@@ -164,7 +164,7 @@ fn has_zero_in_front(line: &[u8]) -> bool
 fn edit_hint(line: &[u8]) -> Hint
     ensures { result ≡ edit_hint line.now }
 {
-    if is_cut(line) {
+    if is_overlong(line) {
         return Hint::TooLong;
     }
     if line.is_empty() {
@@ -394,8 +394,8 @@ fn is_end(line: &[u8]) -> bool
 }
 
 // True if a line is what is read for one that is too long.
-fn is_cut(line: &[u8]) -> bool
-    ensures { result ≡ is_cut line.now }
+fn is_overlong(line: &[u8]) -> bool
+    ensures { result ≡ is_overlong line.now }
 {
     line.len() == CUT_BYTES && line[1] == b'?'
 }

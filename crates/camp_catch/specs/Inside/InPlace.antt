@@ -11,16 +11,16 @@ use Rattle.camp_catch.specs.declared.catches.Catch.{Catch}
 use Rattle.camp_catch.specs.declared.catches.Catch.TheVariants.{Plain}
 
 -- j and then k commute in place: k' is written where k was, and j' where j was
-abbrev pub CommutesInPlace : Catch × Catch → Catch × Catch → Type 0
-CommutesInPlace old new = CommuteCatch old.0 old.1 new.1 new.0
+abbrev pub CatchesCommuteInPlace : Catch × Catch → Catch × Catch → Type 0
+CatchesCommuteInPlace old new = CommuteCatch old.0 old.1 new.1 new.0
 
 -- j and k of the same state merge in place: k' is written where k was, and j' where j was
 abbrev pub MergesInPlace : Catch × Catch → Catch × Catch → Type 0
 MergesInPlace old new = MergeCatch old.0 old.1 new.1 new.0
 
 -- j and k of the same state merge, and this is what k becomes after j
-abbrev pub MergesBehind : Catch → Catch → Catch → Type 0
-MergesBehind j k k' = (j' : Catch) × MergeCatch j k k' j'
+abbrev pub MergesInto : Catch → Catch → Catch → Type 0
+MergesInto j k k' = (j' : Catch) × MergeCatch j k k' j'
 
 -- the catch with more conflicts; a plain one is unchanged
 abbrev pub with_gained : List ContextedPatch → Catch → Catch
@@ -28,18 +28,18 @@ with_gained gained (Plain a) = Plain a
 with_gained gained (Catch.Conflictor k) = Catch.Conflictor (with_conflicts (fold with_member k.conflicts gained) k)
 
 -- no catch has this absolute label
-abbrev pub Lacks : Key → List Catch → Type 0
-Lacks key list = All (λ j. catch_key j ≢ key) list
+abbrev pub LacksKey : Key → List Catch → Type 0
+LacksKey key list = All (λ j. catch_key j ≢ key) list
 
 -- `at` is the index of the first catch with this absolute label
-pub record FirstWith (key : Key) (list : List Catch) (at : ℕ) : Type 0 where
+pub record FirstWithKey (key : Key) (list : List Catch) (at : ℕ) : Type 0 where
   pub before : List Catch
   pub first : Catch
   pub after : List Catch
   pub is : list ≡ before ++ first ∷ after
   pub stands : length before ≡ at
   pub labelled : catch_key first ≡ key
-  pub lacks : Lacks key before
+  pub lacks : LacksKey key before
 
 -- the first catch with this absolute label is moved to the front
 abbrev pub ComesFirstInPlace : Key → List Catch → List Catch → Type 0

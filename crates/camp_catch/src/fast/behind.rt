@@ -3,9 +3,9 @@ ghost use Rattle.std.specs.Prelude.{List, IfOk};
 ghost use Rattle.std.specs.Result.{MatchResult};
 ghost use Rattle.camp_base.specs.Answers.{Finds};
 ghost use Rattle.camp_seq.specs.Running.{inverse_all};
-ghost use Rattle.camp_catch.specs.Inside.InPlace.{MergesBehind};
+ghost use Rattle.camp_catch.specs.Inside.InPlace.{MergesInto};
 ghost use Rattle.camp_catch.specs.Inside.Seen.{JoinedBySeen};
-ghost use Rattle.camp_catch.specs.Making.{ComesTo};
+ghost use Rattle.camp_catch.specs.Making.{GivesOrRunsOut};
 ghost use Rattle.camp_catch.specs.MergingLists.{MergesWithAll, SticksWithin};
 ghost use Rattle.camp_catch.specs.declared.catches.Catch.{Catch as AnyCatch};
 
@@ -26,7 +26,7 @@ pub(crate) fn merge_behind_all(
     q: &[Gaining],
     k: &Shared<Catch>,
 ) -> Result<Shared<Catch>, Unmade<NoMerge>>
-    ensures exact { ComesTo (λ answer. MatchResult answer
+    ensures exact { GivesOrRunsOut (λ answer. MatchResult answer
         (λ after. (q' : List AnyCatch) × MergesWithAll q.now k.now after q')
         (λ stuck. SticksWithin q.now k.now stuck.left stuck.right)) result }
 {
@@ -46,7 +46,7 @@ pub(crate) fn merge_behind(
     j: &Catch,
     k: &Shared<Catch>,
 ) -> Result<Option<Shared<Catch>>, AllocError>
-    ensures exact { IfOk result (Finds (MergesBehind j.now k.now)) }
+    ensures exact { IfOk result (Finds (MergesInto j.now k.now)) }
 {
     if merge_as_they_are(alloc, j, k)? {
         return Ok(Some(k.share()?));
@@ -59,7 +59,7 @@ pub(crate) fn merge_behind(
 
 /// Returns what the `k` of the same state becomes after `j`; what `j` becomes is not made.
 fn behind(alloc: Global, j: &Catch, k: &Catch) -> Result<Option<Catch>, AllocError>
-    ensures exact { IfOk result (Finds (MergesBehind j.now k.now)) }
+    ensures exact { IfOk result (Finds (MergesInto j.now k.now)) }
 {
     if let (Catch::Conflictor(j), Catch::Conflictor(k)) = (j, k) {
         return conflictor_behind(alloc, j, k);
@@ -77,7 +77,7 @@ fn conflictor_behind(
     j: &Conflictor,
     k: &Conflictor,
 ) -> Result<Option<Catch>, AllocError>
-    ensures exact { IfOk result (Finds (MergesBehind (AnyCatch.Conflictor j.now) (AnyCatch.Conflictor k.now))) }
+    ensures exact { IfOk result (Finds (MergesInto (AnyCatch.Conflictor j.now) (AnyCatch.Conflictor k.now))) }
 {
     let Some((s2, r2)) = merged_effects(alloc, &j.effect, &k.effect)? else {
         return Ok(None);

@@ -2,7 +2,7 @@
 ghost use Rattle.std.specs.Prelude.{◌≡◌, IfOk};
 ghost use Rattle.camp_base.specs.Answers.{Changes};
 ghost use Rattle.camp_catch.specs.Catches.{catch_key};
-ghost use Rattle.camp_catch.specs.Inside.InPlace.{CommutesInPlace, MergesBehind, MergesInPlace, with_gained};
+ghost use Rattle.camp_catch.specs.Inside.InPlace.{CatchesCommuteInPlace, MergesInto, MergesInPlace, with_gained};
 ghost use Rattle.camp_catch.specs.Inside.Meetings.{MeetAs};
 ghost use Rattle.camp_catch.specs.declared.catches.Catch.{Catch as AnyCatch};
 
@@ -108,7 +108,7 @@ impl Gaining {
 
     /// Commutes with the `k` after it, in place. False if they do not commute.
     pub(crate) fn let_pass(&mut self, k: &mut Shared<Catch>) -> Result<bool, AllocError>
-        ensures exact { IfOk result (λ done. Changes CommutesInPlace (self.old, k.old) done (self.new, k.new)) }
+        ensures exact { IfOk result (λ done. Changes CatchesCommuteInPlace (self.old, k.old) done (self.new, k.new)) }
     {
         let alloc = *self.gained.allocator();
         match passing_of(&self.catch, k)? {
@@ -131,7 +131,7 @@ impl Gaining {
     /// Merges with `j` of the same state, and becomes what it is after `j`. What `j` becomes is not made,
     /// since nobody reads it.
     pub(crate) fn go_behind(&mut self, j: &Gaining) -> Result<bool, AllocError>
-        ensures exact { IfOk result (λ done. Changes (MergesBehind j.now) self.old done self.new) }
+        ensures exact { IfOk result (λ done. Changes (MergesInto j.now) self.old done self.new) }
     {
         match meeting_of(&j.catch, &self.catch)? {
             Meeting::Aside => Ok(true),
@@ -186,7 +186,7 @@ fn merge_settled(j: &mut Gaining, k: &mut Gaining) -> Result<bool, AllocError>
 
 /// Commutes `j` and the `k` after it; makes the set of `j` first.
 fn pass_settled(j: &mut Gaining, k: &mut Shared<Catch>) -> Result<bool, AllocError>
-    ensures exact { IfOk result (λ done. Changes CommutesInPlace (j.old, k.old) done (j.new, k.new)) }
+    ensures exact { IfOk result (λ done. Changes CatchesCommuteInPlace (j.old, k.old) done (j.new, k.new)) }
 {
     let alloc = *j.gained.allocator();
     let mut settled = j.settled()?;
@@ -199,7 +199,7 @@ fn pass_settled(j: &mut Gaining, k: &mut Shared<Catch>) -> Result<bool, AllocErr
 
 /// Merges `k` with the `j` of the same state, to what it is after `j`; makes their sets first.
 fn settle_behind(j: &Gaining, k: &mut Gaining) -> Result<bool, AllocError>
-    ensures exact { IfOk result (λ done. Changes (MergesBehind j.now) k.old done k.new) }
+    ensures exact { IfOk result (λ done. Changes (MergesInto j.now) k.old done k.new) }
 {
     let alloc = *k.gained.allocator();
     let first = j.settled()?;

@@ -1,6 +1,6 @@
 //! Quick checks for catches that commute or merge unchanged.
 ghost use Rattle.std.specs.Prelude.{IfOk, IsTrue};
-ghost use Rattle.camp_ctx.specs.Adding.{Adds, PassesBy};
+ghost use Rattle.camp_ctx.specs.Adding.{AddsToContext, PassesBy};
 ghost use Rattle.camp_seq.specs.NormalOrder.{Norm};
 ghost use Rattle.camp_seq.specs.Passing.{Passes};
 ghost use Rattle.camp_catch.specs.Commuting.{CommuteCatch, ConflictorPastPlain, PlainPastConflictor};
@@ -73,8 +73,8 @@ fn stand_aside(alloc: Global, a: &Named, k: &Conflictor) -> Result<bool, AllocEr
 /// to its identity or passes it.
 fn stays_behind(a: &Named, k: &Conflictor) -> bool
     ensures passes { IsTrue result → Passes a.now k.now.effect k.now.effect a.now }
-    ensures becomes { IsTrue result → Becomes (Norm k.now.effect) (Adds a.now) (Adds a.now) k.now k.now }
-    ensures passed { IsTrue result → Becomes (Norm k.now.effect) (Adds a.now) (PassesBy a.now) k.now k.now }
+    ensures becomes { IsTrue result → Becomes (Norm k.now.effect) (AddsToContext a.now) (AddsToContext a.now) k.now k.now }
+    ensures passed { IsTrue result → Becomes (Norm k.now.effect) (AddsToContext a.now) (PassesBy a.now) k.now k.now }
 {
     let effect = k.effect.items();
     stays_past(a, effect)

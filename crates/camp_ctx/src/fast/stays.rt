@@ -2,7 +2,7 @@
 ghost use Rattle.std.specs.Prelude.{◌≤◌, length, drop, IsTrue, slice_get};
 ghost use Rattle.std.specs.FinMap as map;
 ghost use Rattle.camp_seq.specs.NormalOrder.{Norm};
-ghost use Rattle.camp_ctx.specs.Adding.{Adds, AddsAll, PassesBy};
+ghost use Rattle.camp_ctx.specs.Adding.{AddsToContext, AddsAll, PassesBy};
 ghost use Rattle.camp_ctx.specs.Contexts.{ChangesAt, EachMember};
 ghost use Rattle.camp_ctx.specs.Inside.InPlace.{behind};
 
@@ -14,7 +14,7 @@ impl Contexted {
     /// A quick check: true only if `a` passes the contexted patch, and adding `a` leaves it unchanged, which may be so
     /// also if this is false. Does not allocate.
     pub fn stays_behind(&self, a: &Named) -> bool
-        ensures sound { IsTrue result → Adds a.now self.now self.now }
+        ensures sound { IsTrue result → AddsToContext a.now self.now self.now }
         ensures passes { IsTrue result → PassesBy a.now self.now self.now }
     {
         stays(a, self.context(), self.patch(), self.context_is_ordered())
@@ -25,7 +25,7 @@ impl Contexted {
 /// order.
 pub(crate) fn stays(a: &Named, context: &Seq, patch: &Named, told: bool) -> bool
     requires { IsTrue told → Norm context.now context.now }
-    ensures sound { IsTrue result → Adds a.now (behind context.now patch.now) (behind context.now patch.now) }
+    ensures sound { IsTrue result → AddsToContext a.now (behind context.now patch.now) (behind context.now patch.now) }
     ensures passes { IsTrue result → PassesBy a.now (behind context.now patch.now) (behind context.now patch.now) }
 {
     if !told {
@@ -54,7 +54,7 @@ pub(crate) fn changing(r: &[Named], x: &Contexted) -> usize
 impl CtxSet {
     /// True only if adding `a` leaves each member unchanged. False decides nothing. Does not allocate.
     pub fn stays_behind(&self, a: &Named) -> bool
-        ensures sound { IsTrue result → EachMember (Adds a.now) self.now self.now }
+        ensures sound { IsTrue result → EachMember (AddsToContext a.now) self.now self.now }
     {
         for index in 0..self.len() {
             if !member_stays(self, index, a) {
@@ -67,7 +67,7 @@ impl CtxSet {
 
 /// True if the member at `index`, if there is one, is unchanged when `a` is added.
 fn member_stays(set: &CtxSet, index: usize, a: &Named) -> bool
-    ensures { IsTrue result → ChangesAt (Adds a.now)
+    ensures { IsTrue result → ChangesAt (AddsToContext a.now)
         (slice_get (map.values set.now) index) (slice_get (map.values set.now) index) }
 {
     match set.at(index) {

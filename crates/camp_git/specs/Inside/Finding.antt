@@ -15,8 +15,8 @@ pub record IsPlaceOf (tree : Files) (bytes : List ℕ) (place : ℕ) : Type 0 wh
   pub here : (file : List ℕ × Lines) → slice_get (entries tree) place ≡ Some file → ¬ (slice_cmp nat_cmp file.0 bytes ≡ Less)
 
 -- the path of a file begins with these bytes
-abbrev pub IsBeginning : Files → List ℕ → Type 0
-IsBeginning tree bytes =
+abbrev pub IsStartOfPath : Files → List ℕ → Type 0
+IsStartOfPath tree bytes =
     (other : List ℕ) × (contains_key tree other ≡ true) × (take (length bytes) other ≡ bytes)
 
 -- a file is in the folder of a path

@@ -19,13 +19,13 @@ AddsCommit place old new before after =
     × CanHold new × ((git : GitTree) → HasFilesOf git old → HasFilesOf (changed_by git changes) new)
 
 -- the stream ended well, or with the file because of which git can't hold a tree, or because memory ran out
-abbrev pub EndsIn : {A : Type 0} → (A → Type 0) → List ℕ → Files → Result A Unexported → Type 0
-EndsIn Good name tree (Ok done) = Good done
-EndsIn Good name tree (Err (Unheld patch path)) =
+abbrev pub StreamEnds : {A : Type 0} → (A → Type 0) → List ℕ → Files → Result A Unexported → Type 0
+StreamEnds Good name tree (Ok done) = Good done
+StreamEnds Good name tree (Err (Unheld patch path)) =
     (patch ≡ name) × (contains_key tree path ≡ true) × CannotHold tree path
-EndsIn Good name tree (Err Memory) = Unit {0}
-EndsIn Good name tree (Err (NoBranch missing)) = ⊥
-EndsIn Good name tree (Err (Write error)) = ⊥
+StreamEnds Good name tree (Err Memory) = Unit {0}
+StreamEnds Good name tree (Err (NoBranch missing)) = ⊥
+StreamEnds Good name tree (Err (Write error)) = ⊥
 
 -- the stream of a branch, or the first patch whose tree git can't hold
 abbrev pub Streams : List ℕ → List Catch → Result (Vec ℕ Global) Unexported → Type 0

@@ -6,13 +6,13 @@ use Rattle.camp_questions.specs.declared.graphs.Node.{Node}
 use Rattle.camp_questions.specs.declared.needed.Needed.{Needed}
 
 -- the indexes of `n` patches
-abbrev pub up_to : ℕ → List ℕ
-up_to zero = []
-up_to (suc n) = up_to n ++ n ∷ []
+abbrev pub indexes_below : ℕ → List ℕ
+indexes_below zero = []
+indexes_below (suc n) = indexes_below n ++ n ∷ []
 
 -- the name at an index
-abbrev pub name_at : List (List ℕ) → ℕ → List ℕ
-name_at names place = get_or names place []
+abbrev pub name_at_index : List (List ℕ) → ℕ → List ℕ
+name_at_index names place = get_or names place []
 
 -- the patch at the index `at`, whose dependencies have these marks, depends on the patch at the index `place`
 abbrev pub needs_place : List Bool → ℕ → ℕ → Bool

@@ -11,11 +11,11 @@ hunk_at patch hunk line =
     record { name = patch.name; place = patch.place; inverse = patch.inverse; prim = Hunk (at_line line hunk) }
 
 -- a change and then a patch with a hunk at the first line commute, and the patch moves to the second line
-abbrev pub ComesBefore : Named → Named → Edit → ℕ → ℕ → Type 0
-ComesBefore change patch hunk line next = (behind : Named) × Commute change (hunk_at patch hunk line) (hunk_at patch hunk next) behind
+abbrev pub HunkMovesBefore : Named → Named → Edit → ℕ → ℕ → Type 0
+HunkMovesBefore change patch hunk line next = (behind : Named) × Commute change (hunk_at patch hunk line) (hunk_at patch hunk next) behind
 
 -- another hunk of the same file and then this hunk at `line` commute, all in range, and this hunk moves to `next`
-pub record Passes (other hunk : Edit) (line next : ℕ) : Type 0 where
+pub record HunkCommutesPast (other hunk : Edit) (line next : ℕ) : Type 0 where
   pub behind : Edit
   pub change : PrimitivesCommute (Hunk other) (Hunk (at_line line hunk)) (Hunk (at_line next hunk)) (Hunk behind)
   pub second : IsInRange (at_line next hunk)

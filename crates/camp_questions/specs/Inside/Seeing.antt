@@ -10,9 +10,9 @@ use Rattle.camp_ctx.specs.Contexts.{ContextedPatch, ContextedPatches, context_ke
 use Rattle.camp_questions.specs.Sides.{ComesBehind}
 
 -- the first of some contexted patches with an absolute label
-abbrev pub first_with : Key → List ContextedPatch → Option ContextedPatch
-first_with key [] = None
-first_with key (x ∷ xs) = if eq_by_cmp key_cmp key (context_key x) then Some x else first_with key xs
+abbrev pub first_with_key : Key → List ContextedPatch → Option ContextedPatch
+first_with_key key [] = None
+first_with_key key (x ∷ xs) = if eq_by_cmp key_cmp key (context_key x) then Some x else first_with_key key xs
 
 -- the contexted patch of a label after a list was added before it
 abbrev pub SeenBehind : List Named → Option ContextedPatch → Option ContextedPatch → Type 0
@@ -26,7 +26,7 @@ SeenToo undone (Some x) told seen = seen ≡ Some x
 
 -- the contexted patches of a list are also gathered, each under its label
 abbrev pub AllSeenToo : List Named → List ContextedPatch → ContextedPatches → ContextedPatches → Type 0
-AllSeenToo undone told was seen = (key : Key) → SeenToo undone (get was key) (first_with key told) (get seen key)
+AllSeenToo undone told was seen = (key : Key) → SeenToo undone (get was key) (first_with_key key told) (get seen key)
 
 -- a contexted patch is appended to changes (true), or they stay as they are
 abbrev pub ComesIf : Bool → List Named → ContextedPatch → List Named → Type 0

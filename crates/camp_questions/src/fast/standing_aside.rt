@@ -5,7 +5,7 @@ ghost use Rattle.std.specs.Result.{MatchResult};
 ghost use Rattle.camp_branch.specs.Fields.{names_in};
 ghost use Rattle.camp_catch.specs.Arranging.{ArrangesBehind, ComesBefore, DoNotCommute, SticksBehind};
 ghost use Rattle.camp_catch.specs.Commuting.{CommuteCatch};
-ghost use Rattle.camp_catch.specs.Making.{ComesTo};
+ghost use Rattle.camp_catch.specs.Making.{GivesOrRunsOut};
 ghost use Rattle.camp_questions.specs.Inside.ByPatch.{AreApart, AreOfPatch, ArePatches, catches_in_order};
 ghost use Rattle.camp_questions.specs.Inside.Growing.{GrowsToGo};
 ghost use Rattle.camp_questions.specs.Inside.StandingAside.{AllStay, StandsAside, StickBehind};
@@ -93,7 +93,7 @@ fn arranged_behind(
     patch: &PatchCatches,
 ) -> Result<Arranged, Unmade<Stuck>>
     requires { AreApart patch.now.name going.now }
-    ensures { ComesTo (λ answer. MatchResult answer
+    ensures { GivesOrRunsOut (λ answer. MatchResult answer
         (λ arranged. ArrangesBehind (patch.now.name ∷ []) going.now patch.now.catches.items arranged.first.items arranged.rest.items)
         (λ stuck. SticksBehind (patch.now.name ∷ []) going.now patch.now.catches.items stuck.patch stuck.on)) result }
 {

@@ -3,7 +3,7 @@ use Rattle.std.specs.Prelude.{◌≡◌, ℕ, List, [], slice_index_or, map, cou
 use Rattle.std.specs.List.{range_with_len}
 use Rattle.atomic_table.specs.Seated.{TableId}
 use Rattle.camp_row.specs.declared.entries.Entry.{Entry}
-use Rattle.camp_row.specs.Chains.{IsPrefix, own, FitsRow}
+use Rattle.camp_row.specs.Chains.{IsPrefix, own_entries, FitsRow}
 use Rattle.camp_row.specs.PassState.{PassState}
 
 -- what one seat knows: the sizes of the row, its number, the entries that it has seen, the chain that it last found, and
@@ -49,9 +49,9 @@ known_of table part = record {
 abbrev pub finds : List Entry → Part → Part
 finds chain part = record part { ahead = chain }
 
--- the seat has seen a prefix of the chain that it found, with all its own entries in the chain; and the chain fits the
+-- the seat has seen a prefix of the chain that it found, with all its own_entries entries in the chain; and the chain fits the
 -- row
 pub record IsSoundPart (part : Part) : Type 0 where
   pub prefix : IsPrefix part.seen part.ahead
-  pub own_seen : own part.number part.ahead ≡ own part.number part.seen
+  pub own_seen : own_entries part.number part.ahead ≡ own_entries part.number part.seen
   pub fits : FitsRow part.seats part.per_seat part.ahead

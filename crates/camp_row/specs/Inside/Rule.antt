@@ -4,7 +4,7 @@ use mathlib.Core.Option.{some}
 use lib.ListN.{get_elem?}
 use Rattle.camp_row.specs.declared.entries.Entry.{Entry}
 use Rattle.camp_row.specs.declared.knowledge.Knowledge.{Knowledge}
-use Rattle.camp_row.specs.Chains.{IsPrefix, own, entry_count, cell_of, head_word, FitsRow}
+use Rattle.camp_row.specs.Chains.{IsPrefix, own_entries, entry_count, cell_of, head_word, FitsRow}
 use Rattle.camp_row.specs.Inside.Parts.{Part, parts_of}
 
 -- word 0 is the head; the first word of each cell names its parent, the second is the index of its entry
@@ -25,12 +25,12 @@ IsLinked seats words chain =
     (before : List Entry) (entry : Entry) (after : List Entry) → before ++ entry ∷ after ≡ chain
     → HasCell words (cell_of seats before entry) (head_word seats before) entry.index
 
--- the invariant for one seat: it has seen its own entries, its next cell has its draft, and its later cells are empty
+-- the invariant for one seat: it has seen its own_entries entries, its next cell has its draft, and its later cells are empty
 pub record Knows (seats per_seat : ℕ) (words : List ℕ) (chain : List Entry) (part : Part) : Type 0 where
   pub sizes : (part.seats ≡ seats) × (part.per_seat ≡ per_seat) × (part.number < seats)
   pub seen : IsPrefix part.seen chain
   pub ahead : IsPrefix part.ahead chain
-  pub own_seen : own part.number chain ≡ own part.number part.seen
+  pub own_seen : own_entries part.number chain ≡ own_entries part.number part.seen
   pub draft :
       entry_count part.number part.seen < per_seat
       → HasCell words (entry_count part.number part.seen * seats + part.number) part.parent part.index

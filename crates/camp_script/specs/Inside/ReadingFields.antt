@@ -71,7 +71,7 @@ pub record AreClosed (sections : List (List Call)) : Type 0 where
   pub writes : AllByRecursion (λ section. count_by is_writing section ≤ most_writing_calls) sections
 
 -- the number of writing calls is counted and within the limit
-pub record IsKept (reading : Inside) : Type 0 where
+pub record SectionsAreCounted (reading : Inside) : Type 0 where
   pub closed : AreClosed (map (λ section. section.items) reading.closed.items)
   pub writes : reading.writes ≡ count_by is_writing reading.calls.items
   pub few : count_by is_writing reading.calls.items ≤ most_writing_calls

@@ -3,10 +3,10 @@ use Rattle.std.specs.Prelude.{◌≡◌, ℕ, ◌+◌, false, true, if◌then◌
 use Rattle.std.specs.Prelude.{List, [], ◌∷◌, length, Option, None, Some, Result, Ok, bytes_eq, codes}
 use Rattle.camp_prim.specs.declared.primitives.Primitive.TheVariants.{Hunk}
 use Rattle.camp_call.specs.declared.calls.Call.{Call}
-use Rattle.camp_script.specs.Changes.{GroupLine, NoChange, WholeChange, EditChange, EndGroup, group_line_of, grown, ended}
+use Rattle.camp_script.specs.Changes.{GroupLine, NoChange, WholeChange, EditChange, EndGroup, group_line_of, grown, ended_edit}
 use Rattle.camp_script.specs.Commands.{Command, Nothing, Ask, BeginEdit, BeginGroup, BeginSection, command_of}
 use Rattle.camp_script.specs.Lines.{words_of, is_skipped}
-use Rattle.camp_script.specs.Words.{◌>>=◌}
+use Rattle.camp_base.specs.Results.{◌>>=◌}
 use Rattle.camp_script.specs.Inside.Progress.{Progress, OpenRecord, OpenEdit, with_record, with_edit, with_open_edit}
 use Rattle.camp_script.specs.Inside.Progress.{with_one_more, record_at, after_call, after_head, after_client}
 use Rattle.camp_script.specs.Inside.Progress.{after_record, after_change, finished}
@@ -41,7 +41,7 @@ heeded line progress begun said = said >>= heed line progress begun
 -- after the line `end`
 abbrev pub after_end : ℕ → Progress → OpenRecord → OpenEdit → Result Progress LineFault
 after_end line progress begun body =
-    ended line body.edit >>= λ edit. after_change line progress begun (Hunk edit)
+    ended_edit line body.edit >>= λ edit. after_change line progress begun (Hunk edit)
 
 -- after a line of a body
 abbrev pub after_body : ℕ → Progress → OpenRecord → OpenEdit → List ℕ → Result Progress LineFault

@@ -4,14 +4,14 @@ use Rattle.std.specs.List.{flat_map}
 use Rattle.camp_call.specs.declared.calls.Call.{Call}
 use Rattle.camp_call.specs.declared.calls.Call.TheVariants as call
 use Rattle.camp_prim.specs.declared.primitives.Primitive.{Primitive}
-use Rattle.camp_script.specs.Canonical.{change_text}
+use Rattle.camp_script.specs.Canonical.{canonical_change}
 use Rattle.camp_script.specs.Keeping.{CanStand}
 use Rattle.camp_script.specs.Texts.{line_text}
 
 -- a single change, or those of a group
 abbrev pub patch_text : List Primitive → List ℕ
-patch_text (change ∷ []) = change_text change
-patch_text changes = line_text (codes "group" ∷ []) ++ flat_map change_text changes ++ line_text (codes "done" ∷ [])
+patch_text (change ∷ []) = canonical_change change
+patch_text changes = line_text (codes "group" ∷ []) ++ flat_map canonical_change changes ++ line_text (codes "done" ∷ [])
 
 -- a script can contain a call that is no record, unless it has an empty list of names
 abbrev pub CanStandOnLine : Call → Type 0

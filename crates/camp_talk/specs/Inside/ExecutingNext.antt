@@ -7,7 +7,7 @@ use Rattle.camp_repo.specs.States.{Contents}
 use Rattle.camp_script.specs.Lines.{lines_of}
 use Rattle.camp_script.specs.declared.faults.LineFault.{LineFault}
 use Rattle.camp_talk.specs.Diagnostics.{Diagnostic, diagnostic_after}
-use Rattle.camp_talk.specs.Answers.{Answers, AnswersParsed, SessionState, UpdatesDiagnostic, is_silent}
+use Rattle.camp_talk.specs.Answers.{AnswersCommand, AnswersParsed, SessionState, UpdatesDiagnostic, is_silent}
 use Rattle.camp_talk.specs.Parsing.{parsed_command}
 use Rattle.camp_talk.specs.Cutting.{IsCommand}
 use Rattle.camp_talk.specs.Entries.{Entries}
@@ -47,7 +47,7 @@ module _ (remaining rest : Option (List ℕ)) (before : SessionState) where
   pub record DoesOne (after : SessionState) : Type 0 where
     pub exchange : Exchange
     pub is : IsCommand exchange.command
-    pub answers : Answers before exchange.command exchange.answer after
+    pub answers : AnswersCommand before exchange.command exchange.answer after
     pub well : ReportsSuccess exchange.answer
     pub reads : Consumes remaining rest exchange.command
 

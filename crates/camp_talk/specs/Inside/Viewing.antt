@@ -3,14 +3,14 @@ use Rattle.std.specs.Prelude.{◌≡◌, ℕ, Bool, List, ◌++◌, Option}
 use Rattle.std.specs.List.{flat_map}
 use Rattle.camp_repo.specs.States.{Contents}
 use Rattle.camp_talk.specs.Talks.{Exchange, ReadsCommand}
-use Rattle.camp_talk.specs.Views.{Sees, SeesAll}
+use Rattle.camp_talk.specs.Views.{AnswersViewCommand, SeesAll}
 
 -- a command was read, whole or as far as the input has it, and its answer was appended
 pub record SeesStep (remaining rest : Option (List ℕ)) (old new : List ℕ) (state : Contents) (before : ℕ)
     (whole : Bool) (after : ℕ) : Type 0 where
   pub exchange : Exchange
   pub reads : ReadsCommand remaining rest whole exchange.command
-  pub sees : Sees state before exchange after
+  pub sees : AnswersViewCommand state before exchange after
   pub grows : new ≡ old ++ exchange.answer
 
 -- exactly these commands were read and answered so far

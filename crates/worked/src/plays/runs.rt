@@ -1,6 +1,6 @@
 //! Books and heads: scripts that are run, in one thread, over a lock or over a head.
 ghost use Rattle.std.specs.Prelude.{◌↔◌, ◌<◌, ◌≤◌, IsTrue};
-ghost use Rattle.camp_clients.specs.Sections.{most_tries};
+ghost use Rattle.camp_clients.specs.Sections.{most_run_tries};
 
 use crate::entries::Play;
 use crate::plays::commands::{number, read_numbers};
@@ -143,7 +143,7 @@ fn means_of(words: &[u8]) -> Result<Means, PlayFault> {
 }
 
 fn is_allowed(tries: u32) -> bool
-    ensures { IsTrue result ↔ ((0 < tries) × (tries ≤ most_tries)) }
+    ensures { IsTrue result ↔ ((0 < tries) × (tries ≤ most_run_tries)) }
 {
     0 < tries && tries <= 1_000
 }

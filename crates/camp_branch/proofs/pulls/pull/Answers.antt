@@ -4,7 +4,7 @@ use Rattle.std.proofs.Common.{eqb-true}
 use Rattle.std.proofs.lemmas.List.{nil_from_length}
 use Rattle.std.specs.FinMap.{len-entries}
 use Rattle.std.specs.Result.{MatchResult}
-use Rattle.camp_catch.specs.Making.{ComesTo}
+use Rattle.camp_catch.specs.Making.{GivesOrRunsOut}
 use Rattle.camp_branch.proofs.Words.{◌++◌, Ok, Err, entries, length-map, map_of, nat_cmp, slice_cmp, subst, sym, ◌∙◌, Arrange, PullBy, names_in}
 use Rattle.camp_branch.proofs.PullSteps.{both_diverge, depends, either_answer, merges, no_merge, ours_diverge, theirs_diverge}
 use Rattle.camp_branch.proofs.pulls.pull.Goals as goal
@@ -13,7 +13,7 @@ pub returns-then-is_empty : goal.returns-then-is_empty
 returns-then-is_empty c =
     let set = map_of (slice_cmp nat_cmp) c.args.common.now in
     let none = nil_from_length (names_in c.args.common.now) (length-map (entries set) (λ e. e.0) ∙ sym (len-entries set) ∙ eqb-true _ 0 (sym c.is_empty.ensures.exact ∙ c.if-is_empty.true)) in record {
-      exact = subst (λ names. ComesTo (λ answer. MatchResult answer
+      exact = subst (λ names. GivesOrRunsOut (λ answer. MatchResult answer
           (λ taken. PullBy names c.args.from.now c.args.to.now (names_in c.args.wanted.now) (Ok (c.args.to.now ++ taken.items)))
           (λ blocked. PullBy names c.args.from.now c.args.to.now (names_in c.args.wanted.now) (Err blocked))) c.pull_of_none_common.result)
           (sym none) c.pull_of_none_common.ensures.exact;

@@ -1,4 +1,4 @@
-use Rattle.camp_questions.proofs.Words.{List, ◌≡◌, ◌-◌, ◌<◌, ◌≤◌, ◌∙◌, AllByRecursion, ap, arith, drop, filter, get_or, inl, length, map, not, refl, subst, sym, true, false, ℕ, get_or_default, AreSettled, name_at, needs_place, up_to, Needed}
+use Rattle.camp_questions.proofs.Words.{List, ◌≡◌, ◌-◌, ◌<◌, ◌≤◌, ◌∙◌, AllByRecursion, ap, arith, drop, filter, get_or, inl, length, map, not, refl, subst, sym, true, false, ℕ, get_or_default, AreSettled, name_at_index, needs_place, indexes_below, Needed}
 use Rattle.camp_questions.proofs.PlacedNeeds.{all_past, ends_settled, first_is_least, goes_past, left_over, places_inside, starts_at, stays_past}
 use Rattle.camp_questions.proofs.nodes.direct_needs.Goals as goal
 
@@ -6,7 +6,7 @@ pub loop-settled-init : goal.loop-settled-init
 loop-settled-init c =
     record {
       within = c.end_of_needed-left.ensures.within;
-      places = starts_at c.args.names.now c.args.all.now c.requires.named c.requires.distinct c.args.at c.args.patch.now c.args.patch.now c.requires.within c.requires.is c.in_ok-places.places.items c.end_of_needed-left.result c.end_of_needed-left.ensures.within (λ k past less. ap (λ m. needs_place m c.args.at k) (sym c.deref.ensures.value) ∙ c.end_of_needed-left.ensures.none k past less) (c.in_ok-places.ensures ∙ ap (λ m. filter (needs_place m c.args.at) (up_to c.end_of_needed-left.result)) c.deref-2.ensures.value);
+      places = starts_at c.args.names.now c.args.all.now c.requires.named c.requires.distinct c.args.at c.args.patch.now c.args.patch.now c.requires.within c.requires.is c.in_ok-places.places.items c.end_of_needed-left.result c.end_of_needed-left.ensures.within (λ k past less. ap (λ m. needs_place m c.args.at k) (sym c.deref.ensures.value) ∙ c.end_of_needed-left.ensures.none k past less) (c.in_ok-places.ensures ∙ ap (λ m. filter (needs_place m c.args.at) (indexes_below c.end_of_needed-left.result)) c.deref-2.ensures.value);
       settled = inl refl;
     }
 
@@ -63,4 +63,4 @@ returns c =
     let names : List (List ℕ) = c.args.names.now in
     let p : Needed = c.args.patch.now in
     let whole = ends_settled names c.args.all.now c.requires.named c.requires.distinct c.args.at p p c.requires.within c.requires.is c.args.in_place c.loop-settled.places.items c.loop-settled.left c.loop-settled.settled c.requires.ends (omega (arith, c.loop-settled-test.false)) c.loop-settled.invariant.within c.loop-settled.invariant.settled c.loop-settled.invariant.places in
-    c.new.ensures.exact ∙ c.in_ok-names.ensures ∙ ap (map (name_at names)) c.deref-3.ensures.value ∙ all_past names c.args.all.now c.requires.named c.requires.distinct c.args.at p p c.requires.within c.requires.is c.loop-settled.places.items 0 refl whole
+    c.new.ensures.exact ∙ c.in_ok-names.ensures ∙ ap (map (name_at_index names)) c.deref-3.ensures.value ∙ all_past names c.args.all.now c.requires.named c.requires.distinct c.args.at p p c.requires.within c.requires.is c.loop-settled.places.items 0 refl whole

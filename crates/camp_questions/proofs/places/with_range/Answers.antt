@@ -1,4 +1,4 @@
-use Rattle.camp_questions.proofs.Words.{◌≡◌, ◌∙◌, [], ◌∷◌, ◌++◌, ap, Bool, List, filter, filter_same, fold, nat_lt, rules, append_assoc, joined, touch, Range}
+use Rattle.camp_questions.proofs.Words.{◌≡◌, ◌∙◌, [], ◌∷◌, ◌++◌, ap, Bool, List, filter, filter_same, fold, nat_lt, rules, append_assoc, union_of, touch, Range}
 use Rattle.camp_questions.proofs.places.with_range.Goals as goal
 
 pub returns : goal.returns
@@ -9,5 +9,5 @@ returns c =
     let is_behind : Range → Bool = λ place. nat_lt range.to place.from in
     let before : c.retain.new.self.items ≡ filter is_before places = filter_same _ is_before _ (λ x b f' k. search rules) _ _ c.retain.ensures.filtered ∙ ap (filter is_before) c.in_ok-new.ensures.items in
     let behind : c.retain-2.new.self.items ≡ filter is_behind places = filter_same _ is_behind _ (λ x b f' k. search rules) _ _ c.retain-2.ensures.filtered ∙ ap (filter is_behind) c.in_ok-behind.ensures.items in
-    let next : c.push.new.self.items ≡ filter is_before places ++ fold joined range (filter (touch range) places) ∷ [] = c.in_ok-push.ensures.items ∙ (λ i. before i ++ c.joined_with.ensures i ∷ []) in
-    c.in_ok-extend_from_slice.ensures.items ∙ (λ i. next i ++ (c.deref.ensures.value ∙ behind) i) ∙ append_assoc (filter is_before places) (fold joined range (filter (touch range) places) ∷ []) (filter is_behind places)
+    let next : c.push.new.self.items ≡ filter is_before places ++ fold union_of range (filter (touch range) places) ∷ [] = c.in_ok-push.ensures.items ∙ (λ i. before i ++ c.joined_with.ensures i ∷ []) in
+    c.in_ok-extend_from_slice.ensures.items ∙ (λ i. next i ++ (c.deref.ensures.value ∙ behind) i) ∙ append_assoc (filter is_before places) (fold union_of range (filter (touch range) places) ∷ []) (filter is_behind places)

@@ -1,4 +1,4 @@
-use Rattle.camp_ctx.proofs.Words.{◌≡◌, subst, Adds, PassesBy}
+use Rattle.camp_ctx.proofs.Words.{◌≡◌, subst, AddsToContext, PassesBy}
 use Rattle.camp_ctx.specs.Inside.InPlace.{behind}
 use Rattle.camp_ctx.proofs.contexted.Contexted.stays_behind.Goals as goal
 
@@ -7,4 +7,4 @@ returns c =
     let a = c.args.a.now in
     let here : behind c.context.result.now c.patch.result.now ≡ c.args.self.now =
     λ i. record { context = c.context.ensures.exact i; patch = c.patch.ensures.exact i } in
-    record { sound = λ yes. subst (λ x. Adds a x x) here (c.stays.ensures.sound yes); passes = λ yes. subst (λ x. PassesBy a x x) here (c.stays.ensures.passes yes) }
+    record { sound = λ yes. subst (λ x. AddsToContext a x x) here (c.stays.ensures.sound yes); passes = λ yes. subst (λ x. PassesBy a x x) here (c.stays.ensures.passes yes) }

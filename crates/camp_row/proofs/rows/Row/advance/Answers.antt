@@ -1,4 +1,4 @@
-use Rattle.camp_row.proofs.Words.{arith, ◌≡◌, ◌+◌, ◌∷◌, [], ◌++◌, sym, ap, ◌∙◌, length, Entry, own, cell_of, PassState, Part, known_of, part, known, index_word, Advanced}
+use Rattle.camp_row.proofs.Words.{arith, ◌≡◌, ◌+◌, ◌∷◌, [], ◌++◌, sym, ap, ◌∙◌, length, Entry, own_entries, cell_of, PassState, Part, known_of, part, known, index_word, Advanced}
 use Rattle.camp_row.proofs.Cells.{own_of_next, head_word-push}
 use Rattle.camp_row.proofs.PassOfRow.{is_of, next_of, at_part, known_at, steps_in, next_is, cut_pushed}
 use Rattle.camp_row.proofs.Loading.{advances}
@@ -25,7 +25,7 @@ invariant_of-pass c =
     let e_is : e ≡ c.args.next.entry = next_is p.seen e n.shorter.next step.next.rest n.shorter.rest p.ahead step.next.is n.shorter.is ∙ n.entry in
     let q : Part = record p { seen = p.seen ++ e ∷ [] } in
     let was = c.pass.invariant in
-    let own_is : own p.number q.seen ≡ own p.number p.seen = own_of_next p.number p.seen e step.next.rest p.ahead step.next.is was.sound.own_seen in
+    let own_is : own_entries p.number q.seen ≡ own_entries p.number p.seen = own_of_next p.number p.seen e step.next.rest p.ahead step.next.is was.sound.own_seen in
     at_part _ q (record {
       alone = step.is;
       no_slot = c.load.ensures.2.0 ∙ was.no_slot;
