@@ -1,5 +1,5 @@
 //! Why the program ends without having written its answers.
-use camp_options::{WordsFault, tell_fault};
+use camp_options::{WordsFault, report_fault};
 use camp_run::RunFault;
 
 /// Why the program ends without having written the answers to a script.
@@ -15,8 +15,8 @@ impl Stop {
     /// Reports why, and returns the exit status.
     pub(crate) fn report<R: Print + Eprint>(&self, rt: &R) -> u8 {
         match self {
-            Stop::Words(fault) => fault.tell(rt, "camp"),
-            Stop::Run(fault) => tell_fault(rt, "camp", fault, fault.status()),
+            Stop::Words(fault) => fault.report(rt, "camp"),
+            Stop::Run(fault) => report_fault(rt, "camp", fault, fault.status()),
         }
     }
 }

@@ -1,5 +1,5 @@
 -- If prefixes of two branches agree, a pull depends only on the catches after them.
-use Rattle.camp_branch.proofs.Words.{◌≡◌, ◌≤◌, ◌+◌, ℕ, Bool, true, ◌||◌, Ok, Err, List, [], ◌∷◌, ◌++◌, map, bytes_eq, take, drop, length, slice_range, ◌-◌, refl, sym, ap, ◌∙◌, subst, inl, inr, arith, append_assoc, length-append, length-take-le, take-append-drop, take-append-le, Key, Align, AlignSticks, Arrange, ArrangeSticks, ComesFirst, IsOf, Catch, keep_labels, Agree, has_patch, is_among, name_of, DiffersAt, MergedLast, MergesBehind, Outcome, PullBy, PullGives, SameThen, common_names, Blocked, Contains, catch_key, keys_of, AllByRecursion, or_assoc, or_comm, or_left, and_from}
+use Rattle.camp_branch.proofs.Words.{◌≡◌, ◌≤◌, ◌+◌, ℕ, Bool, true, ◌||◌, Ok, Err, List, [], ◌∷◌, ◌++◌, map, bytes_eq, take, drop, length, slice_range, ◌-◌, refl, sym, ap, ◌∙◌, subst, inl, inr, arith, append_assoc, length-append, length-take-le, take-append-drop, take-append-le, Key, Align, AlignIsBlocked, Arrange, ArrangeIsBlocked, ComesFirst, IsOf, Catch, keep_labels, Agree, has_patch, is_among, name_of, DiffersAt, MergedLast, MergesAfterCommon, Outcome, PullBy, PullGives, SameThen, common_names, Blocked, Contains, catch_key, keys_of, AllByRecursion, or_assoc, or_comm, or_left, and_from}
 use Rattle.std.proofs.Math.Seq.{take-append-add, take-length}
 use Rattle.camp_catch.specs.Laws.{KeysAlign}
 use Rattle.camp_branch.proofs.Names.{is_among_is, or_true, each_named, has_split}
@@ -24,7 +24,7 @@ module _ (names : List (List ℕ)) where
   arranged_front (k ∷ front) list first rest a w =
       inl (a.0, (k, [], front ++ first, (refl, refl), arranged_front front list first rest a.1 w, refl))
 
-  pub sticks_front : (front list : List Catch) (patch on : Key) → AllOf names front → ArrangeSticks names list patch on → ArrangeSticks names (front ++ list) patch on
+  pub sticks_front : (front list : List Catch) (patch on : Key) → AllOf names front → ArrangeIsBlocked names list patch on → ArrangeIsBlocked names (front ++ list) patch on
   sticks_front [] list patch on a w = w
   sticks_front (k ∷ front) list patch on a w =
       inr (inl (a.0, (k, [], (refl, refl), sticks_front front list patch on a.1 w)))
@@ -46,8 +46,8 @@ aligned_front (g ∷ others) front to_common from_common aligned v w =
     let rest = subst (Align (keys_of others) v.1) (sym tail) v.4 in
     (v.0, v.1 ++ from_common, others ++ aligned, comes_within (catch_key g) front from_common v.0 v.1 v.3, aligned_front others v.1 to_common from_common aligned rest w, ap (λ k. k ∷ (others ++ aligned)) head)
 
-align_sticks_front : (others front to_common from_common : List Catch) (stuck : Key) → Align (keys_of others) front others → AlignSticks (keys_of to_common) from_common stuck → AlignSticks (keys_of (others ++ to_common)) (front ++ from_common) stuck
-align_sticks_front [] front to_common from_common stuck v w = subst (λ f. AlignSticks (keys_of to_common) (f ++ from_common) stuck) v w
+align_sticks_front : (others front to_common from_common : List Catch) (stuck : Key) → Align (keys_of others) front others → AlignIsBlocked (keys_of to_common) from_common stuck → AlignIsBlocked (keys_of (others ++ to_common)) (front ++ from_common) stuck
+align_sticks_front [] front to_common from_common stuck v w = subst (λ f. AlignIsBlocked (keys_of to_common) (f ++ from_common) stuck) v w
 align_sticks_front (g ∷ others) front to_common from_common stuck v w =
     let tail : others ≡ v.2 = cc v.5 in
     let rest = subst (Align (keys_of others) v.1) (sym tail) v.4 in
@@ -72,7 +72,7 @@ module _ (names : List (List ℕ)) (front others : List Catch) (a : AllOf names 
   same_then from_common to_common chosen beside to outcome (inr (inr w)) =
       inr (inr (others ++ w.0, w.1, aligned_front others front to_common from_common w.0 agree w.2, differs_front others w.0 to_common w.1 w.3, ap (fronted others) w.4))
 
-  merges_front : (from_common chosen to : List Catch) (outcome : Outcome) → MergesBehind names from_common chosen to outcome → MergesBehind names (front ++ from_common) chosen (others ++ to) (fronted others outcome)
+  merges_front : (from_common chosen to : List Catch) (outcome : Outcome) → MergesAfterCommon names from_common chosen to outcome → MergesAfterCommon names (front ++ from_common) chosen (others ++ to) (fronted others outcome)
   merges_front from_common chosen to outcome (inl w) =
       inl (others ++ w.0, w.1, arranged_front names others to w.0 w.1 b w.2, same_then from_common w.0 chosen w.1 to outcome w.3)
   merges_front from_common chosen to outcome (inr w) =

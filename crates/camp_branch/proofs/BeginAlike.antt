@@ -3,7 +3,7 @@ use Rattle.camp_branch.proofs.Words.{Agree, Align, Catch, List, [], ap, append_a
 use Rattle.std.proofs.Common.{◌≢◌}
 use Rattle.std.proofs.Math.Seq.{take-append_seam}
 use Rattle.camp_branch.specs.Agreeing.{BeginAlike, ReachesAll}
-use Rattle.camp_branch.specs.Inside.Alike.{DifferBehind}
+use Rattle.camp_branch.specs.Inside.Alike.{DifferAfter}
 use Rattle.camp_branch.proofs.AgreedFronts.{agree_more, as_it_is}
 
 -- two lists have the same first n catches, and these are the rests after them
@@ -39,12 +39,12 @@ different_there (c ∷ front) rest others j k (suc m) ne e =
     omega arith
 
 -- the next are not the same
-pub alike_up_to : {from to rest others : List Catch} {n : ℕ} (j k : Catch) → AlikeSoFar from to (j ∷ rest) (k ∷ others) n → j ≢ k → DifferBehind from to n
+pub alike_up_to : {from to rest others : List Catch} {n : ℕ} (j k : Catch) → AlikeSoFar from to (j ∷ rest) (k ∷ others) n → j ≢ k → DifferAfter from to n
 alike_up_to {rest = rest} {others} j k so ne =
     rw (so.is, so.is_too, ← so.long) (record { alike = alike_front so.front (j ∷ rest) (k ∷ others); most = λ m w. different_there so.front rest others j k m ne w.same })
 
 -- the one list ends there, or the other
-pub alike_to_the_end : {from to others : List Catch} {n : ℕ} → AlikeSoFar from to [] others n → DifferBehind from to n
+pub alike_to_the_end : {from to others : List Catch} {n : ℕ} → AlikeSoFar from to [] others n → DifferAfter from to n
 alike_to_the_end {others = others} so =
     rw (so.is, so.is_too, ← so.long) (record { alike = alike_front so.front [] others; most = λ m w. let h = w.within in omega (arith, length-append so.front []) })
 
@@ -56,5 +56,5 @@ agree_with_alike from to known n w alike =
     agree_more from to known n w long long_too (subst (λ l. Align (keys_of (take n (drop known to))) l (take n (drop known to))) (sym alike.same) (as_it_is (take n (drop known to))))
 
 -- and no more catches are the same
-pub reaches_all : (from to : List Catch) (known n long : ℕ) → DifferBehind (drop known from) (drop known to) n → known + n ≤ long → ReachesAll from to known long
+pub reaches_all : (from to : List Catch) (known n long : ℕ) → DifferAfter (drop known from) (drop known to) n → known + n ≤ long → ReachesAll from to known long
 reaches_all from to known n long w there more alike = let fewer = w.most more alike in omega arith

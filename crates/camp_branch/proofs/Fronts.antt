@@ -1,5 +1,5 @@
 -- The prefix of a branch that an obliteration leaves unchanged: only the catches after it are arranged.
-use Rattle.camp_branch.proofs.Words.{◌≡◌, ◌+◌, ◌++◌, ◌&&◌, ℕ, suc, ap, arith, true, not, cond, Ok, Err, List, map, AllByRecursion, [], ◌∷◌, take, drop, refl, sym, ◌∙◌, subst, contains_key, keys, Key, Arrange, ArrangeSticks, Catch, IsLawfulBranch, has_patch, is_among, name_of, front_before, front_of, DependsIn, ObliterateGives, Blocked, cond_both, take-append-drop}
+use Rattle.camp_branch.proofs.Words.{◌≡◌, ◌+◌, ◌++◌, ◌&&◌, ℕ, suc, ap, arith, true, not, cond, Ok, Err, List, map, AllByRecursion, [], ◌∷◌, take, drop, refl, sym, ◌∙◌, subst, contains_key, keys, Key, Arrange, ArrangeIsBlocked, Catch, IsLawfulBranch, has_patch, is_among, name_of, front_before, front_of, DependsIn, ObliterateGives, Blocked, cond_both, take-append-drop}
 use Rattle.camp_branch.proofs.BranchFields.{Names}
 use Rattle.camp_branch.proofs.KeepLawful.{obliterates_keep_lawful}
 use Rattle.camp_branch.proofs.Names.{each_named, is_among_is}
@@ -23,10 +23,10 @@ module _ (names : List (List ℕ)) where
       subst (λ l. Arrange names l (take n list ++ first) rest) (take-append-drop n list) (arranged_front names (take n list) (drop n list) first rest (front_all list) w)
 
   -- what is blocked after the prefix is blocked in the whole
-  pub sticks_behind : (list : List Catch) (patch on : Key) → ArrangeSticks names (drop (front_of names list) list) patch on → ArrangeSticks names list patch on
+  pub sticks_behind : (list : List Catch) (patch on : Key) → ArrangeIsBlocked names (drop (front_of names list) list) patch on → ArrangeIsBlocked names list patch on
   sticks_behind list patch on w =
       let n = front_of names list in
-      subst (λ l. ArrangeSticks names l patch on) (take-append-drop n list) (sticks_front names (take n list) (drop n list) patch on (front_all list) w)
+      subst (λ l. ArrangeIsBlocked names l patch on) (take-append-drop n list) (sticks_front names (take n list) (drop n list) patch on (front_all list) w)
 
 -- each patch of a branch stays or goes, so the prefix ends before the first catch of a patch that goes
 module _ (own : List Catch) (gone : List (List ℕ)) (staying : Names) (stays : (n : List ℕ) → contains_key staying n ≡ (has_patch own n && not (is_among gone n))) where
@@ -55,7 +55,7 @@ module _ (own : List Catch) (gone : List (List ℕ)) (staying : Names) (start : 
 
   pub front_depends : (blocked : Blocked) → DependsIn (keys staying) behind blocked → ObliterateGives own gone (Err blocked)
   front_depends blocked w =
-      let here = subst (λ n. ArrangeSticks (keys staying) (drop n own) w.0 w.1) front.at (subst (λ l. ArrangeSticks (keys staying) l w.0 w.1) front.is w.2) in
+      let here = subst (λ n. ArrangeIsBlocked (keys staying) (drop n own) w.0 w.1) front.at (subst (λ l. ArrangeIsBlocked (keys staying) l w.0 w.1) front.is w.2) in
       obliterate_depends own gone staying front.stays own blocked refl (w.0, w.1, sticks_behind (keys staying) own w.0 w.1 here, w.3)
 
   -- the remaining catches are lawful, and have the names that stay

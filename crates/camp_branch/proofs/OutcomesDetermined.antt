@@ -1,5 +1,5 @@
 -- A pull has exactly one outcome, and so does an obliteration.
-use Rattle.camp_branch.proofs.Words.{◌≡◌, ◌⊎◌, ℕ, List, [], ◌∷◌, ◌++◌, Ok, Err, refl, sym, ap, ◌∙◌, subst, inl, inr, Key, Arrange, ArrangeSticks, Align, AlignSticks, keys_of, MergeLists, MergeSticks, Catch, lists_are_unique, lists_succeed_or_stick, name_of, ExactlyOne, OutcomesAreDetermined, other_names, Outcome, StepThen, SameThen, DiffersAt, common_names, Blocked}
+use Rattle.camp_branch.proofs.Words.{◌≡◌, ◌⊎◌, ℕ, List, [], ◌∷◌, ◌++◌, Ok, Err, refl, sym, ap, ◌∙◌, subst, inl, inr, Key, Arrange, ArrangeIsBlocked, Align, AlignIsBlocked, keys_of, MergeLists, MergeIsBlocked, Catch, lists_are_unique, lists_succeed_or_stick, name_of, ExactlyOne, OutcomesAreDetermined, other_names, Outcome, StepThen, SameThen, DiffersAt, common_names, Blocked}
 use Rattle.camp_catch.specs.ListLaws.{GivesOnePair, HasPair, OneOf}
 use Rattle.camp_catch.proofs.SameCatches.{catch_or_not}
 use Rattle.camp_branch.specs.declared.faults.Blocked.TheVariants.{Diverged}
@@ -32,9 +32,9 @@ module _ (Gives : List Catch → List Catch → Type 0) (Sticks : Key → Key �
     | inr s ↦ stops only s.0 s.1 s.2 (λ w. choice.1 w s)
   ]
 
-arranged : (names : List (List ℕ)) (list : List Catch) (why : Key → Key → Blocked) (Next : List Catch → List Catch → Outcome → Type 0) → ((x y : List Catch) → ExactlyOne (Next x y)) → ExactlyOne (StepThen (Arrange names list) (ArrangeSticks names list) why Next)
+arranged : (names : List (List ℕ)) (list : List Catch) (why : Key → Key → Blocked) (Next : List Catch → List Catch → Outcome → Type 0) → ((x y : List Catch) → ExactlyOne (Next x y)) → ExactlyOne (StepThen (Arrange names list) (ArrangeIsBlocked names list) why Next)
 arranged names list why Next =
-    step (Arrange names list) (ArrangeSticks names list) why Next (lists_are_unique.arranged names list) (lists_are_unique.arrange_sticks names list) (lists_succeed_or_stick.arranges names list)
+    step (Arrange names list) (ArrangeIsBlocked names list) why Next (lists_are_unique.arranged names list) (lists_are_unique.arrange_sticks names list) (lists_succeed_or_stick.arranges names list)
 
 -- a list does not differ from itself
 not_from_itself : (list : List Catch) (name : List ℕ) → ¬ (DiffersAt list list name)
@@ -69,7 +69,7 @@ one_difference (j ∷ s) (k ∷ t) name other (inr v) (inl w) = absurd (w.0 v.0)
 one_difference (j ∷ s) (k ∷ t) name other (inr v) (inr w) = one_difference s t name other v.1 w.1
 
 module _ (from_common to_common : List Catch) (Next : Outcome → Type 0) where
-  never : ((aligned : List Catch) × Align (keys_of to_common) from_common aligned) → ((stuck : Key) × AlignSticks (keys_of to_common) from_common stuck) → ⊥
+  never : ((aligned : List Catch) × Align (keys_of to_common) from_common aligned) → ((stuck : Key) × AlignIsBlocked (keys_of to_common) from_common stuck) → ⊥
   never = (lists_succeed_or_stick.aligns (keys_of to_common) from_common).1
 
   one_order : (aligned other : List Catch) → Align (keys_of to_common) from_common aligned → Align (keys_of to_common) from_common other → aligned ≡ other
@@ -86,7 +86,7 @@ module _ (from_common to_common : List Catch) (Next : Outcome → Type 0) where
   other_fronts aligned name align differs =
       by_second _ _ (by_second _ _ (once (Err (Diverged name)) (aligned, name, align, differs, refl) (λ other d. d.4 ∙ ap (λ n. Err (Diverged n)) (one_difference aligned to_common d.1 name (subst (λ l. DiffersAt l to_common d.1) (one_order d.0 aligned d.2 align) d.3) differs))) (λ other s. never (aligned, align) (s.0, s.1))) (λ other v. not_from_itself to_common name (subst (λ l. DiffersAt l to_common name) (one_order aligned to_common align v.0) differs))
 
-  order_sticks : (stuck : Key) → AlignSticks (keys_of to_common) from_common stuck → ExactlyOne (SameThen from_common to_common Next)
+  order_sticks : (stuck : Key) → AlignIsBlocked (keys_of to_common) from_common stuck → ExactlyOne (SameThen from_common to_common Next)
   order_sticks stuck sticks =
       by_second _ _ (by_first _ _ (once (Err (Diverged stuck.name)) (stuck, sticks, refl) (λ other s. s.2 ∙ ap (λ (k : Key). Err (Diverged k.name)) (lists_are_unique.align_sticks (keys_of to_common) from_common s.0 stuck s.1 sticks))) (λ other d. never (d.0, d.2) (stuck, sticks))) (λ other v. never (to_common, v.0) (stuck, sticks))
 
@@ -106,7 +106,7 @@ outcomes_are_determined = record {
       arranged wanted behind _ _ (λ chosen left.
       arranged (common_names from to) to _ _ (λ to_common others.
       same_then from_common to_common _ (
-      step (MergeLists chosen others) (MergeSticks chosen others) _ _ (lists_are_unique.merged chosen others) (lists_are_unique.merge_sticks chosen others) (lists_succeed_or_stick.merges chosen others) (λ taken beside.
+      step (MergeLists chosen others) (MergeIsBlocked chosen others) _ _ (lists_are_unique.merged chosen others) (lists_are_unique.merge_sticks chosen others) (lists_succeed_or_stick.merges chosen others) (λ taken beside.
       (Ok (to ++ taken), refl, λ other is. is))))));
   obliterates = λ branch names. arranged (other_names branch names) branch _ _ (λ staying gone. (Ok staying, refl, λ other is. is));
 }

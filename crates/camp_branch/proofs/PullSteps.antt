@@ -4,7 +4,7 @@ use Rattle.std.specs.Result.{MatchResult}
 use Rattle.camp_catch.specs.Making.{GivesOrRunsOut}
 use Rattle.camp_catch.specs.declared.faults.Unmade.{Unmade}
 use Rattle.camp_catch.proofs.Making.{blocks_too}
-use Rattle.camp_branch.proofs.Words.{Option, None, Some, false, true≢false, is_some, ℕ, List, [], ◌∷◌, ◌++◌, append-nil, append_assoc, arith, subst, ArrangesBehind, Result, Ok, Err, refl, ap, inl, inr, Arrange, Align, keys_of, MergeLists, Catch, DependsIn, DivergesFrom, DivergesIn, DoesNotMerge, PullBy, Blocked, ◌≡◌, DiffersAt}
+use Rattle.camp_branch.proofs.Words.{Option, None, Some, false, true≢false, is_some, ℕ, List, [], ◌∷◌, ◌++◌, append-nil, append_assoc, arith, subst, ArrangesAfter, Result, Ok, Err, refl, ap, inl, inr, Arrange, Align, keys_of, MergeLists, Catch, DependsIn, DivergesFrom, DivergesIn, DoesNotMerge, PullBy, Blocked, ◌≡◌, DiffersAt}
 
 -- a fact about either result follows from a fact about the result before it
 pub either_answer : {X W : Type 0} (P P' : X → Type 0) (Q Q' : W → Type 0) → ((x : X) → P x → P' x) → ((w : W) → Q w → Q' w) → (answer : Result X (Unmade W)) → GivesOrRunsOut (λ a. MatchResult a P Q) answer → GivesOrRunsOut (λ a. MatchResult a P' Q') answer
@@ -44,10 +44,10 @@ none_found Q None none told = told
 none_found Q (Some x) some told = absurd (true≢false some)
 
 -- no catch is of no patches: all of a list are others
-pub none_arranged : (rest list : List Catch) → ArrangesBehind [] rest list [] (rest ++ list)
+pub none_arranged : (rest list : List Catch) → ArrangesAfter [] rest list [] (rest ++ list)
 none_arranged rest [] = (refl, append-nil rest)
 none_arranged rest (k ∷ list) =
-    inr ((λ is. omega (arith, is.1)), subst (λ l. ArrangesBehind [] (rest ++ k ∷ []) list [] l) (append_assoc rest (k ∷ []) list) (none_arranged (rest ++ k ∷ []) list))
+    inr ((λ is. omega (arith, is.1)), subst (λ l. ArrangesAfter [] (rest ++ k ∷ []) list [] l) (append_assoc rest (k ∷ []) list) (none_arranged (rest ++ k ∷ []) list))
 
 -- the lists differ, or are the same, as the rests of them
 pub record DiffersOn (list others rest more : List Catch) : Type 0 where

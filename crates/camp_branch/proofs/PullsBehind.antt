@@ -1,5 +1,5 @@
 -- The outcome of a pull between the catches after two agreeing prefixes.
-use Rattle.camp_branch.proofs.Words.{◌≡◌, ℕ, ◌||◌, ◌&&◌, Ok, Err, List, ◌++◌, drop, ap, ◌∙◌, subst, contains_key, keys, Catch, Agree, has_patch, Outcome, PullBy, PullGives, common_names, Blocked, Bool, true, false, [], ◌∷◌, map, take, refl, sym, inl, inr, take-append-drop, Key, ArrangesBehind, IsOf, SticksBehind, name_of, MergesBehind, ◌↔◌, Contains, names_decide, AllByRecursion, or_right, or-false, or_comm, and_comm, false≢true}
+use Rattle.camp_branch.proofs.Words.{◌≡◌, ℕ, ◌||◌, ◌&&◌, Ok, Err, List, ◌++◌, drop, ap, ◌∙◌, subst, contains_key, keys, Catch, Agree, has_patch, Outcome, PullBy, PullGives, common_names, Blocked, Bool, true, false, [], ◌∷◌, map, take, refl, sym, inl, inr, take-append-drop, Key, ArrangesAfter, IsOf, IsBlockedAfter, name_of, MergesAfterCommon, ◌↔◌, Contains, names_decide, AllByRecursion, or_right, or-false, or_comm, and_comm, false≢true}
 use Rattle.camp_branch.proofs.AgreedFronts.{blocked_behind, goes_behind, behind_has}
 use Rattle.camp_branch.proofs.BranchFields.{Indexes, Names}
 use Rattle.camp_branch.proofs.Names.{is_among_is, each_named}
@@ -13,7 +13,7 @@ module _ (names others : List (List ℕ)) where
   alike_on : (list : List Catch) → ((n : List ℕ) → Contains (map name_of list) n → (Contains names n ↔ Contains others n)) → AlikeOn list
   alike_on list each = each_named name_of _ list (λ k c. each (name_of k) c)
 
-  arranged_alike : (rest list first t : List Catch) → AlikeOn list → ArrangesBehind names rest list first t → ArrangesBehind others rest list first t
+  arranged_alike : (rest list first t : List Catch) → AlikeOn list → ArrangesAfter names rest list first t → ArrangesAfter others rest list first t
   arranged_alike rest [] first t same w = w
   arranged_alike rest (k ∷ list) first t same (inl w) =
       let come = w.1 in
@@ -21,7 +21,7 @@ module _ (names others : List (List ℕ)) where
   arranged_alike rest (k ∷ list) first t same (inr w) =
       inr (λ is. w.0 (same.0.1 is), arranged_alike (rest ++ k ∷ []) list first t same.1 w.1)
 
-  stuck_alike : (rest list : List Catch) (patch on : Key) → AlikeOn list → SticksBehind names rest list patch on → SticksBehind others rest list patch on
+  stuck_alike : (rest list : List Catch) (patch on : Key) → AlikeOn list → IsBlockedAfter names rest list patch on → IsBlockedAfter others rest list patch on
   stuck_alike rest [] patch on same w = w
   stuck_alike rest (k ∷ list) patch on same (inl w) = inl (same.0.0 w.0, w.1, w.2)
   stuck_alike rest (k ∷ list) patch on same (inr (inl w)) =
@@ -30,7 +30,7 @@ module _ (names others : List (List ℕ)) where
   stuck_alike rest (k ∷ list) patch on same (inr (inr w)) =
       inr (inr (λ is. w.0 (same.0.1 is), stuck_alike (rest ++ k ∷ []) list patch on same.1 w.1))
 
-  merges_alike : (from_common chosen to : List Catch) (outcome : Outcome) → AlikeOn to → MergesBehind names from_common chosen to outcome → MergesBehind others from_common chosen to outcome
+  merges_alike : (from_common chosen to : List Catch) (outcome : Outcome) → AlikeOn to → MergesAfterCommon names from_common chosen to outcome → MergesAfterCommon others from_common chosen to outcome
   merges_alike from_common chosen to outcome same (inl w) = inl (w.0, w.1, arranged_alike [] to w.0 w.1 same w.2, w.3)
   merges_alike from_common chosen to outcome same (inr w) = inr (w.0, w.1, stuck_alike [] to w.0 w.1 same w.2, w.3)
 

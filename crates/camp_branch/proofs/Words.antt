@@ -25,7 +25,7 @@ pub use Rattle.camp_branch.specs.Inside.Collecting.{names_against, names_within,
 pub use Rattle.std.proofs.lemmas.List.Elements.{All-append, All-cons, All-contains_itself, All-filter, All-from_recursion, All-nil, All-weaker, Contains-append_cases, Contains-append_left, Contains-append_right, Contains-get_or, Decides-contains, filter-append, recursion_from_All}
 pub use Rattle.camp_prim.specs.declared.primitives.Primitive.{Primitive}
 pub use Rattle.camp_catch.proofs.MoveSteps.{names_decide, stands_at}
-pub use Rattle.camp_catch.specs.Arranging.{Align, AlignSticks, Arrange, ArrangeSticks, ArrangesBehind, ComesFirst, IsOf, SticksBehind}
+pub use Rattle.camp_catch.specs.Arranging.{Align, AlignIsBlocked, Arrange, ArrangeIsBlocked, ArrangesAfter, ComesFirst, IsOf, IsBlockedAfter}
 pub use Rattle.std.proofs.lemmas.List.Folds.{list_any-append}
 pub use Rattle.camp_branch.specs.Inside.Fronts.{front_before, front_of}
 pub use Rattle.camp_branch.specs.Inside.Stages.{DependsIn, DivergesFrom, DivergesIn, DoesNotMerge}
@@ -41,10 +41,10 @@ pub use Rattle.std.specs.Ordering.{eq_by_cmp, nat_cmp, ordering_reverse, orderin
 pub use Rattle.std.specs.Prelude.{AllPairs, IfOk, ◌↔◌}
 pub use Rattle.std.specs.declared.cmp.Ordering.{Ordering}
 pub use Rattle.std.specs.declared.cmp.Ordering.TheVariants.{Equal, Greater, Less}
-pub use Rattle.camp_catch.specs.MergingLists.{MergeLists, MergeSticks}
+pub use Rattle.camp_catch.specs.MergingLists.{MergeLists, MergeIsBlocked}
 pub use Rattle.camp_catch.specs.declared.catches.Catch.{Catch}
 pub use Rattle.camp_catch.specs.declared.catches.Catch.TheVariants.{Plain}
 pub use Rattle.camp_branch.specs.Laws.{AppliesEach, ConflictsAreDetermined, ExactlyOne, ObliteratesKeepLawful, OutcomesAreDetermined, PullsBeginWithOwn, PullsKeepLawful, RecordsKeepLawful, TreesAreDetermined, others_of, those_of}
 pub use Rattle.camp_branch.specs.Obliterating.{ObliterateGives, other_names}
-pub use Rattle.camp_branch.specs.Pulling.{DiffersAt, MergedLast, MergesBehind, Outcome, PullBy, PullGives, SameThen, StepThen, common_names}
+pub use Rattle.camp_branch.specs.Pulling.{DiffersAt, MergedLast, MergesAfterCommon, Outcome, PullBy, PullGives, SameThen, StepThen, common_names}
 pub use Rattle.camp_branch.specs.declared.faults.Blocked.{Blocked}

@@ -2,9 +2,9 @@
 -- the same order; the wanted ones come next, and are merged with those that only the other branch has.
 use Rattle.std.specs.Prelude.{◌≡◌, ◌≢◌, ◌⊎◌, ℕ, List, [], ◌∷◌, ◌++◌, filter, Result, Ok, Err}
 use Rattle.camp_prim.specs.declared.labels.Key.{Key}
-use Rattle.camp_catch.specs.Arranging.{Arrange, ArrangeSticks, Align, AlignSticks}
+use Rattle.camp_catch.specs.Arranging.{Arrange, ArrangeIsBlocked, Align, AlignIsBlocked}
 use Rattle.camp_catch.specs.Laws.{keys_of}
-use Rattle.camp_catch.specs.MergingLists.{MergeLists, MergeSticks}
+use Rattle.camp_catch.specs.MergingLists.{MergeLists, MergeIsBlocked}
 use Rattle.camp_catch.specs.declared.catches.Catch.{Catch}
 use Rattle.camp_branch.specs.Branches.{has_patch, name_of, names_of}
 use Rattle.camp_branch.specs.declared.faults.Blocked.{Blocked}
@@ -38,7 +38,7 @@ DiffersAt (j ∷ list) (k ∷ others) name =
 abbrev pub SameThen : List Catch → List Catch → (Outcome → Type 0) → Outcome → Type 0
 SameThen from_common to_common Next outcome =
     (Align (keys_of to_common) from_common to_common × Next outcome)
-    ⊎ (((stuck : Key) × AlignSticks (keys_of to_common) from_common stuck × (outcome ≡ Err (Diverged stuck.name)))
+    ⊎ (((stuck : Key) × AlignIsBlocked (keys_of to_common) from_common stuck × (outcome ≡ Err (Diverged stuck.name)))
     ⊎ ((aligned : List Catch) × (name : List ℕ)
     × Align (keys_of to_common) from_common aligned × DiffersAt aligned to_common name × (outcome ≡ Err (Diverged name))))
 
@@ -51,25 +51,25 @@ common_names from to = filter (has_patch to) (names_of from)
 abbrev pub CommonFirst :
     List (List ℕ) → List Catch → (List Catch → List Catch → Outcome → Type 0) → Outcome → Type 0
 CommonFirst names branch =
-    StepThen (Arrange names branch) (ArrangeSticks names branch) (λ stuck on. Diverged stuck.name)
+    StepThen (Arrange names branch) (ArrangeIsBlocked names branch) (λ stuck on. Diverged stuck.name)
 
 -- the wanted patches are moved in front of those that are not, or one depends on another
 -- list <-> wanted others
 abbrev pub WantedNext :
     List (List ℕ) → List Catch → (List Catch → List Catch → Outcome → Type 0) → Outcome → Type 0
 WantedNext names list =
-    StepThen (Arrange names list) (ArrangeSticks names list) (λ stuck on. Depends stuck.name on.name)
+    StepThen (Arrange names list) (ArrangeIsBlocked names list) (λ stuck on. Depends stuck.name on.name)
 
 -- the wanted patches merge with the others, or two do not
 abbrev pub MergedLast :
     List Catch → List Catch → (List Catch → List Catch → Outcome → Type 0) → Outcome → Type 0
 MergedLast wanted others =
-    StepThen (MergeLists wanted others) (MergeSticks wanted others) (λ left right. NoMerge left.name right.name)
+    StepThen (MergeLists wanted others) (MergeIsBlocked wanted others) (λ left right. NoMerge left.name right.name)
 
 -- with the common patches before them, the wanted ones are merged with those that only the other branch has;
 -- the new branch is `to` followed by what they become
-abbrev pub MergesBehind : List (List ℕ) → List Catch → List Catch → List Catch → Outcome → Type 0
-MergesBehind common from_common chosen to =
+abbrev pub MergesAfterCommon : List (List ℕ) → List Catch → List Catch → List Catch → Outcome → Type 0
+MergesAfterCommon common from_common chosen to =
     CommonFirst common to (λ to_common others.
     SameThen from_common to_common (
     MergedLast chosen others (λ taken beside outcome. outcome ≡ Ok (to ++ taken))))
@@ -78,7 +78,7 @@ MergesBehind common from_common chosen to =
 abbrev pub PullBy : List (List ℕ) → List Catch → List Catch → List (List ℕ) → Outcome → Type 0
 PullBy common from to wanted =
     CommonFirst common from (λ from_common behind.
-    WantedNext wanted behind (λ chosen left. MergesBehind common from_common chosen to))
+    WantedNext wanted behind (λ chosen left. MergesAfterCommon common from_common chosen to))
 
 -- the outcome of a pull: the common patches are those of the names that both branches have
 abbrev pub PullGives : List Catch → List Catch → List (List ℕ) → Outcome → Type 0

@@ -8,7 +8,7 @@
 //! they do not, the plain pull finds out why.
 ghost use Rattle.std.specs.Prelude.{◌+◌, ◌≤◌, drop, length, IfOk};
 ghost use Rattle.camp_branch.specs.Agreeing.{Agree, ReachesAll};
-ghost use Rattle.camp_branch.specs.Inside.Alike.{DifferBehind};
+ghost use Rattle.camp_branch.specs.Inside.Alike.{DifferAfter};
 
 use crate::pulls::same_front;
 use camp_catch::{Catch, Unmade};
@@ -53,7 +53,7 @@ fn same_behind(
     requires within_too { known ≤ length to.now }
     ensures fits { known + result ≤ length from.now }
     ensures fits_too { known + result ≤ length to.now }
-    ensures most { DifferBehind (drop known from.now) (drop known to.now) result }
+    ensures most { DifferAfter (drop known from.now) (drop known to.now) result }
 {
     // States a fact for the prover: a length fits in a `usize`.
     prove!(from.len() <= usize::MAX);

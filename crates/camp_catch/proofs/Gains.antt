@@ -11,7 +11,7 @@ use Rattle.camp_ctx.proofs.SetChanges.{unchanged}
 use Rattle.camp_catch.specs.Conflictors.{Becomes, joined_by, with_conflicts}
 use Rattle.camp_catch.specs.Inside.InPlace.{CatchesCommuteInPlace, MergesInto, MergesInPlace, with_gained}
 use Rattle.camp_catch.specs.Inside.Meetings.{EachGains, PassesGaining}
-use Rattle.camp_catch.specs.Inside.TwoConflictors.{EffectsMerge, JoinEachOther, TellsConflict}
+use Rattle.camp_catch.specs.Inside.TwoConflictors.{EffectsMerge, JoinEachOther, DecidesConflict}
 use Rattle.camp_catch.specs.Merging.{TwoConflictors}
 use Rattle.camp_catch.specs.Catches.{catch_key}
 use Rattle.camp_catch.specs.declared.catches.Catch.{Catch}
@@ -39,7 +39,7 @@ none_merge = record {
 module _ (j k : Conflictor) (none : j.effect ≡ []) (also : k.effect ≡ []) where
   -- the same whatever their sets are
   module _ (xs ys : ContextedPatches) (found : Bool) (is : IsTrue found ↔ Conflict j.identity k.identity) where
-    tells : TellsConflict (with_conflicts xs j) (with_conflicts ys k) found
+    tells : DecidesConflict (with_conflicts xs j) (with_conflicts ys k) found
     tells = record {
       x = j.identity;
       y = k.identity;

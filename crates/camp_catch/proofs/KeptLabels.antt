@@ -1,5 +1,5 @@
 -- Commuting and merging keep labels, and so do arranging, aligning and merging lists.
-use Rattle.camp_catch.proofs.Words.{List, [], ap, append-nil, inl, inr, map, refl, subst, sym, ℕ, ◌++◌, ◌∙◌, ◌∷◌, ◌≡◌, append_assoc, map-append, inverse_of, key_of, label_of, Key, Named, row_passes, MergesOne, Passes, PassesAll, same_key_of_sum, same_alone, AddsToContext, PassesBy, PassesByAll, ContextedPatch, bare, context_key, patch_key, Align, ArrangesBehind, ComesBefore, ComesFirst, catch_key, CommuteCatch, KeepLabels, KeysAlign, KeysPart, keys_of, JoinsWhere, MergeCatch, MergePlainConflictor, MergeLists, MergesWithAll, Catch, Plain, Conflictor}
+use Rattle.camp_catch.proofs.Words.{List, [], ap, append-nil, inl, inr, map, refl, subst, sym, ℕ, ◌++◌, ◌∙◌, ◌∷◌, ◌≡◌, append_assoc, map-append, inverse_of, key_of, label_of, Key, Named, row_passes, MergesOne, Passes, PassesAll, same_key_of_sum, same_alone, AddsToContext, PassesBy, PassesByAll, ContextedPatch, bare, context_key, patch_key, Align, ArrangesAfter, ComesBefore, ComesFirst, catch_key, CommuteCatch, KeepLabels, KeysAlign, KeysPart, keys_of, JoinsWhere, MergeCatch, MergePlainConflictor, MergeLists, MergesWithAll, Catch, Plain, Conflictor}
 
 passed_key : (p : Named) (s s' : List Named) (p' : Named) → Passes p s s' p' → patch_key p' ≡ patch_key p
 passed_key p [] s' p' w = ap patch_key w.1
@@ -83,7 +83,7 @@ before_keys (j ∷ list) k k' list' w =
     (pair.0 ∙ rest.0, ap keys_of w.5 ∙ (λ t. pair.1 t ∷ rest.1 t))
 
 -- the other catches of a list come after those of another list
-parts_behind : (names : List (List ℕ)) (rest list first others : List Catch) → ArrangesBehind names rest list first others → (t : List Key) × KeysPart names (keys_of list) (keys_of first) t × (keys_of others ≡ keys_of rest ++ t)
+parts_behind : (names : List (List ℕ)) (rest list first others : List Catch) → ArrangesAfter names rest list first others → (t : List Key) × KeysPart names (keys_of list) (keys_of first) t × (keys_of others ≡ keys_of rest ++ t)
 parts_behind names rest [] first others w =
     ([], (ap keys_of w.0, refl), ap keys_of w.1 ∙ sym (append-nil (keys_of rest)))
 parts_behind names rest (k ∷ list) first others (inl w) =
@@ -95,7 +95,7 @@ parts_behind names rest (k ∷ list) first others (inr w) =
     let more = parts_behind names (rest ++ k ∷ []) list first others w.1 in
     (catch_key k ∷ more.0, inr (w.0, (more.0, more.1, refl)), more.2 ∙ ap (λ x. x ++ more.0) (map-append catch_key rest (k ∷ [])) ∙ append_assoc (keys_of rest) (catch_key k ∷ []) more.0)
 
-arranged_keys : (names : List (List ℕ)) (list first rest : List Catch) → ArrangesBehind names [] list first rest → KeysPart names (keys_of list) (keys_of first) (keys_of rest)
+arranged_keys : (names : List (List ℕ)) (list first rest : List Catch) → ArrangesAfter names [] list first rest → KeysPart names (keys_of list) (keys_of first) (keys_of rest)
 arranged_keys names list first rest w =
     let parts = parts_behind names [] list first rest w in
     subst (KeysPart names (keys_of list) (keys_of first)) (sym parts.2) parts.1

@@ -1,5 +1,5 @@
 -- Lists of catches still fit after a commute of neighbours; a merge of lists is a grid of merges.
-use Rattle.camp_catch.proofs.Words.{List, [], inl, inr, refl, subst, sym, ℕ, ◌++◌, ◌∷◌, ◌≡◌, Files, Key, Align, ArrangesBehind, ComesBefore, ComesFirst, Fits, FitsAll, ListsKeepEffects, MergeLists, MergesWithAll, Catch}
+use Rattle.camp_catch.proofs.Words.{List, [], inl, inr, refl, subst, sym, ℕ, ◌++◌, ◌∷◌, ◌≡◌, Files, Key, Align, ArrangesAfter, ComesBefore, ComesFirst, Fits, FitsAll, ListsKeepEffects, MergeLists, MergesWithAll, Catch}
 use Rattle.camp_catch.proofs.CommuteEffects.{commute_keeps_effects}
 use Rattle.camp_catch.proofs.MergeEffects.{merge_keeps_effects}
 
@@ -18,7 +18,7 @@ comes_before_fits (j ∷ list) k k' list' w old between new f g =
     let pair = commute_keeps_effects j w.0 k' w.1 w.4 old f.0 rest.0 f.1 rest.1 in
     (pair.0, pair.1, fits_as list' (w.1 ∷ w.2) pair.0 new w.5 (rest.0, pair.2, rest.2))
 
-arranged_behind : (names : List (List ℕ)) (rest list first others : List Catch) → ArrangesBehind names rest list first others → (old between new : Files) → FitsAll rest old between → FitsAll list between new → (other : Files) × FitsAll first old other × FitsAll others other new
+arranged_behind : (names : List (List ℕ)) (rest list first others : List Catch) → ArrangesAfter names rest list first others → (old between new : Files) → FitsAll rest old between → FitsAll list between new → (other : Files) × FitsAll first old other × FitsAll others other new
 arranged_behind names rest [] first others w old between new f g =
     (old, fits_as first [] old old w.0 refl, fits_as others rest old new w.1 (subst (FitsAll rest old) (sym g) f))
 arranged_behind names rest (k ∷ list) first others (inl w) old between new f g =

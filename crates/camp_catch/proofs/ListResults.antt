@@ -1,6 +1,6 @@
 -- Commuting and arranging a list of catches gives exactly one result: the catches, or the place where they are
 -- blocked.
-use Rattle.camp_catch.proofs.Words.{Contains, List, [], ap, inl, inr, refl, ℕ, ◌++◌, ◌↔◌, ◌∷◌, ◌⊎◌, Key, among_or_not, keys_or_not, bytes_or_not, Align, AlignSticks, ArrangesBehind, ComesBefore, ComesFirst, SticksBehind, StopsAt, catch_key, ArrangeByMembers, CatchesAreDecided, HasPair, ListsAreUnique, ListsSucceedOrStick, OneOf, MergeLists, MergeSticks, MergesWithAll, SticksWithin, Catch}
+use Rattle.camp_catch.proofs.Words.{Contains, List, [], ap, inl, inr, refl, ℕ, ◌++◌, ◌↔◌, ◌∷◌, ◌⊎◌, Key, among_or_not, keys_or_not, bytes_or_not, Align, AlignIsBlocked, ArrangesAfter, ComesBefore, ComesFirst, IsBlockedAfter, StopsAt, catch_key, ArrangeByMembers, CatchesAreDecided, HasPair, ListsAreUnique, ListsSucceedOrAreBlocked, OneOf, MergeLists, MergeIsBlocked, MergesWithAll, IsBlockedWithin, Catch}
 use Rattle.camp_catch.proofs.CommuteCases.{IsDetermined, commuting}
 use Rattle.camp_catch.proofs.Determined.{Determined, chain, either, just, made_of, not_or_not, one_pair, where_holds}
 use Rattle.camp_catch.proofs.MergeCases.{merging}
@@ -18,7 +18,7 @@ coming (j ∷ list) k =
       | inr s ↦ inr ((s.0, s.1), s.2, ((λ x w. s.3 x.0 x.1 w), s.4))
     ])
 
-arranging : (names : List (List ℕ)) (rest list : List Catch) → Settled (λ (p : List Catch × List Catch). ArrangesBehind names rest list p.0 p.1) (λ (s : Key × Key). SticksBehind names rest list s.0 s.1)
+arranging : (names : List (List ℕ)) (rest list : List Catch) → Settled (λ (p : List Catch × List Catch). ArrangesAfter names rest list p.0 p.1) (λ (s : Key × Key). IsBlockedAfter names rest list s.0 s.1)
 arranging names rest [] = both_at_once [] rest
 arranging names rest (k ∷ list) =
     let come = settled_as (next (beside (catch_key k) (coming rest k)) (λ p w. arranging names p.1 list)) (λ x. (x.0.0 ∷ x.1.0, x.1.1)) (λ x w. (x.0.0, x.0.1, x.1.0, w.0, w.1, refl)) (λ y c. (((c.0, c.1), (c.2, y.1)), (c.3, c.4), λ t. (c.5 t, y.1))) (λ on v. v) (λ on v. v) in
@@ -38,7 +38,7 @@ first_of key (j ∷ list) =
     let there = where_holds (not_or_not is) (λ other. chain (first_of key list) (λ p w. commuting j p.0)) in
     either (λ x y v w. w.0 v.0) (made_of here (λ x. x) (λ x w. (w.0, ap (λ (p : Catch × List Catch). p.0) w.1, ap (λ (p : Catch × List Catch). p.1) w.1)) (λ y w. (y, (w.0, λ t. (w.1 t, w.2 t)), refl))) (made_of there (λ x. (x.1.0, x.1.1 ∷ x.0.1)) (λ x w. let come = w.1 in (w.0, (x.0.0, x.1.1, x.0.1, come.0, come.1, refl))) (λ y w. let c = w.1 in (((c.0, c.2), (y.0, c.1)), (w.0, (c.3, c.4)), λ t. (y.0, c.5 t))))
 
-aligning : (order : List Key) (list : List Catch) → Settled (Align order list) (AlignSticks order list)
+aligning : (order : List Key) (list : List Catch) → Settled (Align order list) (AlignIsBlocked order list)
 aligning [] list = at_once list
 aligning (key ∷ order) list =
     settled_as (next (settles (first_of key list) key) (λ p w. aligning order p.1)) (λ x. x.0.0 ∷ x.1) (λ x w. (x.0.0, x.0.1, x.1, w.0, w.1, refl)) (λ y c. (((c.0, c.1), c.2), (c.3, c.4), c.5)) (λ on v. elim v [
@@ -49,7 +49,7 @@ aligning (key ∷ order) list =
       | inr s ↦ inr ((s.0, s.1), s.2, s.3)
     ])
 
-merging_with_all : (q : List Catch) (k : Catch) → Settled (λ (p : Catch × List Catch). MergesWithAll q k p.0 p.1) (λ (s : Key × Key). SticksWithin q k s.0 s.1)
+merging_with_all : (q : List Catch) (k : Catch) → Settled (λ (p : Catch × List Catch). MergesWithAll q k p.0 p.1) (λ (s : Key × Key). IsBlockedWithin q k s.0 s.1)
 merging_with_all [] k = both_at_once k []
 merging_with_all (j ∷ q) k =
     settled_as (next (settles (merging j k) (catch_key j, catch_key k)) (λ p w. merging_with_all q p.0)) (λ x. (x.1.0, x.0.1 ∷ x.1.1)) (λ x w. (x.0.0, x.0.1, x.1.1, w.0, w.1, refl)) (λ y c. (((c.0, c.1), (y.0, c.2)), (c.3, c.4), λ t. (y.0, c.5 t))) (λ s v. elim v [
@@ -60,7 +60,7 @@ merging_with_all (j ∷ q) k =
       | inr w ↦ inr ((w.0, w.1), w.2, w.3)
     ])
 
-merging_lists : (p q : List Catch) → Settled (λ (r : List Catch × List Catch). MergeLists p q r.0 r.1) (λ (s : Key × Key). MergeSticks p q s.0 s.1)
+merging_lists : (p q : List Catch) → Settled (λ (r : List Catch × List Catch). MergeLists p q r.0 r.1) (λ (s : Key × Key). MergeIsBlocked p q s.0 s.1)
 merging_lists [] q = both_at_once [] q
 merging_lists (k ∷ p) q =
     settled_as (next (merging_with_all q k) (λ r w. merging_lists p r.1)) (λ x. (x.0.0 ∷ x.1.0, x.1.1)) (λ x w. (x.0.0, x.0.1, x.1.0, w.0, w.1, refl)) (λ y c. (((c.0, c.1), (c.2, y.1)), (c.3, c.4), λ t. (c.5 t, y.1))) (λ s v. elim v [ inl w ↦ inl w | inr w ↦ inr (w.0.0, w.0.1, w.1, w.2) ]) (λ s v. elim v [ inl w ↦ inl w | inr w ↦ inr ((w.0, w.1), w.2, w.3) ])
@@ -69,15 +69,15 @@ pub lists_are_unique : ListsAreUnique
 lists_are_unique = record {
   comes_before = λ list k. one_pair (ComesBefore list k) (coming list k).one;
   stops_at = λ list k. (coming list k).one_stick;
-  arranged = λ names list. one_pair (ArrangesBehind names [] list) (arranging names [] list).one;
-  arrange_sticks = λ names list. one_pair (SticksBehind names [] list) (arranging names [] list).one_stick;
+  arranged = λ names list. one_pair (ArrangesAfter names [] list) (arranging names [] list).one;
+  arrange_sticks = λ names list. one_pair (IsBlockedAfter names [] list) (arranging names [] list).one_stick;
   comes_first = λ key list. one_pair (ComesFirst key list) (first_of key list).one;
   aligned = λ order list. (aligning order list).one;
   align_sticks = λ order list. (aligning order list).one_stick;
   merged_with_all = λ q k. one_pair (MergesWithAll q k) (merging_with_all q k).one;
-  sticks_within = λ q k. one_pair (SticksWithin q k) (merging_with_all q k).one_stick;
+  sticks_within = λ q k. one_pair (IsBlockedWithin q k) (merging_with_all q k).one_stick;
   merged = λ p q. one_pair (MergeLists p q) (merging_lists p q).one;
-  merge_sticks = λ p q. one_pair (MergeSticks p q) (merging_lists p q).one_stick;
+  merge_sticks = λ p q. one_pair (MergeIsBlocked p q) (merging_lists p q).one_stick;
 }
 
 pair_or_none : {Case : Catch → Catch → Type 0} → IsDetermined Case → HasPair Case ⊎ ((k' j' : Catch) → ¬ (Case k' j'))
@@ -92,7 +92,7 @@ are_decided = record { commute = λ j k. pair_or_none (commuting j k); merge = �
 one_of : {X Y Z W : Type 0} {Done : X → Y → Type 0} {Sticks : Z → W → Type 0} → Settled (λ (p : X × Y). Done p.0 p.1) (λ (s : Z × W). Sticks s.0 s.1) → OneOf (HasPair Done) (HasPair Sticks)
 one_of d = (elim d.either [ inl w ↦ inl (w.0.0, w.0.1, w.1) | inr w ↦ inr (w.0.0, w.0.1, w.1) ], λ v w. d.apart (v.0, v.1) (w.0, w.1) v.2 w.2)
 
-pub lists_succeed_or_stick : ListsSucceedOrStick
+pub lists_succeed_or_stick : ListsSucceedOrAreBlocked
 lists_succeed_or_stick = record {
   comes_before = λ list k.
       let d = coming list k in
@@ -107,7 +107,7 @@ lists_succeed_or_stick = record {
 abbrev HaveSameNames : List (List ℕ) → List (List ℕ) → Type 0
 HaveSameNames names others = (name : List ℕ) → Contains names name ↔ Contains others name
 
-arranged_alike : (names others : List (List ℕ)) → HaveSameNames names others → (rest list first t : List Catch) → ArrangesBehind names rest list first t → ArrangesBehind others rest list first t
+arranged_alike : (names others : List (List ℕ)) → HaveSameNames names others → (rest list first t : List Catch) → ArrangesAfter names rest list first t → ArrangesAfter others rest list first t
 arranged_alike names others same rest [] first t w = w
 arranged_alike names others same rest (k ∷ list) first t (inl w) =
     let come = w.1 in
@@ -115,7 +115,7 @@ arranged_alike names others same rest (k ∷ list) first t (inl w) =
 arranged_alike names others same rest (k ∷ list) first t (inr w) =
     inr (λ is. w.0 ((same _).1 is), arranged_alike names others same (rest ++ k ∷ []) list first t w.1)
 
-stuck_alike : (names others : List (List ℕ)) → HaveSameNames names others → (rest list : List Catch) (patch on : Key) → SticksBehind names rest list patch on → SticksBehind others rest list patch on
+stuck_alike : (names others : List (List ℕ)) → HaveSameNames names others → (rest list : List Catch) (patch on : Key) → IsBlockedAfter names rest list patch on → IsBlockedAfter others rest list patch on
 stuck_alike names others same rest [] patch on w = w
 stuck_alike names others same rest (k ∷ list) patch on (inl w) = inl ((same _).0 w.0, w.1, w.2)
 stuck_alike names others same rest (k ∷ list) patch on (inr (inl w)) =

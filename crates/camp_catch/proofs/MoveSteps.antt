@@ -2,7 +2,7 @@
 use Rattle.std.proofs.lemmas.Cmp.{nat_list_cmp_total, eq_by_cmp_equiv}
 use Rattle.std.proofs.lemmas.Map.Views.{Contains-from_any, list_any-from_Contains, tells_apart}
 use Rattle.std.specs.Bool.{Decides}
-use Rattle.camp_catch.proofs.Words.{Contains, List, [], ap, arith, drop, get_or, inl, inr, length, refl, subst, suc, sym, take, ℕ, ◌++◌, ◌+◌, ◌<◌, ◌∙◌, ◌∷◌, ◌≡◌, ◌≢◌, ◌≤◌, append_assoc, drop_at, drop_more, length-append, length-take-le, length_push, nil_from_length, take_at, slice_cmp, FinMap, contains_key, contains_key-keys, keys, nat_cmp-IsAntisymmetric, slice_cmp-IsAntisymmetric, nat_cmp, Key, Align, AlignSticks, Arrange, ArrangeSticks, ArrangesBehind, ComesBefore, ComesFirst, DoNotCommute, IsOf, SticksBehind, StopsAt, catch_key, ComesFirstInPlace, FirstWithKey, LacksKey, Catch}
+use Rattle.camp_catch.proofs.Words.{Contains, List, [], ap, arith, drop, get_or, inl, inr, length, refl, subst, suc, sym, take, ℕ, ◌++◌, ◌+◌, ◌<◌, ◌∙◌, ◌∷◌, ◌≡◌, ◌≢◌, ◌≤◌, append_assoc, drop_at, drop_more, length-append, length-take-le, length_push, nil_from_length, take_at, slice_cmp, FinMap, contains_key, contains_key-keys, keys, nat_cmp-IsAntisymmetric, slice_cmp-IsAntisymmetric, nat_cmp, Key, Align, AlignIsBlocked, Arrange, ArrangeIsBlocked, ArrangesAfter, ComesBefore, ComesFirst, DoNotCommute, IsOf, IsBlockedAfter, StopsAt, catch_key, ComesFirstInPlace, FirstWithKey, LacksKey, Catch}
 use Rattle.camp_catch.proofs.ListResults.{coming}
 
 -- the element at an index of a list, and the elements after it
@@ -72,8 +72,8 @@ names_decide m name =
 -- of a whole list, `first` has been moved to the front and `rest` comes after it; the result depends on what is still
 -- to be arranged
 pub record IsArrangedUpTo (names : List (List ℕ)) (whole first rest list : List Catch) : Type 0 where
-  pub goes : (t others : List Catch) → ArrangesBehind names rest list t others → Arrange names whole (first ++ t) others
-  pub sticks : (patch on : Key) → SticksBehind names rest list patch on → ArrangeSticks names whole patch on
+  pub goes : (t others : List Catch) → ArrangesAfter names rest list t others → Arrange names whole (first ++ t) others
+  pub sticks : (patch on : Key) → IsBlockedAfter names rest list patch on → ArrangeIsBlocked names whole patch on
 
 pub arranged_with_other : {names : List (List ℕ)} {whole first rest list : List Catch} {k : Catch} → IsArrangedUpTo names whole first rest (k ∷ list) → ¬ (IsOf names k) → IsArrangedUpTo names whole first (rest ++ k ∷ []) list
 arranged_with_other up not = record { goes = λ t others w. up.goes t others (inr (not, w)); sticks = λ patch on w. up.sticks patch on (inr (inr (not, w))) }
@@ -84,7 +84,7 @@ arranged_with_named {first = first} k' up is come = record { goes = λ t others 
 -- of a whole list, `front` is in order; the result depends on the catches after it and on the rest of the order
 pub record IsAlignedUpTo (all : List Key) (whole front : List Catch) (order : List Key) (back : List Catch) : Type 0 where
   pub goes : (t : List Catch) → Align order back t → Align all whole (front ++ t)
-  pub sticks : (stuck : Key) → AlignSticks order back stuck → AlignSticks all whole stuck
+  pub sticks : (stuck : Key) → AlignIsBlocked order back stuck → AlignIsBlocked all whole stuck
 
 pub aligned_with : {all order : List Key} {whole front back others : List Catch} {key : Key} (k' : Catch) → IsAlignedUpTo all whole front (key ∷ order) back → ComesFirst key back k' others → IsAlignedUpTo all whole (front ++ k' ∷ []) order others
 aligned_with {front = front} k' up come = record { goes = λ t w. rw (append_assoc front (k' ∷ []) t) (up.goes (k' ∷ t) (k', _, t, come, w, refl)); sticks = λ stuck w. up.sticks stuck (inr (k', _, come, w)) }

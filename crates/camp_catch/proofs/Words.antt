@@ -45,16 +45,16 @@ pub use Rattle.camp_ctx.specs.Adding.{AddsToContext, AddsAll, PassesBy, PassesBy
 pub use Rattle.camp_ctx.specs.Conflicts.{Conflict, MergesBehindCommon, common_labels}
 pub use Rattle.camp_ctx.specs.Contexts.{AreValid, ContextedPatch, ContextedPatches, EachMember, Valid, bare, context_key, only, patch_key, with_member}
 pub use Rattle.camp_ctx.specs.Laws.{AlwaysGives, GivesOne, KeepsValid}
-pub use Rattle.camp_catch.specs.Arranging.{Align, AlignSticks, Arrange, ArrangeSticks, ArrangesBehind, ComesBefore, ComesFirst, DoNotCommute, IsOf, SticksBehind, StopsAt}
+pub use Rattle.camp_catch.specs.Arranging.{Align, AlignIsBlocked, Arrange, ArrangeIsBlocked, ArrangesAfter, ComesBefore, ComesFirst, DoNotCommute, IsOf, IsBlockedAfter, StopsAt}
 pub use Rattle.camp_catch.specs.Cases.{CasesExclude, MergeCasesExclude}
 pub use Rattle.camp_catch.specs.Catches.{Fits, FitsAll, IsSeenFrom, catch_key}
 pub use Rattle.camp_catch.specs.Commuting.{BothPlain, CommuteCatch, CommuteConflictors, CommutePlainConflictor, ConflictDissolves, ConflictorPastPlain, EffectsPass, OneOfSeveralConflicts, OnlyConflictGoes, PlainLeavesTheSet, PlainPastConflictor, TwoConflictorsApart, labels_undone}
 pub use Rattle.camp_catch.specs.Conflictors.{Becomes, against, in_conflict_with, joined_by, with_effect, without}
 pub use Rattle.camp_catch.specs.Inside.InPlace.{ComesFirstInPlace, FirstWithKey, LacksKey, MergesInto}
 pub use Rattle.camp_catch.specs.Laws.{CatchCommuteIsUnique, CommuteKeepsEffects, KeepLabels, KeysAlign, KeysPart, ListsKeepEffects, CatchMergeIsSymmetric, MergeIsUnique, MergeKeepsEffects, keys_of}
-pub use Rattle.camp_catch.specs.ListLaws.{ArrangeByMembers, CatchesAreDecided, FrontsComeBehindFronts, GivesOnePair, HasPair, ListsAreUnique, ListsSucceedOrStick, OneOf, WhatStopsComesAlong}
+pub use Rattle.camp_catch.specs.ListLaws.{ArrangeByMembers, CatchesAreDecided, FrontsFollowFronts, GivesOnePair, HasPair, ListsAreUnique, ListsSucceedOrAreBlocked, OneOf, BlockersAreIncluded}
 pub use Rattle.camp_catch.specs.Merging.{Clean, FirstConflict, JoinsWhere, MergeCatch, MergePlainConflictor, Mirror, PlainBesideConflictor, PlainJoinsConflictor, TwoConflictors}
-pub use Rattle.camp_catch.specs.MergingLists.{DoNotMerge, MergeLists, MergeSticks, MergesWithAll, SticksWithin}
+pub use Rattle.camp_catch.specs.MergingLists.{DoNotMerge, MergeLists, MergeIsBlocked, MergesWithAll, IsBlockedWithin}
 pub use Rattle.camp_catch.specs.declared.catches.Catch.{Catch}
 pub use Rattle.camp_catch.specs.declared.catches.Catch.TheVariants.{Plain}
 pub use Rattle.camp_catch.specs.declared.catches.Conflictor.{Conflictor}

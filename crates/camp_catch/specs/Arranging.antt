@@ -29,31 +29,31 @@ IsOf names k = Contains names (catch_key k).name
 
 -- rest list <-> first others: the catches of the names in a list are commuted to before `rest` and the other catches
 -- of the list, in their order
-abbrev pub ArrangesBehind : List (List ℕ) → List Catch → List Catch → List Catch → List Catch → Type 0
-ArrangesBehind names rest [] first others = (first ≡ []) × (others ≡ rest)
-ArrangesBehind names rest (k ∷ list) first others =
+abbrev pub ArrangesAfter : List (List ℕ) → List Catch → List Catch → List Catch → List Catch → Type 0
+ArrangesAfter names rest [] first others = (first ≡ []) × (others ≡ rest)
+ArrangesAfter names rest (k ∷ list) first others =
     (IsOf names k × ((k' : Catch) × (rest' : List Catch) × (t : List Catch)
-    × ComesBefore rest k k' rest' × ArrangesBehind names rest' list t others × (first ≡ k' ∷ t)))
-    ⊎ ((¬ (IsOf names k)) × ArrangesBehind names (rest ++ k ∷ []) list first others)
+    × ComesBefore rest k k' rest' × ArrangesAfter names rest' list t others × (first ≡ k' ∷ t)))
+    ⊎ ((¬ (IsOf names k)) × ArrangesAfter names (rest ++ k ∷ []) list first others)
 
 -- the list after `rest`, which has no catch of the names, cannot be arranged: `patch` is the absolute label of the
 -- first catch of the names that is blocked, and `on` that of the catch that blocks it
-abbrev pub SticksBehind : List (List ℕ) → List Catch → List Catch → Key → Key → Type 0
-SticksBehind names rest [] patch on = ⊥
-SticksBehind names rest (k ∷ list) patch on =
+abbrev pub IsBlockedAfter : List (List ℕ) → List Catch → List Catch → Key → Key → Type 0
+IsBlockedAfter names rest [] patch on = ⊥
+IsBlockedAfter names rest (k ∷ list) patch on =
     (IsOf names k × StopsAt rest k on × (patch ≡ catch_key k))
     ⊎ ((IsOf names k × ((k' : Catch) × (rest' : List Catch)
-    × ComesBefore rest k k' rest' × SticksBehind names rest' list patch on))
-    ⊎ ((¬ (IsOf names k)) × SticksBehind names (rest ++ k ∷ []) list patch on))
+    × ComesBefore rest k k' rest' × IsBlockedAfter names rest' list patch on))
+    ⊎ ((¬ (IsOf names k)) × IsBlockedAfter names (rest ++ k ∷ []) list patch on))
 
 -- list <-> first rest: the catches of the names are commuted to before the others
 abbrev pub Arrange : List (List ℕ) → List Catch → List Catch → List Catch → Type 0
-Arrange names list first rest = ArrangesBehind names [] list first rest
+Arrange names list first rest = ArrangesAfter names [] list first rest
 
 -- the list cannot be arranged: the catch of the names with the absolute label `patch` is blocked by the one
 -- with `on`
-abbrev pub ArrangeSticks : List (List ℕ) → List Catch → Key → Key → Type 0
-ArrangeSticks names list patch on = SticksBehind names [] list patch on
+abbrev pub ArrangeIsBlocked : List (List ℕ) → List Catch → Key → Key → Type 0
+ArrangeIsBlocked names list patch on = IsBlockedAfter names [] list patch on
 
 -- list <-> k' others: the first catch with this absolute label is commuted to before all others
 abbrev pub ComesFirst : Key → List Catch → Catch → List Catch → Type 0
@@ -72,8 +72,8 @@ Align (key ∷ order) list aligned =
     × ComesFirst key list k others × Align order others t × (aligned ≡ k ∷ t)
 
 -- the first label of the order whose catch is blocked or does not exist
-abbrev pub AlignSticks : List Key → List Catch → Key → Type 0
-AlignSticks [] list stuck = ⊥
-AlignSticks (key ∷ order) list stuck =
+abbrev pub AlignIsBlocked : List Key → List Catch → Key → Type 0
+AlignIsBlocked [] list stuck = ⊥
+AlignIsBlocked (key ∷ order) list stuck =
     (((k : Catch) (others : List Catch) → ¬ (ComesFirst key list k others)) × (stuck ≡ key))
-    ⊎ ((k : Catch) × (others : List Catch) × ComesFirst key list k others × AlignSticks order others stuck)
+    ⊎ ((k : Catch) × (others : List Catch) × ComesFirst key list k others × AlignIsBlocked order others stuck)

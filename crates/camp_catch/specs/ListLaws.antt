@@ -4,10 +4,10 @@ use Rattle.std.specs.Prelude.{◌≡◌, ◌↔◌, ◌⊎◌, ℕ, List, map, C
 use Rattle.camp_prim.specs.declared.labels.Key.{Key}
 use Rattle.camp_prim.specs.declared.named.Named.{Named}
 use Rattle.camp_seq.specs.Room.{HasRoom}
-use Rattle.camp_catch.specs.Arranging.{ComesBefore, StopsAt, DoNotCommute, Arrange, ArrangeSticks, ComesFirst, Align, AlignSticks}
+use Rattle.camp_catch.specs.Arranging.{ComesBefore, StopsAt, DoNotCommute, Arrange, ArrangeIsBlocked, ComesFirst, Align, AlignIsBlocked}
 use Rattle.camp_catch.specs.Commuting.{CommuteCatch}
 use Rattle.camp_catch.specs.Merging.{MergeCatch}
-use Rattle.camp_catch.specs.MergingLists.{MergesWithAll, SticksWithin, MergeLists, MergeSticks, DoNotMerge}
+use Rattle.camp_catch.specs.MergingLists.{MergesWithAll, IsBlockedWithin, MergeLists, MergeIsBlocked, DoNotMerge}
 use Rattle.camp_catch.specs.declared.catches.Catch.{Catch}
 use Rattle.camp_catch.specs.declared.catches.Catch.TheVariants.{Plain}
 
@@ -25,18 +25,18 @@ pub record ListsAreUnique : Type 0 where
   pub stops_at :
       (list : List Catch) (k : Catch) (on other : Key) → StopsAt list k on → StopsAt list k other → on ≡ other
   pub arranged : (names : List (List ℕ)) (list : List Catch) → GivesOnePair (Arrange names list)
-  pub arrange_sticks : (names : List (List ℕ)) (list : List Catch) → GivesOnePair (ArrangeSticks names list)
+  pub arrange_sticks : (names : List (List ℕ)) (list : List Catch) → GivesOnePair (ArrangeIsBlocked names list)
   pub comes_first : (key : Key) (list : List Catch) → GivesOnePair (ComesFirst key list)
   pub aligned :
       (order : List Key) (list aligned other : List Catch) → Align order list aligned → Align order list other →
       aligned ≡ other
   pub align_sticks :
-      (order : List Key) (list : List Catch) (stuck other : Key) → AlignSticks order list stuck →
-      AlignSticks order list other → stuck ≡ other
+      (order : List Key) (list : List Catch) (stuck other : Key) → AlignIsBlocked order list stuck →
+      AlignIsBlocked order list other → stuck ≡ other
   pub merged_with_all : (q : List Catch) (k : Catch) → GivesOnePair (MergesWithAll q k)
-  pub sticks_within : (q : List Catch) (k : Catch) → GivesOnePair (SticksWithin q k)
+  pub sticks_within : (q : List Catch) (k : Catch) → GivesOnePair (IsBlockedWithin q k)
   pub merged : (p q : List Catch) → GivesOnePair (MergeLists p q)
-  pub merge_sticks : (p q : List Catch) → GivesOnePair (MergeSticks p q)
+  pub merge_sticks : (p q : List Catch) → GivesOnePair (MergeIsBlocked p q)
 
 -- a relation on pairs has a result
 abbrev pub HasPair : {X Y : Type 0} → (X → Y → Type 0) → Type 0
@@ -60,21 +60,21 @@ pub record CatchesAreDecided : Type 0 where
   pub merge : MergeIsDecided
 
 -- a list either has a result or is blocked
-pub record ListsSucceedOrStick : Type 0 where
+pub record ListsSucceedOrAreBlocked : Type 0 where
   pub comes_before :
       (list : List Catch) (k : Catch) →
       OneOf (HasPair (ComesBefore list k)) ((on : Key) × StopsAt list k on)
   pub arranges :
       (names : List (List ℕ)) (list : List Catch) →
-      OneOf (HasPair (Arrange names list)) (HasPair (ArrangeSticks names list))
+      OneOf (HasPair (Arrange names list)) (HasPair (ArrangeIsBlocked names list))
   pub aligns :
       (order : List Key) (list : List Catch) →
-      OneOf ((aligned : List Catch) × Align order list aligned) ((stuck : Key) × AlignSticks order list stuck)
+      OneOf ((aligned : List Catch) × Align order list aligned) ((stuck : Key) × AlignIsBlocked order list stuck)
   pub merges_with_all :
       (q : List Catch) (k : Catch) →
-      OneOf (HasPair (MergesWithAll q k)) (HasPair (SticksWithin q k))
+      OneOf (HasPair (MergesWithAll q k)) (HasPair (IsBlockedWithin q k))
   pub merges :
-      (p q : List Catch) → OneOf (HasPair (MergeLists p q)) (HasPair (MergeSticks p q))
+      (p q : List Catch) → OneOf (HasPair (MergeLists p q)) (HasPair (MergeIsBlocked p q))
 
 -- arranging by names depends on which names there are, not on their order or number
 pub record ArrangeByMembers : Type 0 where
@@ -83,21 +83,21 @@ pub record ArrangeByMembers : Type 0 where
       (list first rest : List Catch) → Arrange names list first rest → Arrange others list first rest
   pub sticks :
       (names others : List (List ℕ)) → ((name : List ℕ) → Contains names name ↔ Contains others name) →
-      (list : List Catch) (patch on : Key) → ArrangeSticks names list patch on → ArrangeSticks others list patch on
+      (list : List Catch) (patch on : Key) → ArrangeIsBlocked names list patch on → ArrangeIsBlocked others list patch on
 
 -- of plain catches with headroom: a patch that blocks the patches of some names on their way to the front is in every
 -- set of patches that has these names and can be moved to the front
-abbrev pub WhatStopsComesAlong : Type 0
-WhatStopsComesAlong =
+abbrev pub BlockersAreIncluded : Type 0
+BlockersAreIncluded =
     (patches : List Named) (names others : List (List ℕ)) → HasRoom patches →
     ((name : List ℕ) → Contains names name → Contains others name) → (patch on : Key) →
-    ArrangeSticks names (map Plain patches) patch on → HasPair (Arrange others (map Plain patches)) →
+    ArrangeIsBlocked names (map Plain patches) patch on → HasPair (Arrange others (map Plain patches)) →
     Contains others on.name
 
 -- of plain catches with headroom: if each of two sets of patches can be moved to the front, then after the second was
 -- moved there, the rest of the first can be moved to the front of what follows
-abbrev pub FrontsComeBehindFronts : Type 0
-FrontsComeBehindFronts =
+abbrev pub FrontsFollowFronts : Type 0
+FrontsFollowFronts =
     (patches : List Named) (names others wanted : List (List ℕ)) → HasRoom patches →
     ((name : List ℕ) → Contains wanted name ↔ (Contains names name × (¬ (Contains others name)))) →
     (front behind : List Catch) → Arrange others (map Plain patches) front behind →

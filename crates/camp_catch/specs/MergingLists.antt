@@ -25,15 +25,15 @@ DoNotMerge j k = (k' j' : Catch) → ¬ (MergeCatch j k k' j')
 
 -- one catch against a list: the absolute labels of the first pair that does not merge, `left` from the list,
 -- `right` the catch
-abbrev pub SticksWithin : List Catch → Catch → Key → Key → Type 0
-SticksWithin [] k left right = ⊥
-SticksWithin (j ∷ q) k left right =
+abbrev pub IsBlockedWithin : List Catch → Catch → Key → Key → Type 0
+IsBlockedWithin [] k left right = ⊥
+IsBlockedWithin (j ∷ q) k left right =
     (DoNotMerge j k × (left ≡ catch_key j) × (right ≡ catch_key k))
-    ⊎ ((next : Catch) × (j' : Catch) × MergeCatch j k next j' × SticksWithin q next left right)
+    ⊎ ((next : Catch) × (j' : Catch) × MergeCatch j k next j' × IsBlockedWithin q next left right)
 
 -- two lists: the absolute labels of the first pair that does not merge, `left` from q and `right` from p
-abbrev pub MergeSticks : List Catch → List Catch → Key → Key → Type 0
-MergeSticks [] q left right = ⊥
-MergeSticks (k ∷ p) q left right =
-    SticksWithin q k left right
-    ⊎ ((k' : Catch) × (beside : List Catch) × MergesWithAll q k k' beside × MergeSticks p beside left right)
+abbrev pub MergeIsBlocked : List Catch → List Catch → Key → Key → Type 0
+MergeIsBlocked [] q left right = ⊥
+MergeIsBlocked (k ∷ p) q left right =
+    IsBlockedWithin q k left right
+    ⊎ ((k' : Catch) × (beside : List Catch) × MergesWithAll q k k' beside × MergeIsBlocked p beside left right)

@@ -3,7 +3,7 @@ ghost use Rattle.std.specs.Prelude.{◌≡◌, ◌↔◌, IfOk, IsTrue, MatchOpt
 ghost use Rattle.std.specs.Bool.{then_some};
 ghost use Rattle.std.specs.Result.{MatchResult};
 ghost use Rattle.camp_base.specs.Answers.{Finds};
-ghost use Rattle.camp_catch.specs.Arranging.{Align, AlignSticks};
+ghost use Rattle.camp_catch.specs.Arranging.{Align, AlignIsBlocked};
 ghost use Rattle.camp_catch.specs.Catches.{catch_key};
 ghost use Rattle.camp_catch.specs.Inside.InPlace.{ComesFirstInPlace, FirstWithKey, LacksKey};
 ghost use Rattle.camp_catch.specs.Making.{GivesOrRunsOut};
@@ -25,7 +25,7 @@ pub fn align(
 ) -> Result<Vec<Shared<Catch>>, Unmade<Key>>
     ensures exact { GivesOrRunsOut (λ answer. MatchResult answer
         (λ aligned. Align order.now list.now aligned.items)
-        (AlignSticks order.now list.now)) result }
+        (AlignIsBlocked order.now list.now)) result }
 {
     let mut aligned = all_gaining(alloc, list)?;
     put_in_order(alloc, &mut aligned, order)?;
@@ -37,7 +37,7 @@ pub fn align(
 fn put_in_order(alloc: Global, list: &mut [Gaining], order: &[Key]) -> Result<(), Unmade<Key>>
     ensures exact { GivesOrRunsOut (λ answer. MatchResult answer
         (λ _. Align order.now list.old list.new)
-        (AlignSticks order.now list.old)) result }
+        (AlignIsBlocked order.now list.old)) result }
 {
     for (at, key) in order.iter().enumerate() {
         if !come_first(alloc, &mut list[at..], key)? {

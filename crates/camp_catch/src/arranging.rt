@@ -5,7 +5,7 @@ ghost use Rattle.std.specs.Ordering.{nat_cmp};
 ghost use Rattle.std.specs.Cmp.Lexicographic.{slice_cmp};
 ghost use Rattle.std.specs.Result.{MatchResult};
 ghost use Rattle.camp_share.specs.Maps.{map_of};
-ghost use Rattle.camp_catch.specs.Arranging.{Arrange, ArrangeSticks, IsOf};
+ghost use Rattle.camp_catch.specs.Arranging.{Arrange, ArrangeIsBlocked, IsOf};
 ghost use Rattle.camp_catch.specs.Making.{GivesOrRunsOut};
 
 use crate::fast::{Gaining, all_settled};
@@ -40,7 +40,7 @@ pub fn arrange<V>(
 ) -> Result<Arranged, Unmade<Stuck>>
     ensures exact { GivesOrRunsOut (λ answer. MatchResult answer
         (λ arranged. Arrange (keys (map_of (slice_cmp nat_cmp) names.now)) list.now arranged.first.items arranged.rest.items)
-        (λ stuck. ArrangeSticks (keys (map_of (slice_cmp nat_cmp) names.now)) list.now stuck.patch stuck.on)) result }
+        (λ stuck. ArrangeIsBlocked (keys (map_of (slice_cmp nat_cmp) names.now)) list.now stuck.patch stuck.on)) result }
 {
     let mut first = Vec::new(alloc);
     let mut rest = Vec::new(alloc);

@@ -6,7 +6,7 @@ ghost use Rattle.camp_seq.specs.NormalOrder.{Splits};
 ghost use Rattle.camp_seq.specs.Running.{inverse_all};
 ghost use Rattle.camp_ctx.specs.Contexts.{context_key, patch_key, ContextedPatch};
 ghost use Rattle.camp_catch.specs.Commuting.{CommuteConflictors, EffectsPass, OneOfSeveralConflicts, OnlyConflictGoes, TwoConflictorsApart, labels_undone};
-ghost use Rattle.camp_catch.specs.Inside.Seen.{JoinedBehind, JoinsInOrder, LeavesTheOthers};
+ghost use Rattle.camp_catch.specs.Inside.Seen.{JoinedAfter, JoinsInOrder, LeavesTheOthers};
 
 use crate::seen::{
     all_pass_before, both_behind, has_no_context, joined, others_before, takes_back,
@@ -120,7 +120,7 @@ fn leaves_the_others(
 
 /// Makes `(s, X' and l, i')`, where `r^` added to `X` and `i` gives `X'` and `i'`.
 fn joined_behind(r: &Seq, s: Seq, k: &Conflictor, l: &Contexted) -> Result<Conflictor, AllocError>
-    ensures { IfOk result (JoinedBehind (inverse_all r.now) s k.now l.now) }
+    ensures { IfOk result (JoinedAfter (inverse_all r.now) s k.now l.now) }
 {
     let moved = both_behind(r, s, k)?;
     joined(moved, l)

@@ -1,7 +1,7 @@
 //! The laws of catches, as functions whose contracts state them.
 ghost use Rattle.camp_catch.specs.Cases.{CasesExclude, MergeCasesExclude};
 ghost use Rattle.camp_catch.specs.Laws.{CatchCommuteIsUnique, CommuteKeepsEffects, KeepLabels, ListsKeepEffects, CatchMergeIsSymmetric, MergeIsUnique, MergeKeepsEffects};
-ghost use Rattle.camp_catch.specs.ListLaws.{ArrangeByMembers, CatchesAreDecided, FrontsComeBehindFronts, ListsAreUnique, ListsSucceedOrStick, WhatStopsComesAlong};
+ghost use Rattle.camp_catch.specs.ListLaws.{ArrangeByMembers, CatchesAreDecided, FrontsFollowFronts, ListsAreUnique, ListsSucceedOrAreBlocked, BlockersAreIncluded};
 
 /// If two catches fit a tree one after the other, so do those that they commute to, and both orders lead to
 /// the same tree.
@@ -71,7 +71,7 @@ pub fn catches_are_decided()
 /// Each list either can be arranged, aligned or merged, or is blocked at some labels; never both.
 #[tactic(auto, using(crate::proofs::ListResults::lists_succeed_or_stick))]
 pub fn lists_succeed_or_stick()
-    ensures law { ListsSucceedOrStick }
+    ensures law { ListsSucceedOrAreBlocked }
 {}
 
 /// Arranging by names depends on which names there are, not on their order.
@@ -83,11 +83,11 @@ pub fn arrange_goes_by_members()
 /// Of plain catches with headroom: if a patch blocks some patches on their way to the front, each set that
 /// has these patches and can be moved to the front has it too.
 pub fn what_stops_comes_along()
-    ensures law { WhatStopsComesAlong }
+    ensures law { BlockersAreIncluded }
 {}
 
 /// Of plain catches with headroom: if each of two sets of patches can be moved to the front, then after the
 /// second was moved there, the rest of the first can be moved to the front of what follows.
 pub fn fronts_come_behind_fronts()
-    ensures law { FrontsComeBehindFronts }
+    ensures law { FrontsFollowFronts }
 {}

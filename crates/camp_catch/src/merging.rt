@@ -9,7 +9,7 @@ ghost use Rattle.camp_seq.specs.Running.{inverse_all};
 ghost use Rattle.camp_ctx.specs.Adding.{AddsAll};
 ghost use Rattle.camp_ctx.specs.Conflicts.{Conflict};
 ghost use Rattle.camp_ctx.specs.Contexts.{ContextedPatch, bare};
-ghost use Rattle.camp_catch.specs.Inside.TwoConflictors.{EffectsMerge, JoinEachOther, TellsConflict, TellsPlainConflict};
+ghost use Rattle.camp_catch.specs.Inside.TwoConflictors.{EffectsMerge, JoinEachOther, DecidesConflict, DecidesPlainConflict};
 ghost use Rattle.camp_catch.specs.Merging.{Clean, FirstConflict, MergeCatch, MergePlainConflictor, Mirror, PlainBesideConflictor, PlainJoinsConflictor, TwoConflictors};
 ghost use Rattle.camp_catch.specs.declared.catches.Catch.TheVariants.{Plain};
 
@@ -91,7 +91,7 @@ fn plain_and_conflictor(
 
 /// True if a patch conflicts with the identity of a conflictor as seen before the conflictor's effect.
 pub(crate) fn conflicts_with(alloc: Global, a: &Named, k: &Conflictor) -> Result<bool, AllocError>
-    ensures { IfOk result (TellsPlainConflict a.now k.now) }
+    ensures { IfOk result (DecidesPlainConflict a.now k.now) }
 {
     if let Some(found) = conflict_behind(a, &k.effect, &k.identity)? {
         return Ok(found);
@@ -176,7 +176,7 @@ pub(crate) fn merged_effects(
 
 /// True if two conflictors conflict: if their identities do, as seen before the effects.
 pub(crate) fn conflict_before(j: &Conflictor, k: &Conflictor) -> Result<bool, AllocError>
-    ensures { IfOk result (TellsConflict j.now k.now) }
+    ensures { IfOk result (DecidesConflict j.now k.now) }
 {
     let x = Contexted::add(&j.effect, &j.identity)?;
     let y = Contexted::add(&k.effect, &k.identity)?;

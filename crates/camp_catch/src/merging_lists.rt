@@ -4,7 +4,7 @@ ghost use Rattle.std.specs.Result.{MatchResult};
 ghost use Rattle.camp_base.specs.Answers.{Changes};
 ghost use Rattle.camp_catch.specs.Inside.InPlace.{MergesInPlace};
 ghost use Rattle.camp_catch.specs.Making.{GivesOrRunsOut};
-ghost use Rattle.camp_catch.specs.MergingLists.{MergeLists, MergeSticks, MergesWithAll, SticksWithin};
+ghost use Rattle.camp_catch.specs.MergingLists.{MergeLists, MergeIsBlocked, MergesWithAll, IsBlockedWithin};
 ghost use Rattle.camp_catch.specs.Catches.{catch_key};
 ghost use Rattle.camp_catch.specs.declared.catches.Catch.{Catch as AnyCatch};
 
@@ -31,7 +31,7 @@ pub fn merge_lists(
 ) -> Result<Vec<Shared<Catch>>, Unmade<NoMerge>>
     ensures exact { GivesOrRunsOut (λ answer. MatchResult answer
         (λ merged. (q' : List AnyCatch) × MergeLists p.now q.now merged.items q')
-        (λ stuck. MergeSticks p.now q.now stuck.left stuck.right)) result }
+        (λ stuck. MergeIsBlocked p.now q.now stuck.left stuck.right)) result }
 {
     let mut merged = Vec::with_capacity(alloc, p.len())?;
     let Some((last, front)) = p.split_last() else {
@@ -56,7 +56,7 @@ fn merge_with_all(
 ) -> Result<Shared<Catch>, Unmade<NoMerge>>
     ensures exact { GivesOrRunsOut (λ answer. MatchResult answer
         (λ after. MergesWithAll q.old k.now after q.new)
-        (λ stuck. SticksWithin q.old k.now stuck.left stuck.right)) result }
+        (λ stuck. IsBlockedWithin q.old k.now stuck.left stuck.right)) result }
 {
     let mut after = Gaining::new(alloc, k.share()?);
     for j in q.iter_mut() {

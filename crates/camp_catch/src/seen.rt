@@ -6,7 +6,7 @@ ghost use Rattle.camp_seq.specs.Running.{inverse_all};
 ghost use Rattle.camp_ctx.specs.Adding.{AddsToContext, AddsAll, PassesBy, PassesByAll};
 ghost use Rattle.camp_ctx.specs.Contexts.{bare};
 ghost use Rattle.camp_catch.specs.Conflictors.{Becomes, against, in_conflict_with, joined_by, with_conflicts};
-ghost use Rattle.camp_catch.specs.Inside.Seen.{LeavesSet, TakesBack};
+ghost use Rattle.camp_catch.specs.Inside.Seen.{LeavesSet, InvertsPatch};
 
 use crate::Conflictor;
 use crate::values::{alone, alone_bare, bare, inverse_before};
@@ -117,7 +117,7 @@ pub(crate) fn takes_back(
     k: &Conflictor,
     l: &Contexted,
 ) -> Result<Conflictor, AllocError>
-    ensures { IfOk result (TakesBack a.now k.now l.now) }
+    ensures { IfOk result (InvertsPatch a.now k.now l.now) }
 {
     let whole = inverse_before(alloc, a, k.effect.items())?;
     let conflicts = k.conflicts.insert(l)?;

@@ -13,7 +13,7 @@ use Rattle.camp_call.specs.declared.calls.Call.TheVariants as call
 use Rattle.camp_member.specs.Notes.{WithNote}
 use Rattle.camp_script.specs.Canonical.{IsListed, IsScriptCall, call_text}
 use Rattle.camp_script.specs.Commands.{Command, Nothing, command_of}
-use Rattle.camp_script.specs.Inside.Steps.{obey, read_from}
+use Rattle.camp_script.specs.Inside.Steps.{after_command, read_from}
 use Rattle.camp_script.specs.Keeping.{HasName, ListsNames}
 use Rattle.camp_script.specs.Lines.{is_blank, lines_of, words_of}
 use Rattle.camp_script.specs.Reading.{script_of}
@@ -49,7 +49,7 @@ line_read n closed done line rest note =
     record {
       line = n + 1;
       is = ap (read_from n (after closed done)) (first_line line rest parts.1)
-          ∙ ap (λ (r : Result Command LineFault). (r >>= obey n (after closed done)) >>= λ p. read_from (n + 1) p (lines_of rest)) (skipped n line parts.0);
+          ∙ ap (λ (r : Result Command LineFault). (r >>= after_command n (after closed done)) >>= λ p. read_from (n + 1) p (lines_of rest)) (skipped n line parts.0);
     }
 
 note_read : (n : ℕ) (closed : List (List Call)) (done : List Call) (lines : List (List ℕ)) (rest : List ℕ) → AllByRecursion (λ line. is_note_line line ≡ true) lines → Reads n (after closed done) (text_of_lines lines ++ rest) (after closed done) rest

@@ -17,7 +17,7 @@ use Rattle.camp_object.specs.Objects.{begun}
 use Rattle.camp_object.proofs.SameBooks.{same_book}
 use Rattle.camp_object.proofs.Replays.{legal_front, replay_more}
 use Rattle.camp_repo.specs.Limits.{Bounds}
-use Rattle.camp_repo.specs.Objects.{number_told, repository, repository_within}
+use Rattle.camp_repo.specs.Objects.{reply_number, repository, repository_within}
 use Rattle.camp_repo.specs.States.{Contents, new_within}
 use Rattle.camp_script.specs.Canonical.{IsScriptCall, call_text}
 use Rattle.camp_script.specs.Keeping.{calls_of}
@@ -97,24 +97,24 @@ alone-push calls c = sym (map-append (λ (call : Call). (0, call)) calls (c ∷ 
 
 -- a call is executed on a book, and its reply says whether it was accepted
 module _ (before after : History) (call : Call) (asked : Reply) (asks : AsksBook repository 0 before call (Ok asked) after) where
-  accepted_last : {at : ℕ} → number_told asked ≡ Some at → after ≡ then_call before call
+  accepted_last : {at : ℕ} → reply_number asked ≡ Some at → after ≡ then_call before call
   accepted_last {at} is =
       let done : Accepts (alone_at 0) before.calls call at after.calls = subst (λ (decoded : Option ℕ). MatchOption decoded (AddsNothing (alone_at 0) before.calls after.calls × IsAnswered (begun repository before.first) after.calls call asked) (λ n. Accepts (alone_at 0) before.calls call n after.calls)) is asks.asks.says in
       same_book after (then_call before call) asks.first (done.ends ∙ ap (λ (l : List (ℕ × Call)). l ++ (0, call) ∷ []) (done.exact refl))
 
-  answered_only : number_told asked ≡ None → ¬ (CanBeNext before call)
+  answered_only : reply_number asked ≡ None → ¬ (CanBeNext before call)
   answered_only is accepted =
       let says : AddsNothing (alone_at 0) before.calls after.calls × IsAnswered (begun repository before.first) after.calls call asked = subst (λ (decoded : Option ℕ). MatchOption decoded (AddsNothing (alone_at 0) before.calls after.calls × IsAnswered (begun repository before.first) after.calls call asked) (λ n. Accepts (alone_at 0) before.calls call n after.calls)) is asks.asks.says in
       let here : IsAccepted (begun repository before.first) after.calls call = subst (λ (l : List (ℕ × Call)). IsAccepted (begun repository before.first) l call) (sym (says.0.exact refl)) accepted in
       let none : IsSome (option_and_then (λ (state : Contents). repository.after state call) (Some says.1.state)) = subst (λ (found : Option Contents). IsSome (option_and_then (λ state. repository.after state call) found)) says.1.replays here in
       absurd (true≢false (sym (subst (λ (found : Option Contents). IsSome found) says.1.stays none)))
 
-  by_reply : (decoded : Option ℕ) → number_told asked ≡ decoded → ExecutesCall before call (is_some decoded) after
+  by_reply : (decoded : Option ℕ) → reply_number asked ≡ decoded → ExecutesCall before call (is_some decoded) after
   by_reply (Some at) is = accepted_last is
   by_reply None is = answered_only is
 
-  pub executes_call : (accepted : Bool) → accepted ≡ is_some (number_told asked) → ExecutesCall before call accepted after
-  executes_call accepted is = subst (λ (b : Bool). ExecutesCall before call b after) (sym is) (by_reply (number_told asked) refl)
+  pub executes_call : (accepted : Bool) → accepted ≡ is_some (reply_number asked) → ExecutesCall before call accepted after
+  executes_call accepted is = subst (λ (b : Bool). ExecutesCall before call b after) (sym is) (by_reply (reply_number asked) refl)
 
 -- a call that was found by its text is executed
 pub replays_text : (before after : History) (text : List ℕ) (call : Call) (yes : Bool) → (call_text call ≡ text) × IsScriptCall call → ExecutesCall before call yes after → ReplaysText before text yes after

@@ -1,3 +1,3 @@
 pub mod Limits
 pub mod Options
-pub mod Told
+pub mod Reports

@@ -2,7 +2,7 @@
 ghost use Rattle.std.specs.Prelude.{◌≡◌, ◌≢◌};
 ghost use Rattle.std.specs.IoError.{error_kind};
 ghost use Rattle.clap.specs.Words.{kind_of};
-ghost use Rattle.camp_options.specs.Told.{AsksForText, IsPrinted, TellsBy, TellsUnwritten};
+ghost use Rattle.camp_options.specs.Reports.{AsksForText, IsPrinted, HasStatus, ReportsUnwritten};
 
 use crate::limits::LimitsFault;
 use clap::Error;
@@ -39,26 +39,26 @@ pub fn command_line<R: Env + AllocGlobal>(rt: &R) -> Result<Vec<String>, WordsFa
 
 impl WordsFault {
     /// Prints the fault, or the requested text, and returns the exit status of the program.
-    pub fn tell<R: Print + Eprint>(&self, rt: &R, program: &str) -> u8
-        ensures status { TellsBy self.now result }
+    pub fn report<R: Print + Eprint>(&self, rt: &R, program: &str) -> u8
+        ensures status { HasStatus self.now result }
     {
         match self {
             WordsFault::NotText => {
                 let _ = eprintln!(rt; "error: a word of the command line is not UTF-8");
                 2
             }
-            WordsFault::Refused(error) => tell_error(rt, program, error),
+            WordsFault::Refused(error) => report_error(rt, program, error),
             WordsFault::Limits(fault) => {
                 let _ = eprintln!(rt; "error: {}", fault.words());
                 2
             }
-            WordsFault::Memory => tell_fault(rt, program, &"out of memory", 3),
+            WordsFault::Memory => report_fault(rt, program, &"out of memory", 3),
         }
     }
 }
 
 // Prints the requested text, or what is wrong with the command line, and returns the exit status.
-fn tell_error<R: Print + Eprint>(rt: &R, program: &str, error: &Error) -> u8
+fn report_error<R: Print + Eprint>(rt: &R, program: &str, error: &Error) -> u8
     ensures text { AsksForText (kind_of error.now) → IsPrinted result }
     ensures mistake { kind_of error.now ≢ ErrorKind.DisplayHelp → kind_of error.now ≢ ErrorKind.DisplayVersion → result ≡ 2 }
 {
@@ -68,18 +68,18 @@ fn tell_error<R: Print + Eprint>(rt: &R, program: &str, error: &Error) -> u8
     }
     match printed {
         Ok(()) => 0,
-        Err(error) => tell_unwritten(rt, program, &error),
+        Err(error) => report_unwritten(rt, program, &error),
     }
 }
 
 /// Reports that output could not be written, but not for a closed pipe, and returns the exit status.
-pub fn tell_unwritten<R: Eprint>(rt: &R, program: &str, error: &io::Error) -> u8
-    ensures status { TellsUnwritten (error_kind error.now) result }
+pub fn report_unwritten<R: Eprint>(rt: &R, program: &str, error: &io::Error) -> u8
+    ensures status { ReportsUnwritten (error_kind error.now) result }
 {
     if error.kind() == io::ErrorKind::BrokenPipe {
         return CLOSED_PIPE;
     }
-    tell_fault(
+    report_fault(
         rt,
         program,
         &format_args!("cannot write output: {error}"),
@@ -88,7 +88,7 @@ pub fn tell_unwritten<R: Eprint>(rt: &R, program: &str, error: &io::Error) -> u8
 }
 
 /// Reports to standard error why a program ends, and returns the given exit status.
-pub fn tell_fault<R: Eprint, F: Display>(rt: &R, program: &str, fault: &F, status: u8) -> u8
+pub fn report_fault<R: Eprint, F: Display>(rt: &R, program: &str, fault: &F, status: u8) -> u8
     ensures exact { result ≡ status }
 {
     let _ = eprintln!(rt; "{program}: {fault}");

@@ -7,7 +7,7 @@ mod kinds;
 mod limits;
 mod words;
 
-pub use faults::{WordsFault, command_line, tell_fault, tell_unwritten};
+pub use faults::{WordsFault, command_line, report_fault, report_unwritten};
 pub use help::VERSION;
 pub use kinds::Options;
 pub use limits::{LimitsFault, read_limits};

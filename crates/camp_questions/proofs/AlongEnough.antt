@@ -1,5 +1,5 @@
 -- A pull of the names to pull is not refused for a missing patch.
-use Rattle.camp_questions.proofs.Words.{and_from, and_parts, ◌≡◌, ℕ, Bool, true, false, not, ◌&&◌, List, [], ◌∷◌, ◌++◌, map, filter, None, Some, Ok, Err, refl, sym, ap, ◌∙◌, inl, inr, subst, Key, Catch, has_patch, is_among, name_of, names_of, among_kept, among_once, Arrange, AreAlike, Contents, catches_of, first_lacked, is_empty, step, AreAmong, ComeToFront, StickOn, filter_image, is_among_is, not_among, MergesBehind, Outcome, PullGives, WantedNext, common_names, NoBranch, NoPatch, NothingToDo, TooLarge, keep_labels, lists_are_unique, lists_succeed_or_stick, KeysPart, keys_of, Decision, becomes, is_full_with, refused, refused_if, wanted, AnswerOf, OfBranch, OfPatches, AlongIsEnough, map-map, catch_key, ◌≢◌, ArrangeSticks, arrange_by_members, in_order, GrowsToFront, Result, IfOk, IsTold, Unanswered, Refusal, Has, outcomes_are_determined, StandBehind}
+use Rattle.camp_questions.proofs.Words.{and_from, and_parts, ◌≡◌, ℕ, Bool, true, false, not, ◌&&◌, List, [], ◌∷◌, ◌++◌, map, filter, None, Some, Ok, Err, refl, sym, ap, ◌∙◌, inl, inr, subst, Key, Catch, has_patch, is_among, name_of, names_of, among_kept, among_once, Arrange, AreAlike, Contents, catches_of, first_lacked, is_empty, step, AreAmong, CanMoveToFront, AreBlockedBy, filter_image, is_among_is, not_among, MergesAfterCommon, Outcome, PullGives, WantedNext, common_names, NoBranch, NoPatch, NothingToDo, TooLarge, keep_labels, lists_are_unique, lists_succeed_or_stick, KeysPart, keys_of, Decision, becomes, is_full_with, refused, refused_if, wanted, AnswerOf, OfBranch, OfPatches, AlongIsEnough, map-map, catch_key, ◌≢◌, ArrangeIsBlocked, arrange_by_members, in_order, GrowsToFront, Result, IfOk, IsReported, Unanswered, Refusal, Has, outcomes_are_determined, AreAfterCommon}
 use Rattle.camp_branch.proofs.Words.{cond-false, cond-true}
 use Rattle.camp_branch.specs.declared.faults.Blocked.TheVariants as blocked
 use Rattle.camp_call.specs.declared.calls.Call.TheVariants as call
@@ -8,7 +8,7 @@ use Rattle.camp_repo.specs.Outcomes.{pulled}
 use Rattle.camp_questions.proofs.Answering.{by_branch, by_patches, no_refusal, same_answer}
 use Rattle.camp_questions.proofs.BranchGrowths.{none_lacked, none_lacked_among, to_front, contains_alike}
 use Rattle.camp_questions.proofs.Growths.{all_done, all_own, in_order_there, names_differ, same_in_order}
-use Rattle.camp_questions.specs.Along.{AlongOr, ComesAlong, OfTwo, HaveDiverged, TellsAlong}
+use Rattle.camp_questions.specs.Along.{AlongOr, ComesAlong, OfTwo, HaveDiverged, ReportsAlong}
 use Rattle.camp_questions.proofs.Growing.{grown_in_order}
 
 -- an outcome does not say that one patch depends on another
@@ -17,14 +17,14 @@ IsFree (Err (blocked.Depends patch on)) = ⊥
 IsFree other = Unit {0}
 
 -- no outcome after the common patches says so
-merges_freely : (common : List (List ℕ)) (from_common chosen to : List Catch) (outcome : Outcome) → MergesBehind common from_common chosen to outcome → IsFree outcome
+merges_freely : (common : List (List ℕ)) (from_common chosen to : List Catch) (outcome : Outcome) → MergesAfterCommon common from_common chosen to outcome → IsFree outcome
 merges_freely common from_common chosen to outcome (inr (stuck, other, sticks, e)) = subst IsFree (sym e) tt
 merges_freely common from_common chosen to outcome (inl (to_common, others, first, inl (align, inl (x, y, merge, e)))) = subst IsFree (sym e) tt
 merges_freely common from_common chosen to outcome (inl (to_common, others, first, inl (align, inr (left, right, sticks, e)))) = subst IsFree (sym e) tt
 merges_freely common from_common chosen to outcome (inl (to_common, others, first, inr (inl (stuck, sticks, e)))) = subst IsFree (sym e) tt
 merges_freely common from_common chosen to outcome (inl (to_common, others, first, inr (inr (aligned, name, align, differs, e)))) = subst IsFree (sym e) tt
 
-wanted_freely : (names common : List (List ℕ)) (from_common list to : List Catch) (outcome : Outcome) → ComeToFront list names → WantedNext names list (λ chosen left. MergesBehind common from_common chosen to) outcome → IsFree outcome
+wanted_freely : (names common : List (List ℕ)) (from_common list to : List Catch) (outcome : Outcome) → CanMoveToFront list names → WantedNext names list (λ chosen left. MergesAfterCommon common from_common chosen to) outcome → IsFree outcome
 wanted_freely names common from_common list to outcome front (inl (chosen, left, arranged, merges)) =
     merges_freely common from_common chosen to outcome merges
 wanted_freely names common from_common list to outcome front (inr (stuck, other, sticks, e)) =
@@ -32,10 +32,10 @@ wanted_freely names common from_common list to outcome front (inr (stuck, other,
 
 -- if the named patches can be moved directly after the common ones, no pull of them is refused because one depends on
 -- another
-pub pulls_freely : (from to : List Catch) (names : List (List ℕ)) (common behind : List Catch) (outcome : Outcome) → Arrange (common_names from to) from common behind → ComeToFront behind names → PullGives from to names outcome → IsFree outcome
+pub pulls_freely : (from to : List Catch) (names : List (List ℕ)) (common behind : List Catch) (outcome : Outcome) → Arrange (common_names from to) from common behind → CanMoveToFront behind names → PullGives from to names outcome → IsFree outcome
 pulls_freely from to names common behind outcome arranged front (inl (first, list, also, next)) =
     let same = lists_are_unique.arranged (common_names from to) from common first behind list arranged also in
-    wanted_freely names (common_names from to) first list to outcome (subst (λ l. ComeToFront l names) same.1 front) next
+    wanted_freely names (common_names from to) first list to outcome (subst (λ l. CanMoveToFront l names) same.1 front) next
 pulls_freely from to names common behind outcome arranged front (inr (stuck, other, sticks, e)) = subst IsFree (sym e) tt
 
 -- the catches left after those arranged by names fail the test of the names
@@ -77,7 +77,7 @@ module _ (theirs ours : List Catch) (names told : List (List ℕ)) (none : first
   -- all names to pull are among them
   all_there : AreAmong (wanted ours names ++ along.3.0) (map name_of along.1)
   all_there =
-      all_own (map name_of along.1) (ComeToFront along.1) (StickOn along.1) (to_front along.1) (wanted ours names) along.3.0 wanted_there along.3.1
+      all_own (map name_of along.1) (CanMoveToFront along.1) (AreBlockedBy along.1) (to_front along.1) (wanted ours names) along.3.0 wanted_there along.3.1
 
   -- they are in the answer, and `to` lacks them
   told_are : AreAlike (wanted ours told) (wanted ours names ++ along.3.0)
@@ -89,10 +89,10 @@ module _ (theirs ours : List Catch) (names told : List (List ℕ)) (none : first
       among_kept (λ m. not (has_patch ours m)) told n ∙ ap (λ b. b && not (has_patch ours n)) ordered ∙ and_true (is_among all n) (not (has_patch ours n)) (λ there. (and_parts (has_patch theirs n) (not (has_patch ours n)) (lacked there)).1)
 
   -- with the common patches before them they can be moved to the front
-  come_next : ComeToFront along.1 (wanted ours told)
+  come_next : CanMoveToFront along.1 (wanted ours told)
   come_next =
       (to_front along.1).done_alike (wanted ours names ++ along.3.0) (wanted ours told) (λ n. sym (told_are n))
-      (all_done (map name_of along.1) (ComeToFront along.1) (StickOn along.1) (to_front along.1) (wanted ours names) along.3.0 along.3.1)
+      (all_done (map name_of along.1) (CanMoveToFront along.1) (AreBlockedBy along.1) (to_front along.1) (wanted ours names) along.3.0 along.3.1)
 
   pub none_left : first_lacked theirs told ≡ None
   none_left =
@@ -143,21 +143,21 @@ along_is_enough state from to names told w =
 -- ---- the names to pull, and why there are none
 
 -- by a set of the common names
-pub stands_behind : (from to : List Catch) (names : List (List ℕ)) (first rest : List Catch) → AreAlike names (common_names from to) → Arrange names from first rest → StandBehind from to rest
+pub stands_behind : (from to : List Catch) (names : List (List ℕ)) (first rest : List Catch) → AreAlike names (common_names from to) → Arrange names from first rest → AreAfterCommon from to rest
 stands_behind from to names first rest alike w =
     (first, arrange_by_members.arranged names (common_names from to) (contains_alike names (common_names from to) alike) from first rest w)
 
-pub have_diverged : (from to : List Catch) (names : List (List ℕ)) (patch on : Key) → AreAlike names (common_names from to) → ArrangeSticks names from patch on → HaveDiverged from to patch.name
+pub have_diverged : (from to : List Catch) (names : List (List ℕ)) (patch on : Key) → AreAlike names (common_names from to) → ArrangeIsBlocked names from patch on → HaveDiverged from to patch.name
 have_diverged from to names patch on alike w =
     (patch, on, arrange_by_members.sticks names (common_names from to) (contains_alike names (common_names from to) alike) from patch on w, refl)
 
 -- the names that have grown after the common patches are those to pull
-pub comes_along : (from to behind : List Catch) (names set grown told : List (List ℕ)) → StandBehind from to behind → AreAlike set (wanted to names) → GrowsToFront behind set grown → told ≡ in_order from grown → ComesAlong from to names told
+pub comes_along : (from to behind : List Catch) (names set grown told : List (List ℕ)) → AreAfterCommon from to behind → AreAlike set (wanted to names) → GrowsToFront behind set grown → told ≡ in_order from grown → ComesAlong from to names told
 comes_along from to behind names set grown told stand alike grows is =
-    (stand.0, behind, stand.1, grown_in_order (map name_of behind) (ComeToFront behind) (StickOn behind) (to_front behind) from (wanted to names) set grown told alike grows is)
+    (stand.0, behind, stand.1, grown_in_order (map name_of behind) (CanMoveToFront behind) (AreBlockedBy behind) (to_front behind) from (wanted to names) set grown told alike grows is)
 
 module _ (state : Contents) (from to : List ℕ) (names : List (List ℕ)) (theirs ours : List Catch) (is_from : catches_of state.branches from ≡ Some theirs) (is_to : catches_of state.branches to ≡ Some ours) where
-  pub along_told : {E : Type 0} (made : Result (List (List ℕ)) E) (result : Result (List (List ℕ)) Unanswered) → IsTold made result → IfOk made (ComesAlong theirs ours names) → from ≢ to → first_lacked theirs names ≡ None → TellsAlong state from to names result
+  pub along_told : {E : Type 0} (made : Result (List (List ℕ)) E) (result : Result (List (List ℕ)) Unanswered) → IsReported made result → IfOk made (ComesAlong theirs ours names) → from ≢ to → first_lacked theirs names ≡ None → ReportsAlong state from to names result
   along_told (Ok told) result is w two none =
       rw is (rw is_from (rw is_to (inr (two, rw none (inl (told, refl, w))))))
   along_told (Err error) result is w two none =

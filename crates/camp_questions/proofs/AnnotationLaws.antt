@@ -1,5 +1,5 @@
 -- The laws of annotations.
-use Rattle.camp_questions.proofs.Words.{◌≡◌, ◌≤◌, ℕ, ◌+◌, ◌-◌, ◌==◌, Bool, true, false, ◌||◌, cond, List, [], ◌∷◌, ◌++◌, map, bytes_eq, subst, Option, None, Some, length, take, drop, replicate, refl, sym, ap, ◌∙◌, arith, empty, get, get-empty, get-insert, insert, Edit, key_cmp, key_of, label_of, Key, Named, Primitive, Add, Remove, Hunk, key_total, effect_of, Catch, has_patch, is_among, name_of, name_itself, or_true, Known, behind_all, behind_catches, behind_change, behind_hunk, names_coming, nothing_known, lines_or_none, LinesHaveNames, append_assoc, drop_at, drop-drop, length-append, length-take-le, take-append-drop, take_at, All, slice_range, splice, eq_by_cmp, is_eq, eq-eqb, All-append, All-drop, All-nil, All-replicate, All-take, none-some, same_Some, flipped, own_names, common_end, common_front, cond_both}
+use Rattle.camp_questions.proofs.Words.{◌≡◌, ◌≤◌, ℕ, ◌+◌, ◌-◌, ◌==◌, Bool, true, false, ◌||◌, cond, List, [], ◌∷◌, ◌++◌, map, bytes_eq, subst, Option, None, Some, length, take, drop, replicate, refl, sym, ap, ◌∙◌, arith, empty, get, get-empty, get-insert, insert, Edit, key_cmp, key_of, label_of, Key, Named, Primitive, Add, Remove, Hunk, key_total, effect_of, Catch, has_patch, is_among, name_of, name_itself, or_true, Known, known_after_all, known_after_catches, known_after_change, known_after_hunk, names_coming, nothing_known, lines_or_none, LinesHaveNames, append_assoc, drop_at, drop-drop, length-append, length-take-le, take-append-drop, take_at, All, slice_range, splice, eq_by_cmp, is_eq, eq-eqb, All-append, All-drop, All-nil, All-replicate, All-take, none-some, same_Some, flipped, own_names, common_end, common_front, cond_both}
 use Rattle.std.proofs.lemmas.Cmp.{tied_itself}
 use Rattle.camp_questions.proofs.LineNames.{catches_count, coming_count, gone_count, none_known}
 
@@ -19,7 +19,7 @@ back names coming from to end ordered within ends =
     let rest : part ++ drop to names ≡ drop from names = ap (λ t. part ++ t) (sym (drop-drop (to - from) from names ∙ ap (λ n. drop n names) {x = from + (to - from)} {y = to} (omega arith))) ∙ take-append-drop (to - from) (drop from names) in
     (λ i. first i ++ (part ++ last i)) ∙ ap (λ t. front ++ t) rest ∙ take-append-drop from names
 
-given_back : (name other : List ℕ) (key : Key) (hunk : Edit) (known : Known) → hunk.line - 1 + length hunk.old ≤ length known.names → (behind_hunk other key (flipped hunk) (behind_hunk name key hunk known)).names ≡ known.names
+given_back : (name other : List ℕ) (key : Key) (hunk : Edit) (known : Known) → hunk.line - 1 + length hunk.old ≤ length known.names → (known_after_hunk other key (flipped hunk) (known_after_hunk name key hunk known)).names ≡ known.names
 given_back name other key hunk known within =
     let from : ℕ = hunk.line - 1 in
     let to : ℕ = from + length hunk.old in
@@ -53,7 +53,7 @@ module _ (P : List ℕ → Type 0) where
   taken_hold true gone taken o one all e = subst (All P) (same_Some gone taken e) one
   taken_hold false gone taken o one all e = all taken e
 
-  hunk_holds : (name : List ℕ) (key : Key) (hunk : Edit) (known : Known) → P name → Holds P known → Holds P (behind_hunk name key hunk known)
+  hunk_holds : (name : List ℕ) (key : Key) (hunk : Edit) (known : Known) → P name → Holds P known → Holds P (known_after_hunk name key hunk known)
   hunk_holds name key hunk known one all =
       let from : ℕ = hunk.line - 1 in
       let to : ℕ = from + length hunk.old in
@@ -66,22 +66,22 @@ module _ (P : List ℕ → Type 0) where
         taken = λ q taken e. taken_hold (eq_by_cmp key_cmp q key) gone taken (get known.taken q) all_gone (all.taken q) (sym (get-insert key_total known.taken key gone q) ∙ e);
       }
 
-  change_holds : (path name : List ℕ) (key : Key) (p : Primitive) (known : Known) → P name → Holds P known → Holds P (behind_change path name key p known)
+  change_holds : (path name : List ℕ) (key : Key) (p : Primitive) (known : Known) → P name → Holds P known → Holds P (known_after_change path name key p known)
   change_holds path name key (Add q) known one all = all
   change_holds path name key (Remove q) known one all = all
   change_holds path name key (Hunk hunk) known one all =
-      cond_both (bytes_eq hunk.path path) (behind_hunk name key hunk known) known (Holds P) (λ e. hunk_holds name key hunk known one all) (λ e. all)
+      cond_both (bytes_eq hunk.path path) (known_after_hunk name key hunk known) known (Holds P) (λ e. hunk_holds name key hunk known one all) (λ e. all)
 
-  effect_holds : (path name : List ℕ) (s : List Named) (known : Known) → P name → Holds P known → Holds P (behind_all path name s known)
+  effect_holds : (path name : List ℕ) (s : List Named) (known : Known) → P name → Holds P known → Holds P (known_after_all path name s known)
   effect_holds path name [] known one all = all
   effect_holds path name (p ∷ s) known one all =
-      effect_holds path name s (behind_change path name (key_of (label_of p)) p.prim known) one
+      effect_holds path name s (known_after_change path name (key_of (label_of p)) p.prim known) one
       (change_holds path name (key_of (label_of p)) p.prim known one all)
 
-  catches_hold : (path : List ℕ) (list : List Catch) (known : Known) → ((name : List ℕ) → is_among (map name_of list) name ≡ true → P name) → Holds P known → Holds P (behind_catches path list known)
+  catches_hold : (path : List ℕ) (list : List Catch) (known : Known) → ((name : List ℕ) → is_among (map name_of list) name ≡ true → P name) → Holds P known → Holds P (known_after_catches path list known)
   catches_hold path [] known each all = all
   catches_hold path (k ∷ list) known each all =
-      catches_hold path list (behind_all path (name_of k) (effect_of k) known)
+      catches_hold path list (known_after_all path (name_of k) (effect_of k) known)
       (λ name among. each name (or_true (bytes_eq name (name_of k)) (is_among (map name_of list) name) among))
       (effect_holds path (name_of k) (effect_of k) known (each (name_of k) (ap (λ b. b || is_among (map name_of list) (name_of k)) (name_itself (name_of k)))) all)
 

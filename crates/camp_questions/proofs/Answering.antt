@@ -1,5 +1,5 @@
 -- Questions and their results.
-use Rattle.camp_questions.proofs.Words.{Catch, Contents, catches_of, ◌≡◌, ℕ, List, Option, None, first_lacked, Has, Result, Ok, Err, Some, refl, subst, AnswerOf, IfOk, Tells, IsFound, IsTold, Unanswered, MatchOption, Refusal, NoBranch, NoPatch, OfBranch, OfPatches, TellsOrWants}
+use Rattle.camp_questions.proofs.Words.{Catch, Contents, catches_of, ◌≡◌, ℕ, List, Option, None, first_lacked, Has, Result, Ok, Err, Some, refl, subst, AnswerOf, IfOk, ReportsAnswer, IsFound, IsReported, Unanswered, MatchOption, Refusal, NoBranch, NoPatch, OfBranch, OfPatches, ReportsAnswerOrMemory}
 
 -- an answer is not a refusal
 pub no_refusal : {A : Type 0} (refusal : Refusal) (answer : A) (is : AnswerOf A) → is ≡ Err refusal → is ≡ Ok answer → ⊥
@@ -38,12 +38,12 @@ by_patches {A} {X} catches names GoesOn answer w lacks all = at (first_lacked ca
 
 -- the result is the computed answer or out of memory: if there is an answer
 module _ {A E : Type 0} (state : Contents) (branch : List ℕ) {catches : List Catch} (found : catches_of state.branches branch ≡ Some catches) where
-  pub such_told : (Is : List Catch → A → Type 0) (made : Result A E) (result : Result A Unanswered) → IsTold made result → IfOk made (Is catches) → (one : A) → Is catches one → Tells (OfBranch state branch (λ c. Such (Is c))) result
+  pub such_told : (Is : List Catch → A → Type 0) (made : Result A E) (result : Result A Unanswered) → IsReported made result → IfOk made (Is catches) → (one : A) → Is catches one → ReportsAnswer (OfBranch state branch (λ c. Such (Is c))) result
   such_told Is (Ok answer) result is w one there = rw is (rw found (answer, refl, w))
   such_told Is (Err error) result is w one there = rw is (one, rw found (one, refl, there))
 
   -- or if the question is not refused
-  pub such_wanted : (Is : List Catch → A → Type 0) (made : Result A E) (result : Result A Unanswered) → IsTold made result → IfOk made (Is catches) → TellsOrWants (OfBranch state branch (λ c. Such (Is c))) result
+  pub such_wanted : (Is : List Catch → A → Type 0) (made : Result A E) (result : Result A Unanswered) → IsReported made result → IfOk made (Is catches) → ReportsAnswerOrMemory (OfBranch state branch (λ c. Such (Is c))) result
   such_wanted Is (Ok answer) result is w = rw is (rw found (answer, refl, w))
   such_wanted Is (Err error) result is w =
       rw is (λ refusal v. let on = goes_on state branch found (λ c. Such (Is c)) (Err refusal) v in no_refusal refusal on.0 (Err refusal) refl on.1)
@@ -57,10 +57,10 @@ module _ {A : Type 0} (state : Contents) (branch : List ℕ) (names : List (List
   goes_on_with answer w =
       subst (λ o. MatchOption o (GoesOn catches answer) (λ name. answer ≡ Err (NoPatch name))) found.has (goes_on state branch found.is Goes answer w)
 
-  pub told_with : {E : Type 0} (made : Result A E) (result : Result A Unanswered) → IsTold made result → IfOk made (λ answer. GoesOn catches (Ok answer)) → (one : A) → GoesOn catches (Ok one) → Tells (OfBranch state branch Goes) result
+  pub told_with : {E : Type 0} (made : Result A E) (result : Result A Unanswered) → IsReported made result → IfOk made (λ answer. GoesOn catches (Ok answer)) → (one : A) → GoesOn catches (Ok one) → ReportsAnswer (OfBranch state branch Goes) result
   told_with (Ok answer) result is w one there = rw is (rw found.is (rw found.has w))
   told_with (Err error) result is w one there = rw is (one, rw found.is (rw found.has there))
 
-  pub wanted_with : {E : Type 0} (made : Result A E) (result : Result A Unanswered) → IsTold made result → IfOk made (λ answer. GoesOn catches (Ok answer)) → ((refusal : Refusal) → ¬ (GoesOn catches (Err refusal))) → TellsOrWants (OfBranch state branch Goes) result
+  pub wanted_with : {E : Type 0} (made : Result A E) (result : Result A Unanswered) → IsReported made result → IfOk made (λ answer. GoesOn catches (Ok answer)) → ((refusal : Refusal) → ¬ (GoesOn catches (Err refusal))) → ReportsAnswerOrMemory (OfBranch state branch Goes) result
   wanted_with (Ok answer) result is w never = rw is (rw found.is (rw found.has w))
   wanted_with (Err error) result is w never = rw is (λ refusal v. never refusal (goes_on_with (Err refusal) v))

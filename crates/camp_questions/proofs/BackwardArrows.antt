@@ -1,5 +1,5 @@
 -- The arrows of a graph lead backwards.
-use Rattle.camp_questions.proofs.Words.{◌⊎◌, ◌≡◌, ◌≢◌, ℕ, Bool, true, false, true≢false, ◌||◌, cond, List, [], ◌∷◌, ◌++◌, map, bytes_eq, refl, sym, ap, ◌∙◌, subst, inl, inr, Key, Catch, SticksBehind, is_among, is_among_is, name_of, names_of, same_name, ComeToFront, StickOn, AreAmong, NeedsDirectly, NeedsPatch, Node, ◌↔◌, HasPatches, Patch, IsLawfulBranch, has_patch, among_once, names_of_patches, ArrowsLeadBackwards, StandsBefore, false_from_ne_true, has_image, map-map, node_of}
+use Rattle.camp_questions.proofs.Words.{◌⊎◌, ◌≡◌, ◌≢◌, ℕ, Bool, true, false, true≢false, ◌||◌, cond, List, [], ◌∷◌, ◌++◌, map, bytes_eq, refl, sym, ap, ◌∙◌, subst, inl, inr, Key, Catch, IsBlockedAfter, is_among, is_among_is, name_of, names_of, same_name, CanMoveToFront, AreBlockedBy, AreAmong, NeedsDirectly, NeedsPatch, Node, ◌↔◌, HasPatches, Patch, IsLawfulBranch, has_patch, among_once, names_of_patches, ArrowsLeadBackwards, StandsBefore, false_from_ne_true, has_image, map-map, node_of}
 use Rattle.camp_questions.proofs.Arrows.{arrows_are_direct_needs}
 use Rattle.camp_questions.proofs.Growths.{all_within, alone_among, among_cases}
 use Rattle.camp_questions.proofs.BranchGrowths.{in_order_among}
@@ -9,7 +9,7 @@ use Rattle.camp_questions.proofs.Stuck.{sticks_between}
 
 module _ (names : List (List ℕ)) where
   -- a patch of none of the names is not the one that is blocked
-  none_stick : (rest list : List Catch) (patch on : Key) → AreNotOf names list → ¬ (SticksBehind names rest list patch on)
+  none_stick : (rest list : List Catch) (patch on : Key) → AreNotOf names list → ¬ (IsBlockedAfter names rest list patch on)
   none_stick rest [] patch on are w = w
   none_stick rest (k ∷ list) patch on are (inl w) =
       true≢false (sym ((is_among_is names (name_of k)).0 w.0) ∙ are.0)
@@ -18,7 +18,7 @@ module _ (names : List (List ℕ)) where
   none_stick rest (k ∷ list) patch on are (inr (inr w)) = none_stick (rest ++ k ∷ []) list patch on are.1 w.1
 
   -- the patch that blocks comes before any that is of none of the names
-  stuck_in_front : (rest front behind : List Catch) (patch on : Key) → AreNotOf names behind → SticksBehind names rest (front ++ behind) patch on → SticksBehind names rest front patch on
+  stuck_in_front : (rest front behind : List Catch) (patch on : Key) → AreNotOf names behind → IsBlockedAfter names rest (front ++ behind) patch on → IsBlockedAfter names rest front patch on
   stuck_in_front rest [] behind patch on are w = absurd (none_stick rest behind patch on are w)
   stuck_in_front rest (k ∷ front) behind patch on are (inl w) = inl w
   stuck_in_front rest (k ∷ front) behind patch on are (inr (inl w)) =
@@ -40,11 +40,11 @@ one_of names (k ∷ list) n are there = elim (among_cases (name_of k) (map name_
 ]
 
 -- what blocks names up to an index is itself among those up to it
-stuck_up_to : (branch : List Catch) (patches : List Patch) → HasPatches branch patches → (last : List ℕ) (names : List (List ℕ)) (name : List ℕ) → AreAmong names (up_to (names_of branch) last) → StickOn branch names name → is_among (up_to (names_of branch) last) name ≡ true
+stuck_up_to : (branch : List Catch) (patches : List Patch) → HasPatches branch patches → (last : List ℕ) (names : List (List ℕ)) (name : List ℕ) → AreAmong names (up_to (names_of branch) last) → AreBlockedBy branch names name → is_among (up_to (names_of branch) last) name ≡ true
 stuck_up_to branch patches has last names name among stop =
     let first = subst (λ own. StandFirst (up_to own last) branch) (sym (names_of_patches branch patches has)) (stand_first patches branch last has.distinct has.labels) in
     let others = fewer_of names (up_to (names_of branch) last) among first.behind first.others in
-    let stuck = stuck_in_front names [] first.front first.behind stop.0 stop.1 others (subst (λ l. SticksBehind names [] l stop.0 stop.1) first.is stop.2) in
+    let stuck = stuck_in_front names [] first.front first.behind stop.0 stop.1 others (subst (λ l. IsBlockedAfter names [] l stop.0 stop.1) first.is stop.2) in
     let there = (sticks_between names first.front stop.0 stop.1 stuck).0.0 in
     ap (is_among (up_to (names_of branch) last)) stop.3 ∙ one_of (up_to (names_of branch) last) first.front stop.1.name first.are there
 
@@ -82,7 +82,7 @@ needs_up_to branch name other lawful there needs =
     let own = names_of branch in
     let grown = needs.1.1 in
     let among : AreAmong (name ∷ []) (up_to own name) = alone_among name (up_to own name) (ends own name there) in
-    all_within (ComeToFront branch) (StickOn branch) (up_to own name) (stuck_up_to branch lawful.patches lawful.has name) (name ∷ []) grown.0 among grown.1 other (in_order_among branch ((name ∷ []) ++ grown.0) other (ap (λ l. is_among l other) (sym grown.2) ∙ needs.1.2))
+    all_within (CanMoveToFront branch) (AreBlockedBy branch) (up_to own name) (stuck_up_to branch lawful.patches lawful.has name) (name ∷ []) grown.0 among grown.1 other (in_order_among branch ((name ∷ []) ++ grown.0) other (ap (λ l. is_among l other) (sym grown.2) ∙ needs.1.2))
 
 -- and come before it
 needs_stand_before : (branch : List Catch) (name other : List ℕ) → IsLawfulBranch branch → has_patch branch name ≡ true → NeedsPatch branch name other → StandsBefore (names_of branch) other name

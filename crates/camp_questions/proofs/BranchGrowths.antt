@@ -1,5 +1,5 @@
 -- Names that grow until they can be moved to the front of a branch, or taken out of it.
-use Rattle.camp_questions.proofs.Words.{and_parts, not-true, ◌≡◌, ◌≢◌, ℕ, Bool, true, false, true≢false, not, cond, ◌||◌, List, [], ◌∷◌, ◌++◌, map, None, Some, Ok, Err, bytes_eq, refl, sym, ap, ◌∙◌, inl, inr, ◌↔◌, Contains, Key, Catch, has_patch, is_among, name_of, is_among_is, name_itself, or_true, Next, Has, first_lacked, is_empty, step, AreHeldIn, CanGo, ComeToFront, StickOn, other_names, among_others, Contents, after, with_catches, AreAlike, obliterate_alike, AreAmong, HeldCanGo, HeldIsDetermined, NeedsAreDetermined, NeedsComeFirst, arrange_by_members, lists_are_unique, lists_succeed_or_stick, Outcome, subst, ArrangeSticks, names_of, among_kept, in_order, IsPlain, NeedsAreLeast, what_stops_comes_along, outcomes_are_determined, Depends}
+use Rattle.camp_questions.proofs.Words.{and_parts, not-true, ◌≡◌, ◌≢◌, ℕ, Bool, true, false, true≢false, not, cond, ◌||◌, List, [], ◌∷◌, ◌++◌, map, None, Some, Ok, Err, bytes_eq, refl, sym, ap, ◌∙◌, inl, inr, ◌↔◌, Contains, Key, Catch, has_patch, is_among, name_of, is_among_is, name_itself, or_true, Next, Has, first_lacked, is_empty, step, AreHeldIn, CanGo, CanMoveToFront, AreBlockedBy, other_names, among_others, Contents, after, with_catches, AreAlike, obliterate_alike, AreAmong, HeldCanGo, HeldIsDetermined, NeedsAreDetermined, NeedsComeFirst, arrange_by_members, lists_are_unique, lists_succeed_or_stick, Outcome, subst, ArrangeIsBlocked, names_of, among_kept, in_order, IsPlain, NeedsAreLeast, what_stops_comes_along, outcomes_are_determined, Depends}
 use Rattle.camp_call.specs.declared.calls.Call.TheVariants as call
 use Rattle.camp_questions.proofs.Growths.{Grow, among_cases, grew, grows_to_one, in_order_there, all_within}
 use Rattle.camp_questions.proofs.Stuck.{sticks_between}
@@ -9,7 +9,7 @@ contains_alike names others alike n =
     (λ c. (is_among_is others n).1 (sym (alike n) ∙ (is_among_is names n).0 c), λ c. (is_among_is names n).1 (alike n ∙ (is_among_is others n).0 c))
 
 -- patches can be moved to the front, or are blocked
-pub to_front : (branch : List Catch) → Grow (map name_of branch) (ComeToFront branch) (StickOn branch)
+pub to_front : (branch : List Catch) → Grow (map name_of branch) (CanMoveToFront branch) (AreBlockedBy branch)
 to_front branch = record {
   either = λ names. elim (lists_succeed_or_stick.arranges names branch).0 [
     | inl w ↦ inl w
@@ -85,10 +85,10 @@ none_lacked branch (n ∷ names) own =
 
 pub needs_come_first : NeedsComeFirst
 needs_come_first branch names needed all needs =
-    grew branch (ComeToFront branch) (StickOn branch) (to_front branch) names needed (none_lacked_among branch names all) needs
+    grew branch (CanMoveToFront branch) (AreBlockedBy branch) (to_front branch) names needed (none_lacked_among branch names all) needs
 
 pub needs_are_determined : NeedsAreDetermined
-needs_are_determined branch names = grows_to_one branch (ComeToFront branch) (StickOn branch) (to_front branch) names
+needs_are_determined branch names = grows_to_one branch (CanMoveToFront branch) (AreBlockedBy branch) (to_front branch) names
 
 pub held_is_determined : HeldIsDetermined
 held_is_determined branch names = grows_to_one branch (CanGo branch) (AreHeldIn branch) (to_go branch) names
@@ -115,10 +115,10 @@ held_can_go state name branch names held has all some grows =
 -- headroom
 
 -- the patch that blocks some names is in each list that has them and can be moved to the front
-pub stops_within : (branch : List Catch) (others : List (List ℕ)) → IsPlain branch → ComeToFront branch others → (names : List (List ℕ)) (name : List ℕ) → AreAmong names others → StickOn branch names name → is_among others name ≡ true
+pub stops_within : (branch : List Catch) (others : List (List ℕ)) → IsPlain branch → CanMoveToFront branch others → (names : List (List ℕ)) (name : List ℕ) → AreAmong names others → AreBlockedBy branch names name → is_among others name ≡ true
 stops_within branch others plain come names name among stop =
-    let sticks = subst (λ list. ArrangeSticks names list stop.0 stop.1) plain.are stop.2 in
-    let along = what_stops_comes_along plain.patches names others plain.room (λ n c. (is_among_is others n).1 (among n ((is_among_is names n).0 c))) stop.0 stop.1 sticks (subst (λ list. ComeToFront list others) plain.are come) in
+    let sticks = subst (λ list. ArrangeIsBlocked names list stop.0 stop.1) plain.are stop.2 in
+    let along = what_stops_comes_along plain.patches names others plain.room (λ n c. (is_among_is others n).1 (among n ((is_among_is names n).0 c))) stop.0 stop.1 sticks (subst (λ list. CanMoveToFront list others) plain.are come) in
     (is_among_is others name).0 (subst (λ n. Contains others n) (sym stop.3) along)
 
 -- names put in the order of a branch are among those names
@@ -128,4 +128,4 @@ in_order_among branch names n there =
 
 pub needs_are_least : NeedsAreLeast
 needs_are_least branch names needed others plain needs among come name there =
-    all_within (ComeToFront branch) (StickOn branch) others (stops_within branch others plain come) names needs.0 among needs.1 name (in_order_among branch (names ++ needs.0) name (ap (λ l. is_among l name) (sym needs.2) ∙ there))
+    all_within (CanMoveToFront branch) (AreBlockedBy branch) others (stops_within branch others plain come) names needs.0 among needs.1 name (in_order_among branch (names ++ needs.0) name (ap (λ l. is_among l name) (sym needs.2) ∙ there))

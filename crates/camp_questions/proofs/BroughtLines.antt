@@ -1,5 +1,5 @@
 -- Each line of a file was added by a hunk of the patch whose name it has.
-use Rattle.camp_questions.proofs.Words.{◌≡◌, ℕ, ◌+◌, ◌-◌, ◌==◌, ◌||◌, Bool, true, false, cond, List, [], ◌∷◌, ◌++◌, map, Option, None, Some, length, take, drop, bytes_eq, refl, sym, ap, ◌∙◌, subst, arith, empty, get, get-empty, get-insert, slice_range, splice, nat_cmp, eq_by_cmp, slice_cmp, bytes_eq-Decides, Edit, key_cmp, key_of, key_total, label_of, Key, Named, Primitive, Add, Remove, Hunk, Catch, name_of, name_itself, is_among, Known, behind_all, behind_catches, behind_change, behind_hunk, names_coming, names_of_lines, nothing_known, lines_or_none, annotated, append_assoc, drop_at, length-append, none-some, same_Some, take_at, AllByRecursion, flat_map, Applies, Files, Lines, Splices, FitsAll, effect_of, Contains, catches_named, patch_in, AllZip, has_image, Plain, SameKey, AppliesAll, own_names, brought_by, ComeAgainAsInverses, EachIsBrought, IsBrought, LinesAreBrought, PutsBack, changes_in, cond_both, has_of_each, get-with_file_other, get-with_file_same}
+use Rattle.camp_questions.proofs.Words.{◌≡◌, ℕ, ◌+◌, ◌-◌, ◌==◌, ◌||◌, Bool, true, false, cond, List, [], ◌∷◌, ◌++◌, map, Option, None, Some, length, take, drop, bytes_eq, refl, sym, ap, ◌∙◌, subst, arith, empty, get, get-empty, get-insert, slice_range, splice, nat_cmp, eq_by_cmp, slice_cmp, bytes_eq-Decides, Edit, key_cmp, key_of, key_total, label_of, Key, Named, Primitive, Add, Remove, Hunk, Catch, name_of, name_itself, is_among, Known, known_after_all, known_after_catches, known_after_change, known_after_hunk, names_coming, names_of_lines, nothing_known, lines_or_none, annotated, append_assoc, drop_at, length-append, none-some, same_Some, take_at, AllByRecursion, flat_map, Applies, Files, Lines, Splices, FitsAll, effect_of, Contains, catches_named, patch_in, AllZip, has_image, Plain, SameKey, AppliesAll, own_names, brought_by, ComeAgainAsInverses, EachIsBrought, IsBrought, LinesAreBrought, PutsBack, changes_in, cond_both, has_of_each, get-with_file_other, get-with_file_same}
 use Rattle.camp_questions.proofs.LineNames.{alike, other_path, same_key}
 use Rattle.camp_questions.proofs.KeptElements.{kept_has, of_each}
 use Rattle.camp_questions.proofs.PlainLabels.{inverses_alone, plain_effects}
@@ -74,7 +74,7 @@ module _ (R : List ℕ → List ℕ → Type 0) (path : List ℕ) where
         rear = subst (AllZip R (drop to known.names)) (drop_at (before ++ hunk.old) after to long) (zipped_drop R to known.names lines fit);
       }
 
-  hunk_fits : (name : List ℕ) (p : Named) (s : List Named) (hunk : Edit) (old new : Files) (known : Known) → p.prim ≡ Hunk hunk → hunk.path ≡ path → AllByRecursion (R name) (brought_by hunk) → AllByRecursion (λ q. SameKey p q → PutsBack hunk q.prim) s → Splices hunk.path hunk.line hunk.old hunk.new old new → Fit old (p ∷ s) known → Fit new s (behind_hunk name (key_of (label_of p)) hunk known)
+  hunk_fits : (name : List ℕ) (p : Named) (s : List Named) (hunk : Edit) (old new : Files) (known : Known) → p.prim ≡ Hunk hunk → hunk.path ≡ path → AllByRecursion (R name) (brought_by hunk) → AllByRecursion (λ q. SameKey p q → PutsBack hunk q.prim) s → Splices hunk.path hunk.line hunk.old hunk.new old new → Fit old (p ∷ s) known → Fit new s (known_after_hunk name (key_of (label_of p)) hunk known)
   hunk_fits name p s hunk old new known is same own back w fit =
       let key : Key = key_of (label_of p) in
       let from : ℕ = hunk.line - 1 in
@@ -91,7 +91,7 @@ module _ (R : List ℕ → List ℕ → Type 0) (path : List ℕ) where
         taken = λ q taken e. taken_at p s known hunk gone same cut.gone back fit.taken q taken _ refl (sym (get-insert key_total known.taken key gone q) ∙ e);
       }
 
-  change_fits : (name : List ℕ) (p : Named) (s : List Named) (prim : Primitive) (old new : Files) (known : Known) → p.prim ≡ prim → FitsNew name prim → ((hunk : Edit) → prim ≡ Hunk hunk → AllByRecursion (λ q. SameKey p q → PutsBack hunk q.prim) s) → Applies prim old new → Fit old (p ∷ s) known → Fit new s (behind_change path name (key_of (label_of p)) prim known)
+  change_fits : (name : List ℕ) (p : Named) (s : List Named) (prim : Primitive) (old new : Files) (known : Known) → p.prim ≡ prim → FitsNew name prim → ((hunk : Edit) → prim ≡ Hunk hunk → AllByRecursion (λ q. SameKey p q → PutsBack hunk q.prim) s) → Applies prim old new → Fit old (p ∷ s) known → Fit new s (known_after_change path name (key_of (label_of p)) prim known)
   change_fits name p s (Add q) old new known is own back w fit = record {
     names = subst (AllZip R known.names) (sym (ap (λ t. lines_or_none (get t path)) w.becomes ∙ alike old q path (Some []) (ap lines_or_none (sym w.absent)))) fit.names;
     taken = one_less p s known fit.taken;
@@ -101,27 +101,27 @@ module _ (R : List ℕ → List ℕ → Type 0) (path : List ℕ) where
     taken = one_less p s known fit.taken;
   }
   change_fits name p s (Hunk hunk) old new known is own back w fit =
-      cond_both (bytes_eq hunk.path path) (behind_hunk name (key_of (label_of p)) hunk known) known (Fit new s)
+      cond_both (bytes_eq hunk.path path) (known_after_hunk name (key_of (label_of p)) hunk known) known (Fit new s)
       (λ e. let same : hunk.path ≡ path = (bytes_eq-Decides hunk.path path).0 e in hunk_fits name p s hunk old new known is same (own hunk refl same) (back hunk refl) w fit)
       (λ e. record {
         names = subst (AllZip R known.names) (ap lines_or_none (sym (ap (λ t. get t path) w.becomes ∙ get-with_file_other old hunk.path path (Some w.changed) (other_path hunk.path path e)))) fit.names;
         taken = one_less p s known fit.taken;
       })
 
-  effect_fits : (name : List ℕ) (s more : List Named) (old new : Files) (known : Known) → FitEach name s → ComeAgainAsInverses (s ++ more) → AppliesAll s old new → Fit old (s ++ more) known → Fit new more (behind_all path name s known)
+  effect_fits : (name : List ℕ) (s more : List Named) (old new : Files) (known : Known) → FitEach name s → ComeAgainAsInverses (s ++ more) → AppliesAll s old new → Fit old (s ++ more) known → Fit new more (known_after_all path name s known)
   effect_fits name [] more old new known own back w fit = subst (λ t. Fit t more known) (sym w) fit
   effect_fits name (p ∷ s) more old new known own back w fit =
-      effect_fits name s more w.0 new (behind_change path name (key_of (label_of p)) p.prim known) own.1 back.1 w.2
+      effect_fits name s more w.0 new (known_after_change path name (key_of (label_of p)) p.prim known) own.1 back.1 w.2
       (change_fits name p (s ++ more) p.prim old w.0 known refl own.0 back.0 w.1 fit)
 
   behind_effect : (s more : List Named) → ComeAgainAsInverses (s ++ more) → ComeAgainAsInverses more
   behind_effect [] more back = back
   behind_effect (p ∷ s) more back = behind_effect s more back.1
 
-  catches_fit : (list : List Catch) (old new : Files) (known : Known) → AllByRecursion (λ k. FitEach (name_of k) (effect_of k)) list → ComeAgainAsInverses (flat_map effect_of list) → FitsAll list old new → Fit old (flat_map effect_of list) known → Fit new [] (behind_catches path list known)
+  catches_fit : (list : List Catch) (old new : Files) (known : Known) → AllByRecursion (λ k. FitEach (name_of k) (effect_of k)) list → ComeAgainAsInverses (flat_map effect_of list) → FitsAll list old new → Fit old (flat_map effect_of list) known → Fit new [] (known_after_catches path list known)
   catches_fit [] old new known own back w fit = subst (λ t. Fit t [] known) (sym w) fit
   catches_fit (k ∷ list) old new known own back w fit =
-      catches_fit list w.0 new (behind_all path (name_of k) (effect_of k) known) own.1 (behind_effect (effect_of k) (flat_map effect_of list) back) w.2
+      catches_fit list w.0 new (known_after_all path (name_of k) (effect_of k) known) own.1 (behind_effect (effect_of k) (flat_map effect_of list) back) w.2
       (effect_fits (name_of k) (effect_of k) (flat_map effect_of list) old w.0 known own.0 back w.1.effect fit)
 
   nothing_fits : (rest : List Named) → Fit empty rest nothing_known

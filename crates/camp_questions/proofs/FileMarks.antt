@@ -1,12 +1,12 @@
 -- Patches that change other files than those that go are moved in front of them unchanged.
-use Rattle.camp_questions.proofs.Words.{not-true, or_parts, or_true, Err, Ok, Result, ◌≡◌, ◌<◌, ◌==◌, ℕ, ◌+◌, Bool, true, false, true≢false, not, ◌||◌, List, [], ◌∷◌, ◌++◌, map, length, get_or, bytes_eq, refl, sym, ap, ◌∙◌, subst, inl, inr, arith, AllByRecursion, list_any, All, all_append, eq-eqb, name_itself, Key, Catch, Named, Primitive, ArrangesBehind, ComesBefore, get_or-map, length-map, All-head, All-tail, ◌*◌, ◌%◌, IfOk, OnOk, InRange, PrimitivesCommute, Commute, path_of, inverse_all, Plain, Going, PatchCatches, AreApart, AreOfPatch, AreFilesOf, AreMarkedToo, GoMarked, IsMarkedPlain, IsPlainInRange, file_number, how_many, is_marked, number_behind, number_of, IsInverted, AllStay, StandsAside, CommuteCatch, HasFiles, here}
+use Rattle.camp_questions.proofs.Words.{not-true, or_parts, or_true, Err, Ok, Result, ◌≡◌, ◌<◌, ◌==◌, ℕ, ◌+◌, Bool, true, false, true≢false, not, ◌||◌, List, [], ◌∷◌, ◌++◌, map, length, get_or, bytes_eq, refl, sym, ap, ◌∙◌, subst, inl, inr, arith, AllByRecursion, list_any, All, all_append, eq-eqb, name_itself, Key, Catch, Named, Primitive, ArrangesAfter, ComesBefore, get_or-map, length-map, All-head, All-tail, ◌*◌, ◌%◌, IfOk, OnOk, InRange, PrimitivesCommute, Commute, path_of, inverse_all, Plain, Going, PatchCatches, AreApart, AreOfPatch, AreFilesOf, AreMarkedToo, GoMarked, IsMarkedPlain, IsPlainInRange, file_number, how_many, is_marked, hash_after, number_of, IsInverted, AllStay, IsIndependent, CommuteCatch, HasFiles, here}
 use Rattle.std.proofs.lemmas.Nat.{mod_below}
 use Rattle.camp_questions.specs.declared.fast.changed_files.PatchFiles.{PatchFiles}
 use Rattle.camp_questions.proofs.PartsArranged.{of_its_name}
 use Rattle.camp_questions.proofs.ReachedPatches.{catches_at}
 
 -- a hash number is less than the number of hash numbers
-number_within : (number : ℕ) (bytes : List ℕ) → number < how_many → number_behind number bytes < how_many
+number_within : (number : ℕ) (bytes : List ℕ) → number < how_many → hash_after number bytes < how_many
 number_within number [] less = less
 number_within number (byte ∷ bytes) less =
     number_within ((number * 31 + byte) % how_many) bytes (mod_below (number * 31 + byte) how_many (omega arith))
@@ -68,7 +68,7 @@ kept_behind marks (Plain a ∷ going) k k' left marked inside w =
     (one.0, subst (AllByRecursion (IsMarkedPlain marks)) (sym w.5) (one.1, rest.1))
 kept_behind marks (Catch.Conflictor j ∷ going) k k' left marked inside w = absurd marked.0
 
-all_kept : (marks : List Bool) (name : List ℕ) (going list first left : List Catch) → AllByRecursion (IsMarkedPlain marks) going → AllByRecursion IsPlainInRange list → AreOfPatch name list → ArrangesBehind (name ∷ []) going list first left → AllByRecursion (IsMarkedPlain marks) left
+all_kept : (marks : List Bool) (name : List ℕ) (going list first left : List Catch) → AllByRecursion (IsMarkedPlain marks) going → AllByRecursion IsPlainInRange list → AreOfPatch name list → ArrangesAfter (name ∷ []) going list first left → AllByRecursion (IsMarkedPlain marks) left
 all_kept marks name going [] first left marked inside own w =
     subst (AllByRecursion (IsMarkedPlain marks)) (sym w.1) marked
 all_kept marks name going (k ∷ list) first left marked inside own (inl w) =
@@ -79,13 +79,13 @@ all_kept marks name going (k ∷ list) first left marked inside own (inr w) =
     absurd (w.0 (of_its_name name k own.0))
 
 -- the case in which a patch is moved in front, and the case in which it is not
-pub still_marked : (marks : List Bool) (name : List ℕ) (going list left : List Catch) (yes : Bool) → AllByRecursion (IsMarkedPlain marks) going → AllByRecursion IsPlainInRange list → AreOfPatch name list → StandsAside name going list yes left → AllByRecursion (IsMarkedPlain marks) left
+pub still_marked : (marks : List Bool) (name : List ℕ) (going list left : List Catch) (yes : Bool) → AllByRecursion (IsMarkedPlain marks) going → AllByRecursion IsPlainInRange list → AreOfPatch name list → IsIndependent name going list yes left → AllByRecursion (IsMarkedPlain marks) left
 still_marked marks name going list left true marked inside own w =
     all_kept marks name going list w.0 left marked inside own w.1
 still_marked marks name going list left false marked inside own w =
     subst (AllByRecursion (IsMarkedPlain marks)) (sym w.0) marked
 
-pub still_marked_after : {E : Type 0} (result : Result Bool E) (name : List ℕ) (list : List Catch) (old new : Going) → GoMarked old → AllByRecursion IsPlainInRange list → AreOfPatch name list → new.files.items ≡ old.files.items → IfOk result (λ yes. StandsAside name old.catches.items list yes new.catches.items) → OnOk result (GoMarked new)
+pub still_marked_after : {E : Type 0} (result : Result Bool E) (name : List ℕ) (list : List Catch) (old new : Going) → GoMarked old → AllByRecursion IsPlainInRange list → AreOfPatch name list → new.files.items ≡ old.files.items → IfOk result (λ yes. IsIndependent name old.catches.items list yes new.catches.items) → OnOk result (GoMarked new)
 still_marked_after (Ok aside) name list old new marked inside own same w = record {
   long = ap length same ∙ marked.long;
   marked = subst (λ marks. AllByRecursion (IsMarkedPlain marks) new.catches.items) (sym same) (still_marked old.files.items name old.catches.items list new.catches.items aside marked.marked inside own w);

@@ -4,10 +4,10 @@ use Rattle.camp_questions.proofs.Words.{◌≡◌, ℕ, cond, List, [], ◌∷�
 use Rattle.camp_call.specs.declared.calls.Call.{Call}
 use Rattle.camp_call.specs.declared.calls.Call.TheVariants as call
 use Rattle.camp_call.specs.declared.replies.Reply.TheVariants as reply
-use Rattle.camp_questions.specs.Foresight.{ForeseesOf, IsAcceptedSo, OpensAndResolves, StandsIn, branch_written}
-use Rattle.camp_questions.specs.declared.foresight.Standing.{Standing}
+use Rattle.camp_questions.specs.Foresight.{ForeseesOf, IsAcceptedSo, OpensAndResolves, IsBranchState, branch_written}
+use Rattle.camp_questions.specs.declared.foresight.BranchState.{BranchState}
 use Rattle.camp_questions.specs.Inside.Foresight.{LedTo}
-use Rattle.camp_repo.specs.Objects.{replies_to, reply_of, state_behind}
+use Rattle.camp_repo.specs.Objects.{replies_to, reply_of, state_after_decision}
 use Rattle.camp_questions.specs.declared.foresight.Foreseen.{Foreseen}
 
 -- there are some catches
@@ -49,41 +49,41 @@ is_there call state next name led written =
     not_none next (same_Some _ _ (sym to.1 ∙ written)) to.2
 
 -- its state is the one with which questions for it are answered
-pub stands_so : (next : Contents) (name : List ℕ) (catches : List Catch) (tree copy : Files) (pairs told opened resolved : List (List ℕ × List ℕ)) → Has next name catches → LeadsTo catches tree → copy ≡ tree → AreConflicts catches pairs → told ≡ pairs → StandsIn next (record { branch = name; tree = copy; conflicts = told; opened = opened; resolved = resolved })
+pub stands_so : (next : Contents) (name : List ℕ) (catches : List Catch) (tree copy : Files) (pairs told opened resolved : List (List ℕ × List ℕ)) → Has next name catches → LeadsTo catches tree → copy ≡ tree → AreConflicts catches pairs → told ≡ pairs → IsBranchState next (record { branch = name; tree = copy; conflicts = told; opened = opened; resolved = resolved })
 stands_so next name catches tree copy pairs told opened resolved has leads same are is = record {
   tree = sym (tree_shown next name catches tree copy has leads same);
   conflicts = sym (ap (λ l. Answer (reply.Conflicts l)) is ∙ conflicts_shown next name catches pairs has are);
 }
 
 -- an accepted call is foreseen
-pub accepted_so : (call : Call) (state next : Contents) (standing : Standing) (count : ℕ) → count ≡ next.count → branch_written call ≡ Some standing.branch → StandsIn next standing → OpensAndResolves state next standing.branch standing.opened standing.resolved → IsAcceptedSo call state next (record { reply = reply.Done count; changed = Some standing })
+pub accepted_so : (call : Call) (state next : Contents) (standing : BranchState) (count : ℕ) → count ≡ next.count → branch_written call ≡ Some standing.branch → IsBranchState next standing → OpensAndResolves state next standing.branch standing.opened standing.resolved → IsAcceptedSo call state next (record { reply = reply.Done count; changed = Some standing })
 accepted_so call state next standing count counted written stands changes =
     record { told = ap reply.Done counted; standing = standing; changed = refl; written = written; stands = stands; changes = changes }
 
 -- ---- the foreseen result of a call is its result
 
 -- the two questions for a branch, one after the other
-then_told : (next : Contents) (standing : Standing) → StandsIn next standing → replies_to next (call.Tree standing.branch ∷ call.Conflicts standing.branch ∷ []) ≡ reply.Tree standing.tree ∷ reply.Conflicts standing.conflicts ∷ []
+then_told : (next : Contents) (standing : BranchState) → IsBranchState next standing → replies_to next (call.Tree standing.branch ∷ call.Conflicts standing.branch ∷ []) ≡ reply.Tree standing.tree ∷ reply.Conflicts standing.conflicts ∷ []
 then_told next standing stands =
-    let second = ap (λ d. step (state_behind next d) (call.Conflicts standing.branch)) stands.tree ∙ stands.conflicts in
+    let second = ap (λ d. step (state_after_decision next d) (call.Conflicts standing.branch)) stands.tree ∙ stands.conflicts in
     λ i. reply_of (stands.tree i) ∷ reply_of (second i) ∷ []
 
 -- the same for a decision
 record ComesSo (state : Contents) (decision : Decision) (seen : Foreseen) : Type 0 where
   replied : reply_of decision ≡ seen.reply
-  stays : seen.changed ≡ None → state_behind state decision ≡ state
-  changed : (standing : Standing) → seen.changed ≡ Some standing → reply_of decision ∷ replies_to (state_behind state decision) (call.Tree standing.branch ∷ call.Conflicts standing.branch ∷ []) ≡ seen.reply ∷ reply.Tree standing.tree ∷ reply.Conflicts standing.conflicts ∷ []
-  unresolved : (standing : Standing) → seen.changed ≡ Some standing → OpensAndResolves state (state_behind state decision) standing.branch standing.opened standing.resolved
+  stays : seen.changed ≡ None → state_after_decision state decision ≡ state
+  changed : (standing : BranchState) → seen.changed ≡ Some standing → reply_of decision ∷ replies_to (state_after_decision state decision) (call.Tree standing.branch ∷ call.Conflicts standing.branch ∷ []) ≡ seen.reply ∷ reply.Tree standing.tree ∷ reply.Conflicts standing.conflicts ∷ []
+  unresolved : (standing : BranchState) → seen.changed ≡ Some standing → OpensAndResolves state (state_after_decision state decision) standing.branch standing.opened standing.resolved
 
 comes_so : (state : Contents) (asked : Call) (decision : Decision) (seen : Foreseen) → ForeseesOf state asked decision seen → ComesSo state decision seen
 comes_so state asked (Next next) seen w = record {
   replied = sym w.told;
   stays = λ none. absurd (none-some w.standing (sym none ∙ w.changed));
   changed = λ standing is.
-      let told = then_told next standing (subst (StandsIn next) (same_Some _ _ (sym w.changed ∙ is)) w.stands) in
+      let told = then_told next standing (subst (IsBranchState next) (same_Some _ _ (sym w.changed ∙ is)) w.stands) in
       λ i. sym w.told i ∷ told i;
   unresolved = λ standing is.
-      subst (λ (s : Standing). OpensAndResolves state next s.branch s.opened s.resolved) (same_Some _ _ (sym w.changed ∙ is)) w.changes;
+      subst (λ (s : BranchState). OpensAndResolves state next s.branch s.opened s.resolved) (same_Some _ _ (sym w.changed ∙ is)) w.changes;
 }
 comes_so state asked (Answer answer) seen w = record {
   replied = sym w.0;
@@ -100,5 +100,5 @@ foreseen_comes state asked seen w =
       stays = so.stays;
       changed = so.changed;
       unresolved = λ standing is before after were are.
-          changes_once state (state_behind state (step state asked)) standing.branch standing.opened standing.resolved before after (so.unresolved standing is) were (listed_there (state_behind state (step state asked)) standing.branch after are);
+          changes_once state (state_after_decision state (step state asked)) standing.branch standing.opened standing.resolved before after (so.unresolved standing is) were (listed_there (state_after_decision state (step state asked)) standing.branch after are);
     }

@@ -1,5 +1,5 @@
 -- The graph of a branch, patch by patch.
-use Rattle.camp_questions.proofs.Words.{◌≡◌, ◌<◌, ℕ, ◌+◌, Bool, cond, List, [], ◌∷◌, ◌++◌, map, filter, length, take, get_or, refl, sym, ap, ◌∙◌, subst, AllByRecursion, Catch, is_among, name_of, names_of, AreConflicts, all_append, ComeToFront, Drawn, IsGraph, Needing, NeedsThese, StickOn, node_of, Node, in_order, map-append, take_more, conflicts_are_determined, Needed, NeedEach, marked, needing, GrowsToFront, node_in, AreAlike, map-map, map-id}
+use Rattle.camp_questions.proofs.Words.{◌≡◌, ◌<◌, ℕ, ◌+◌, Bool, cond, List, [], ◌∷◌, ◌++◌, map, filter, length, take, get_or, refl, sym, ap, ◌∙◌, subst, AllByRecursion, Catch, is_among, name_of, names_of, AreConflicts, all_append, CanMoveToFront, Drawn, IsGraph, Needing, NeedsThese, AreBlockedBy, node_of, Node, in_order, map-append, take_more, conflicts_are_determined, Needed, NeedEach, marked, needing, GrowsToFront, node_in, AreAlike, map-map, map-id}
 use Rattle.camp_questions.proofs.BranchGrowths.{needs_are_determined, to_front}
 use Rattle.camp_questions.proofs.Growing.{grown_in_order}
 use Rattle.camp_questions.proofs.PatchFronts.{all_images}
@@ -32,7 +32,7 @@ marked_by test (n ∷ names) = ap (λ l. cond (test n) (n ∷ l) l) (marked_by t
 pub grown_needs : (branch : List Catch) (names : List (List ℕ)) (name : List ℕ) (set grown : List (List ℕ)) (marks : List Bool) → names ≡ names_of branch → AreAlike set (name ∷ []) → GrowsToFront branch set grown → marks ≡ map (is_among grown) names → NeedsThese branch (record { name = name; needs = marked names marks })
 grown_needs branch names name set grown marks own alike grows are =
     let told : marked names marks ≡ in_order branch grown = ap (marked names) are ∙ marked_by (is_among grown) names ∙ ap (filter (is_among grown)) own in
-    (marked names marks, grown_in_order (map name_of branch) (ComeToFront branch) (StickOn branch) (to_front branch) branch (name ∷ []) set grown (marked names marks) alike grows told, λ n. refl)
+    (marked names marks, grown_in_order (map name_of branch) (CanMoveToFront branch) (AreBlockedBy branch) (to_front branch) branch (name ∷ []) set grown (marked names marks) alike grows told, λ n. refl)
 
 -- the dependencies of a patch in a branch
 abbrev pub needing_in : List Catch → List ℕ → Needing

@@ -1,5 +1,5 @@
 -- Along the effects of a branch there are as many names as the file has lines.
-use Rattle.camp_questions.proofs.Words.{◌≡◌, ◌≢◌, ◌<◌, ◌≤◌, ℕ, ◌+◌, ◌-◌, ◌==◌, Bool, true, false, true≢false, List, [], ◌∷◌, ◌++◌, Option, None, Some, length, take, drop, get_or, bytes_eq, refl, sym, ap, ◌∙◌, subst, arith, empty, get, get-empty, slice_range, splice, nat_cmp, eq_by_cmp, slice_cmp, bytes_eq-Decides, Edit, key_of, label_of, Key, Named, Primitive, Add, Remove, Hunk, Catch, name_of, Known, behind_all, behind_catches, behind_change, behind_hunk, names_coming, names_of_lines, nothing_known, AppliesOn, AreKnownIn, FollowsOn, StandsWithin, lines_or_none, drop_more, length-append, length-drop, length-take-le, eqb-true, Applies, Files, Lines, Splices, FitsAll, effect_of, AppliesAll, own_names, cond_both, cond, key_cmp, find, get-from_entries, get-insert, insert, same_map, key_ties, key_total, kept_in, get-with_file, get-with_file_other, get-with_file_same, same_path, with_file, Equal-is, eq_by_cmp_equiv}
+use Rattle.camp_questions.proofs.Words.{◌≡◌, ◌≢◌, ◌<◌, ◌≤◌, ℕ, ◌+◌, ◌-◌, ◌==◌, Bool, true, false, true≢false, List, [], ◌∷◌, ◌++◌, Option, None, Some, length, take, drop, get_or, bytes_eq, refl, sym, ap, ◌∙◌, subst, arith, empty, get, get-empty, slice_range, splice, nat_cmp, eq_by_cmp, slice_cmp, bytes_eq-Decides, Edit, key_of, label_of, Key, Named, Primitive, Add, Remove, Hunk, Catch, name_of, Known, known_after_all, known_after_catches, known_after_change, known_after_hunk, names_coming, names_of_lines, nothing_known, AppliesOn, AreKnownIn, FollowsOn, LiesWithin, lines_or_none, drop_more, length-append, length-drop, length-take-le, eqb-true, Applies, Files, Lines, Splices, FitsAll, effect_of, AppliesAll, own_names, cond_both, cond, key_cmp, find, get-from_entries, get-insert, insert, same_map, key_ties, key_total, kept_in, get-with_file, get-with_file_other, get-with_file_same, same_path, with_file, Equal-is, eq_by_cmp_equiv}
 use Rattle.camp_questions.proofs.CommonSteps.{own_count}
 use Rattle.std.specs.BTreeMap as tree
 use Rattle.std.specs.BTreeMap.{BTreeMap, is_at}
@@ -11,14 +11,14 @@ as_many None own count long = long
 as_many (Some taken) own count long = cond_both (length taken == count) taken own (λ l. length l ≡ count) (λ e. eqb-true (length taken) count e) (λ e. long)
 
 -- as many lines are removed as a hunk has old ones
-pub gone_count : (hunk : Edit) (known : Known) → StandsWithin hunk known → length (slice_range known.names (hunk.line - 1) (hunk.line - 1 + length hunk.old)) ≡ length hunk.old
+pub gone_count : (hunk : Edit) (known : Known) → LiesWithin hunk known → length (slice_range known.names (hunk.line - 1) (hunk.line - 1 + length hunk.old)) ≡ length hunk.old
 gone_count hunk known within =
     let from : ℕ = hunk.line - 1 in
     let dropped = length-drop from known.names in
     length-take-le (from + length hunk.old - from) (drop from known.names) (omega (arith, within, dropped)) ∙ omega arith
 
 -- and as many are added as it has new ones
-pub coming_count : (name : List ℕ) (key : Key) (hunk : Edit) (known : Known) → StandsWithin hunk known
+pub coming_count : (name : List ℕ) (key : Key) (hunk : Edit) (known : Known) → LiesWithin hunk known
     → length (names_coming (get known.taken key) (own_names (slice_range known.names (hunk.line - 1) (hunk.line - 1 + length hunk.old)) name hunk) (length hunk.new)) ≡ length hunk.new
 coming_count name key hunk known within =
     let gone = slice_range known.names (hunk.line - 1) (hunk.line - 1 + length hunk.old) in
@@ -36,14 +36,14 @@ pub other_path : (a b : List ℕ) → bytes_eq a b ≡ false → a ≢ b
 other_path a b e same = true≢false (sym ((bytes_eq-Decides a b).1 same) ∙ e)
 
 -- a hunk removes lines that are there
-pub stands_within : (path : List ℕ) (hunk : Edit) (old new : Files) (known : Known) → hunk.path ≡ path → Splices hunk.path hunk.line hunk.old hunk.new old new → AreKnownIn path old known → StandsWithin hunk known
+pub stands_within : (path : List ℕ) (hunk : Edit) (old new : Files) (known : Known) → hunk.path ≡ path → Splices hunk.path hunk.line hunk.old hunk.new old new → AreKnownIn path old known → LiesWithin hunk known
 stands_within path hunk old new known same w are =
     let found : length known.names ≡ length w.lines = are ∙ ap (λ p. length (lines_or_none (get old p))) (sym same) ∙ ap (λ o. length (lines_or_none o)) w.found in
     let s = w.splices in
     let parts : length w.lines ≡ length s.before + length hunk.old + length s.after = ap length s.was ∙ length-append (s.before ++ hunk.old) s.after ∙ ap (λ n. n + length s.after) (length-append s.before hunk.old) in
     omega (arith, found, parts, s.at)
 
-pub hunk_counts : (path name : List ℕ) (key : Key) (hunk : Edit) (old new : Files) (known : Known) → hunk.path ≡ path → Splices hunk.path hunk.line hunk.old hunk.new old new → AreKnownIn path old known → AreKnownIn path new (behind_hunk name key hunk known)
+pub hunk_counts : (path name : List ℕ) (key : Key) (hunk : Edit) (old new : Files) (known : Known) → hunk.path ≡ path → Splices hunk.path hunk.line hunk.old hunk.new old new → AreKnownIn path old known → AreKnownIn path new (known_after_hunk name key hunk known)
 hunk_counts path name key hunk old new known same w are =
     let found : length known.names ≡ length w.lines = are ∙ ap (λ p. length (lines_or_none (get old p))) (sym same) ∙ ap (λ o. length (lines_or_none o)) w.found in
     let s = w.splices in
@@ -61,26 +61,26 @@ hunk_counts path name key hunk old new known same w are =
     here ∙ ap (λ o. length (lines_or_none o)) (sym now)
 
 -- after a change there are as many names as lines
-pub change_counts : (path name : List ℕ) (key : Key) (p : Primitive) (old new : Files) (known : Known) → Applies p old new → AreKnownIn path old known → AreKnownIn path new (behind_change path name key p known)
+pub change_counts : (path name : List ℕ) (key : Key) (p : Primitive) (old new : Files) (known : Known) → Applies p old new → AreKnownIn path old known → AreKnownIn path new (known_after_change path name key p known)
 change_counts path name key (Add q) old new known w are =
     are ∙ ap length (sym (ap (λ t. lines_or_none (get t path)) w.becomes ∙ alike old q path (Some []) (ap lines_or_none (sym w.absent))))
 change_counts path name key (Remove q) old new known w are =
     are ∙ ap length (sym (ap (λ t. lines_or_none (get t path)) w.becomes ∙ alike old q path None (ap lines_or_none (sym w.empty))))
 change_counts path name key (Hunk hunk) old new known w are =
-    cond_both (bytes_eq hunk.path path) (behind_hunk name key hunk known) known (AreKnownIn path new)
+    cond_both (bytes_eq hunk.path path) (known_after_hunk name key hunk known) known (AreKnownIn path new)
     (λ e. hunk_counts path name key hunk old new known ((bytes_eq-Decides hunk.path path).0 e) w are)
     (λ e. are ∙ ap (λ o. length (lines_or_none o)) (sym (ap (λ t. get t path) w.becomes ∙ get-with_file_other old hunk.path path (Some w.changed) (other_path hunk.path path e))))
 
 -- after an effect there are as many names as lines
-pub effect_counts : (path name : List ℕ) (s : List Named) (old new : Files) (known : Known) → AppliesAll s old new → AreKnownIn path old known → AreKnownIn path new (behind_all path name s known)
+pub effect_counts : (path name : List ℕ) (s : List Named) (old new : Files) (known : Known) → AppliesAll s old new → AreKnownIn path old known → AreKnownIn path new (known_after_all path name s known)
 effect_counts path name [] old new known w are = subst (λ t. AreKnownIn path t known) (sym w) are
 effect_counts path name (p ∷ s) old new known w are =
-    effect_counts path name s w.0 new (behind_change path name (key_of (label_of p)) p.prim known) w.2
+    effect_counts path name s w.0 new (known_after_change path name (key_of (label_of p)) p.prim known) w.2
     (change_counts path name (key_of (label_of p)) p.prim old w.0 known w.1 are)
 
 -- a state between primitives: the rest of the effect leads to the same tree, and applies
 pub record IsOnTheWay (path name : List ℕ) (start : Known) (effect rest : List Named) (known : Known) : Type 0 where
-  pub leads : behind_all path name rest known ≡ behind_all path name effect start
+  pub leads : known_after_all path name rest known ≡ known_after_all path name effect start
   pub follows : FollowsOn path rest known
 
 next_applies : (path name : List ℕ) (start : Known) (effect : List Named) (i : ℕ) (p d : Named) (known : Known) → i < length effect → p ≡ get_or effect i d → IsOnTheWay path name start effect (drop i effect) known → IsOnTheWay path name start effect (p ∷ drop (i + 1) effect) known
@@ -92,7 +92,7 @@ applies_next path name start effect i p d known within is way =
     let follows = (next_applies path name start effect i p d known within is way).follows in
     (follows.0, follows.2.0, follows.2.1, follows.3)
 
-pub one_further : (path name : List ℕ) (start : Known) (effect : List Named) (i : ℕ) (p d : Named) (known next : Known) → i < length effect → p ≡ get_or effect i d → IsOnTheWay path name start effect (drop i effect) known → next ≡ behind_change path name (key_of (label_of p)) p.prim known → IsOnTheWay path name start effect (drop (i + 1) effect) next
+pub one_further : (path name : List ℕ) (start : Known) (effect : List Named) (i : ℕ) (p d : Named) (known next : Known) → i < length effect → p ≡ get_or effect i d → IsOnTheWay path name start effect (drop i effect) known → next ≡ known_after_change path name (key_of (label_of p)) p.prim known → IsOnTheWay path name start effect (drop (i + 1) effect) next
 one_further path name start effect i p d known next within is way becomes =
     let here = next_applies path name start effect i p d known within is way in
     let follows = here.follows in
@@ -101,21 +101,21 @@ one_further path name start effect i p d known next within is way becomes =
       follows = (follows.2.0, follows.1, follows.2.2, change_counts path name (key_of (label_of p)) p.prim follows.0 follows.2.0 known follows.2.1 follows.3);
     })
 
-pub hunk_stands : (path : List ℕ) (p : Primitive) (hunk : Edit) (known : Known) (b : Bool) → p ≡ Hunk hunk → AppliesOn path p known → b ≡ bytes_eq hunk.path path → b ≡ true → StandsWithin hunk known
+pub hunk_stands : (path : List ℕ) (p : Primitive) (hunk : Edit) (known : Known) (b : Bool) → p ≡ Hunk hunk → AppliesOn path p known → b ≡ bytes_eq hunk.path path → b ≡ true → LiesWithin hunk known
 hunk_stands path p hunk known b is applies same true_b =
     let w = subst (λ q. AppliesOn path q known) is applies in
     stands_within path hunk w.0 w.1 known ((bytes_eq-Decides hunk.path path).0 (sym same ∙ true_b)) w.2 w.3
 
 -- after catches there are as many names as lines
-pub catches_count : (path : List ℕ) (branch : List Catch) (old new : Files) (known : Known) → FitsAll branch old new → AreKnownIn path old known → AreKnownIn path new (behind_catches path branch known)
+pub catches_count : (path : List ℕ) (branch : List Catch) (old new : Files) (known : Known) → FitsAll branch old new → AreKnownIn path old known → AreKnownIn path new (known_after_catches path branch known)
 catches_count path [] old new known w are = subst (λ t. AreKnownIn path t known) (sym w) are
 catches_count path (k ∷ branch) old new known w are =
-    catches_count path branch w.0 new (behind_all path (name_of k) (effect_of k) known) w.2
+    catches_count path branch w.0 new (known_after_all path (name_of k) (effect_of k) known) w.2
     (effect_counts path (name_of k) (effect_of k) old w.0 known w.1.effect are)
 
 -- a state between catches: the rest of them leads to the same tree, and fits
 pub record IsAlong (path : List ℕ) (catches rest : List Catch) (known : Known) : Type 0 where
-  pub leads : behind_catches path rest known ≡ behind_catches path catches nothing_known
+  pub leads : known_after_catches path rest known ≡ known_after_catches path catches nothing_known
   pub tree : Files
   pub aim : Files
   pub fits : FitsAll rest tree aim
@@ -125,9 +125,9 @@ pub follows_next : (path : List ℕ) (catches : List Catch) (k : Catch) (rest : 
 follows_next path catches k rest effect known is along =
     (along.tree, along.fits.0, subst (λ s. AppliesAll s along.tree along.fits.0) (sym is) along.fits.1.effect, along.are)
 
-pub one_along : (path name : List ℕ) (catches : List Catch) (k : Catch) (rest : List Catch) (effect : List Named) (known next : Known) → name ≡ name_of k → effect ≡ effect_of k → IsAlong path catches (k ∷ rest) known → next ≡ behind_all path name effect known → IsAlong path catches rest next
+pub one_along : (path name : List ℕ) (catches : List Catch) (k : Catch) (rest : List Catch) (effect : List Named) (known next : Known) → name ≡ name_of k → effect ≡ effect_of k → IsAlong path catches (k ∷ rest) known → next ≡ known_after_all path name effect known → IsAlong path catches rest next
 one_along path name catches k rest effect known next called is along becomes =
-    let to : next ≡ behind_all path (name_of k) (effect_of k) known = becomes ∙ (λ i. behind_all path (called i) (is i) known) in
+    let to : next ≡ known_after_all path (name_of k) (effect_of k) known = becomes ∙ (λ i. known_after_all path (called i) (is i) known) in
     subst (IsAlong path catches rest) (sym to) (record {
       leads = along.leads;
       tree = along.fits.0;
@@ -145,7 +145,7 @@ starts_along path catches rest known tree fits all none =
 
 pub ends_along : (path : List ℕ) (catches rest : List Catch) (known : Known) → rest ≡ [] → IsAlong path catches rest known → known.names ≡ names_of_lines path catches
 ends_along path catches rest known done along =
-    ap (λ (k : Known). k.names) (sym (ap (λ r. behind_catches path r known) done) ∙ along.leads)
+    ap (λ (k : Known). k.names) (sym (ap (λ r. known_after_catches path r known) done) ∙ along.leads)
 
 -- ---- the names stored under the absolute labels of hunks, as a finite map
 

@@ -1,5 +1,5 @@
 -- The missing names are those that a pull without names brings.
-use Rattle.camp_questions.proofs.Words.{◌≡◌, ℕ, Bool, true, not, cond, ◌||◌, List, [], ◌∷◌, ◌++◌, filter, Option, None, Some, Ok, bytes_eq, refl, sym, ap, ◌∙◌, same_Some, Catch, has_patch, is_among, names_of, Next, Has, Contents, is_empty, step, accepted_calls, IsMissing, missing_in, MissingIsPulled, name_itself, or_true, passes_is_kept, pull_nothing, none_lacked, Result, Err, IfOk, IsTold, Unanswered, Tells}
+use Rattle.camp_questions.proofs.Words.{◌≡◌, ℕ, Bool, true, not, cond, ◌||◌, List, [], ◌∷◌, ◌++◌, filter, Option, None, Some, Ok, bytes_eq, refl, sym, ap, ◌∙◌, same_Some, Catch, has_patch, is_among, names_of, Next, Has, Contents, is_empty, step, accepted_calls, IsMissing, missing_in, MissingIsPulled, name_itself, or_true, passes_is_kept, pull_nothing, none_lacked, Result, Err, IfOk, IsReported, Unanswered, ReportsAnswer}
 use Rattle.camp_call.specs.declared.calls.Call.TheVariants as call
 use Rattle.camp_repo.specs.Lawful.{IsLawfulState}
 use Rattle.camp_questions.proofs.Growths.{names_differ}
@@ -29,7 +29,7 @@ comes state next from to theirs ours new lawful from_has to_has e becomes =
     ap names_of the_new ∙ pulls.named ∙ ap (λ names. names_of pulls.ours ++ names) (among_passed (λ name. not (has_patch pulls.ours name)) (names_of pulls.theirs)) ∙ (λ i. names_of (the_ours i) ++ missing_in (the_ours i) (the_theirs i))
 
 -- both branches exist, and the names are those that one of them lacks
-pub missing_told : {E : Type 0} (state : Contents) (from to : List ℕ) {theirs ours : List Catch} (made : Result (List (List ℕ)) E) (result : Result (List (List ℕ)) Unanswered) → Has state from theirs → Has state to ours → IsTold made result → IfOk made (λ names. names ≡ missing_in ours theirs) → Tells (IsMissing state from to) result
+pub missing_told : {E : Type 0} (state : Contents) (from to : List ℕ) {theirs ours : List Catch} (made : Result (List (List ℕ)) E) (result : Result (List (List ℕ)) Unanswered) → Has state from theirs → Has state to ours → IsReported made result → IfOk made (λ names. names ≡ missing_in ours theirs) → ReportsAnswer (IsMissing state from to) result
 missing_told state from to (Ok names) result from_has to_has is w = rw is (rw from_has (rw to_has (ap Ok w)))
 missing_told state from to {theirs} {ours} (Err error) result from_has to_has is w =
     rw is (missing_in ours theirs, rw from_has (rw to_has refl))

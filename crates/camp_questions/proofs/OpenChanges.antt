@@ -1,5 +1,5 @@
 -- The unresolved conflicts of a branch are one list, and what is in one such list and not in another is found.
-use Rattle.camp_questions.proofs.Words.{◌≡◌, ◌≤◌, ◌<◌, ℕ, ◌+◌, Bool, true, false, cond, ◌&&◌, List, [], ◌∷◌, ◌++◌, length, get_or, Option, None, Some, Result, Ok, Err, refl, sym, ap, ◌∙◌, subst, arith, none-some, same_Some, MatchOption, Contains, Contains-get_or, list_any, false_from_ne_true, cases_lt, inl, inr, flat_map, get, same_map, FinMap, Catch, effect_of, inverse_all, AddsAll, Key, key_cmp, key_total, key_ties, AnswerOf, NoBranch, ContextedPatch, Pair, AreOpenAmong, AreOpenIn, AreSeen, IsSeen, TellNothing, told_by, Contents, catches_of}
+use Rattle.camp_questions.proofs.Words.{◌≡◌, ◌≤◌, ◌<◌, ℕ, ◌+◌, Bool, true, false, cond, ◌&&◌, List, [], ◌∷◌, ◌++◌, length, get_or, Option, None, Some, Result, Ok, Err, refl, sym, ap, ◌∙◌, subst, arith, none-some, same_Some, MatchOption, Contains, Contains-get_or, list_any, false_from_ne_true, cases_lt, inl, inr, flat_map, get, same_map, FinMap, Catch, effect_of, inverse_all, AddsAll, Key, key_cmp, key_total, key_ties, AnswerOf, NoBranch, ContextedPatch, Pair, AreOpenAmong, AreOpenIn, AreSeen, IsSeen, HaveNoContexted, contexted_in, Contents, catches_of}
 use Rattle.std.proofs.lemmas.List.Sorted.{searchable_from_sorted}
 use Rattle.std.proofs.lemmas.Map.Views.{Contains-from_any, list_any-from_Contains, tells_apart}
 use Rattle.std.specs.Cmp.{both_tied, eq_by_cmp_equiv, tied_itself}
@@ -18,37 +18,37 @@ use Rattle.camp_questions.specs.OpenConflicts.{AreOpen}
 -- ---- a label in conflict is seen in one way
 
 -- where no catch of a list has a label, the one at a place has not
-nothing_at : (before : List Catch) (k : Catch) (behind : List Catch) (key : Key) → TellNothing (before ++ k ∷ behind) key → told_by k key ≡ None
+nothing_at : (before : List Catch) (k : Catch) (behind : List Catch) (key : Key) → HaveNoContexted (before ++ k ∷ behind) key → contexted_in k key ≡ None
 nothing_at [] k behind key nothing = nothing.0
 nothing_at (c ∷ before) k behind key nothing = nothing_at before k behind key nothing.1
 
-not_told : {A : Type 0} (k : Catch) (key : Key) (x : ContextedPatch) → told_by k key ≡ None → told_by k key ≡ Some x → A
+not_told : {A : Type 0} (k : Catch) (key : Key) (x : ContextedPatch) → contexted_in k key ≡ None → contexted_in k key ≡ Some x → A
 not_told k key x none is = absurd (none-some x (sym none ∙ is))
 
 -- the last catch with a label is one, and so are the catches after it
-last_once : (key : Key) (before others : List Catch) (k j : Catch) (behind rest : List Catch) (x y : ContextedPatch) → before ++ k ∷ behind ≡ others ++ j ∷ rest → TellNothing behind key → TellNothing rest key → told_by k key ≡ Some x → told_by j key ≡ Some y → (k ≡ j) × (behind ≡ rest)
+last_once : (key : Key) (before others : List Catch) (k j : Catch) (behind rest : List Catch) (x y : ContextedPatch) → before ++ k ∷ behind ≡ others ++ j ∷ rest → HaveNoContexted behind key → HaveNoContexted rest key → contexted_in k key ≡ Some x → contexted_in j key ≡ Some y → (k ≡ j) × (behind ≡ rest)
 last_once key [] [] k j behind rest x y e m n is also = (cc e, cc e)
 last_once key [] (c ∷ others) k j behind rest x y e m n is also =
     let tail : behind ≡ others ++ j ∷ rest = cc e in
-    not_told j key y (nothing_at others j rest key (subst (λ l. TellNothing l key) tail m)) also
+    not_told j key y (nothing_at others j rest key (subst (λ l. HaveNoContexted l key) tail m)) also
 last_once key (c ∷ before) [] k j behind rest x y e m n is also =
     let tail : before ++ k ∷ behind ≡ rest = cc e in
-    not_told k key x (nothing_at before k behind key (subst (λ l. TellNothing l key) (sym tail) n)) is
+    not_told k key x (nothing_at before k behind key (subst (λ l. HaveNoContexted l key) (sym tail) n)) is
 last_once key (c ∷ before) (d ∷ others) k j behind rest x y e m n is also =
     last_once key before others k j behind rest x y (cc e) m n is also
 
 seen_once : (branch : List Catch) (key : Key) (s t : ContextedPatch) → IsSeen branch key s → IsSeen branch key t → s ≡ t
 seen_once branch key s t v w =
     let last = last_once key v.before w.before v.k w.k v.behind w.behind v.x w.x (sym v.parts ∙ w.parts) v.last w.last v.told w.told in
-    let members = same_Some _ _ (sym v.told ∙ ap (λ k. told_by k key) last.0 ∙ w.told) in
+    let members = same_Some _ _ (sym v.told ∙ ap (λ k. contexted_in k key) last.0 ∙ w.told) in
     let added = subst (λ l. AddsAll (inverse_all (flat_map effect_of l)) w.x t) (sym last.1) w.added in
     one_add_of_all (inverse_all (flat_map effect_of v.behind)) v.x s t v.added (subst (λ x. AddsAll (inverse_all (flat_map effect_of v.behind)) x t) (sym members) added)
 
-not_seen : {A : Type 0} (branch : List Catch) (key : Key) (s : ContextedPatch) → TellNothing branch key → IsSeen branch key s → A
+not_seen : {A : Type 0} (branch : List Catch) (key : Key) (s : ContextedPatch) → HaveNoContexted branch key → IsSeen branch key s → A
 not_seen branch key s nothing v =
-    not_told v.k key v.x (nothing_at v.before v.k v.behind key (subst (λ l. TellNothing l key) v.parts nothing)) v.told
+    not_told v.k key v.x (nothing_at v.before v.k v.behind key (subst (λ l. HaveNoContexted l key) v.parts nothing)) v.told
 
-seen_alike : (branch : List Catch) (key : Key) (o p : Option ContextedPatch) → MatchOption o (TellNothing branch key) (IsSeen branch key) → MatchOption p (TellNothing branch key) (IsSeen branch key) → o ≡ p
+seen_alike : (branch : List Catch) (key : Key) (o p : Option ContextedPatch) → MatchOption o (HaveNoContexted branch key) (IsSeen branch key) → MatchOption p (HaveNoContexted branch key) (IsSeen branch key) → o ≡ p
 seen_alike branch key None None v w = refl
 seen_alike branch key None (Some t) v w = not_seen branch key t v w
 seen_alike branch key (Some s) None v w = not_seen branch key s w v

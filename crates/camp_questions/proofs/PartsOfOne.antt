@@ -1,5 +1,5 @@
 -- The part of a graph that belongs to one patch, by the dependencies of its own patches alone.
-use Rattle.camp_questions.proofs.Words.{arith, drawn_about, whole_picture, ◌≡◌, ◌≢◌, ℕ, Bool, true, false, true≢false, not, ◌&&◌, ◌||◌, cond, List, [], ◌∷◌, ◌++◌, map, filter, bytes_eq, refl, sym, ap, ◌∙◌, subst, inl, inr, ◌⊎◌, ◌↔◌, Contains, AllByRecursion, list_any, Catch, Needs, ComeToFront, Drawn, IsGraph, Needing, NeedsThese, goes_between, needs_directly, needs_other, node_of, Node, IsPlain, IsReached, NeedsDirectly, NeedsPatch, itself, along, IsLawfulBranch, has_patch, is_among, name_of, names_of, map-map, map-id, is_among_is, cases_Bool, has_image, among_kept, among_once, name_itself, same_name, or_true, and_from, and_parts, not-true, both_ways, Needed, needing, marked, node_in, kept_node, hangs_on, filter_image, in_order, ◌<◌, ◌+◌, take, length, get_or, map-append, take_more, all_append, PatchCatches, catches_in_order, IsInverted, AreAlike, GrowsToGo, StickOn, reverse, reverse-reverse, AreConflicts, AreDistinct, names_of_patches}
+use Rattle.camp_questions.proofs.Words.{arith, drawn_about, whole_picture, ◌≡◌, ◌≢◌, ℕ, Bool, true, false, true≢false, not, ◌&&◌, ◌||◌, cond, List, [], ◌∷◌, ◌++◌, map, filter, bytes_eq, refl, sym, ap, ◌∙◌, subst, inl, inr, ◌⊎◌, ◌↔◌, Contains, AllByRecursion, list_any, Catch, Needs, CanMoveToFront, Drawn, IsGraph, Needing, NeedsThese, goes_between, needs_directly, needs_other, node_of, Node, IsPlain, IsReached, NeedsDirectly, NeedsPatch, itself, along, IsLawfulBranch, has_patch, is_among, name_of, names_of, map-map, map-id, is_among_is, cases_Bool, has_image, among_kept, among_once, name_itself, same_name, or_true, and_from, and_parts, not-true, both_ways, Needed, needing, marked, node_in, kept_node, hangs_on, filter_image, in_order, ◌<◌, ◌+◌, take, length, get_or, map-append, take_more, all_append, PatchCatches, catches_in_order, IsInverted, AreAlike, GrowsToGo, AreBlockedBy, reverse, reverse-reverse, AreConflicts, AreDistinct, names_of_patches}
 use Rattle.camp_branch.proofs.Names.{distinct_filter}
 use Rattle.camp_questions.proofs.Arrows.{arrow_is_need, is_there, need_is_arrow, one_needed}
 use Rattle.camp_questions.proofs.BranchGrowths.{needs_are_determined, needs_are_least, needs_come_first, none_lacked, to_front}
@@ -49,7 +49,7 @@ module _ (branch : List Catch) (plain : IsPlain branch) (lawful : IsLawfulBranch
   has_own : (n : List ℕ) → is_among own n ≡ has_patch branch n
   has_own n = among_once (map name_of branch) n
 
-  come : (n : List ℕ) → is_among own n ≡ true → ComeToFront branch (needed_of n) × (is_among (needed_of n) n ≡ true)
+  come : (n : List ℕ) → is_among own n ≡ true → CanMoveToFront branch (needed_of n) × (is_among (needed_of n) n ≡ true)
   come n there =
       let w = needs_come_first branch (n ∷ []) (needed_of n) (none_lacked branch (n ∷ []) (alone_among n (map name_of branch) (sym (has_own n) ∙ there))) (needs_of n) in
       (w.0, w.1.has n (ap (λ b. b || false) (name_itself n)))
@@ -295,7 +295,7 @@ grown_marks branch back among set grown one inverted alike grows are = record {
   grown = grown;
   needs =
       let turned = subst (λ l. GrowsToGo (catches_in_order l) set grown) (sym (reverse-reverse back)) grows in
-      grown_in_order (map name_of branch) (ComeToFront branch) (StickOn branch) (to_front branch) branch (one.name ∷ []) set grown (in_order branch grown) alike (needed_taken_back branch (reverse back) set grown inverted turned) refl;
+      grown_in_order (map name_of branch) (CanMoveToFront branch) (AreBlockedBy branch) (to_front branch) branch (one.name ∷ []) set grown (in_order branch grown) alike (needed_taken_back branch (reverse back) set grown inverted turned) refl;
   same = λ n there.
       sym (among_kept (is_among grown) (names_of branch) n ∙ ap (λ b. b && is_among grown n) there);
   marks = are;

@@ -1,5 +1,5 @@
 -- The patches of a lawful branch up to an index can be moved to its front.
-use Rattle.camp_questions.proofs.Words.{false_from_ne_true, ◌≡◌, ◌≢◌, ◌<◌, ℕ, zero, suc, ◌+◌, Bool, true, false, true≢false, ◌||◌, cond, List, [], ◌∷◌, ◌++◌, bytes_eq, append-nil, refl, sym, ap, ◌∙◌, subst, inl, inr, arith, AllByRecursion, append_assoc, Key, Catch, all_append, is_among_is, name_itself, or_true, same_name, ArrangesBehind, AreDistinct, Patch, is_among, labels_from, labels_of, name_of, patch_names, keys_of, list_any, or_cases, map}
+use Rattle.camp_questions.proofs.Words.{false_from_ne_true, ◌≡◌, ◌≢◌, ◌<◌, ℕ, zero, suc, ◌+◌, Bool, true, false, true≢false, ◌||◌, cond, List, [], ◌∷◌, ◌++◌, bytes_eq, append-nil, refl, sym, ap, ◌∙◌, subst, inl, inr, arith, AllByRecursion, append_assoc, Key, Catch, all_append, is_among_is, name_itself, or_true, same_name, ArrangesAfter, AreDistinct, Patch, is_among, labels_from, labels_of, name_of, patch_names, keys_of, list_any, or_cases, map}
 
 -- names up to an index
 abbrev pub up_to : List (List ℕ) → List ℕ → List (List ℕ)
@@ -43,12 +43,12 @@ abbrev pub AreNotOf : List (List ℕ) → List Catch → Type 0
 AreNotOf names list = AllByRecursion (λ k. is_among names (name_of k) ≡ false) list
 
 module _ (names : List (List ℕ)) where
-  pub others_stay : (rest list : List Catch) → AreNotOf names list → ArrangesBehind names rest list [] (rest ++ list)
+  pub others_stay : (rest list : List Catch) → AreNotOf names list → ArrangesAfter names rest list [] (rest ++ list)
   others_stay rest [] are = (refl, append-nil rest)
   others_stay rest (k ∷ list) are =
-      inr (λ c. true≢false (sym ((is_among_is names (name_of k)).0 c) ∙ are.0), subst (ArrangesBehind names (rest ++ k ∷ []) list []) (append_assoc rest (k ∷ []) list) (others_stay (rest ++ k ∷ []) list are.1))
+      inr (λ c. true≢false (sym ((is_among_is names (name_of k)).0 c) ∙ are.0), subst (ArrangesAfter names (rest ++ k ∷ []) list []) (append_assoc rest (k ∷ []) list) (others_stay (rest ++ k ∷ []) list are.1))
 
-  pub those_come : (front behind : List Catch) → AreOf names front → AreNotOf names behind → ArrangesBehind names [] (front ++ behind) front behind
+  pub those_come : (front behind : List Catch) → AreOf names front → AreNotOf names behind → ArrangesAfter names [] (front ++ behind) front behind
   those_come [] behind are others = others_stay [] behind others
   those_come (k ∷ front) behind are others =
       inl ((is_among_is names (name_of k)).1 are.0, (k, [], front, (refl, refl), those_come front behind are.1 others, refl))

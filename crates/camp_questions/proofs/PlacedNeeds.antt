@@ -1,5 +1,5 @@
 -- Direct dependencies, found by index.
-use Rattle.camp_questions.proofs.Words.{◌≡◌, ◌<◌, ◌≤◌, ◌==◌, ℕ, zero, suc, ◌+◌, ◌-◌, Bool, true, false, not, ◌&&◌, ◌||◌, cond, inl, inr, List, [], ◌∷◌, ◌++◌, filter, map, length, take, drop, get_or, bytes_eq, append-nil, refl, sym, ap, ◌∙◌, subst, and_false, and_true, arith, AllByRecursion, list_any, drop_all, drop_more, filter-append, map-append, take_more, name_itself, AreDistinct, goes_between, needs_directly, needs_other, all_append, cases_eq, cases_order, eq-eqb, ne_eqb, All-filter, All-from_recursion, recursion_from_All, get_or-map, get_or_default, get_or_past, length-map, take_all, filter_image, other_way, Needing, Node, Needed, needing, AreSettled, EndInPlace, name_at_index, needs_place, node_in, indexes_below}
+use Rattle.camp_questions.proofs.Words.{◌≡◌, ◌<◌, ◌≤◌, ◌==◌, ℕ, zero, suc, ◌+◌, ◌-◌, Bool, true, false, not, ◌&&◌, ◌||◌, cond, inl, inr, List, [], ◌∷◌, ◌++◌, filter, map, length, take, drop, get_or, bytes_eq, append-nil, refl, sym, ap, ◌∙◌, subst, and_false, and_true, arith, AllByRecursion, list_any, drop_all, drop_more, filter-append, map-append, take_more, name_itself, AreDistinct, goes_between, needs_directly, needs_other, all_append, cases_eq, cases_order, eq-eqb, ne_eqb, All-filter, All-from_recursion, recursion_from_All, get_or-map, get_or_default, get_or_past, length-map, take_all, filter_image, other_way, Needing, Node, Needed, needing, AreSettled, EndAtOwnIndex, name_at_index, needs_index, node_in, indexes_below}
 use Rattle.camp_questions.proofs.MarkedNames.{among_marked, apart_places}
 use Rattle.camp_questions.proofs.PatchFronts.{all_are}
 
@@ -66,21 +66,21 @@ first_is_least f (suc n) =
     subst (λ l. AllByRecursion (λ k. get_or l 0 0 ≤ k) l) (sym (filter-append f (indexes_below n) (n ∷ []))) (first_joined (filter f (indexes_below n)) n (f n) (first_is_least f n) (places_within f n))
 
 -- after the last mark there is no dependency
-pub none_behind : (marks : List Bool) (at k : ℕ) → length marks ≤ k → needs_place marks at k ≡ false
+pub none_behind : (marks : List Bool) (at k : ℕ) → length marks ≤ k → needs_index marks at k ≡ false
 none_behind marks at k past =
     ap (λ b. not (k == at) && b) (get_or_past marks k false past) ∙ and_false (not (k == at))
 
 -- marks that end before all indexes remove none of them
-none_left_out : (marks : List Bool) (at : ℕ) (places : List ℕ) → AllByRecursion (λ k. length marks ≤ k) places → filter (λ k. not (needs_place marks at k)) places ≡ places
+none_left_out : (marks : List Bool) (at : ℕ) (places : List ℕ) → AllByRecursion (λ k. length marks ≤ k) places → filter (λ k. not (needs_index marks at k)) places ≡ places
 none_left_out marks at [] past = refl
 none_left_out marks at (k ∷ places) past =
-    (λ i. cond (not (none_behind marks at k past.0 i)) (k ∷ filter (λ k. not (needs_place marks at k)) places) (filter (λ k. not (needs_place marks at k)) places)) ∙ ap (λ l. k ∷ l) (none_left_out marks at places past.1)
+    (λ i. cond (not (none_behind marks at k past.0 i)) (k ∷ filter (λ k. not (needs_index marks at k)) places) (filter (λ k. not (needs_index marks at k)) places)) ∙ ap (λ l. k ∷ l) (none_left_out marks at places past.1)
 
 -- if the first of the indexes, which is the least, is after an index, all are
 all_behind : (place : ℕ) (places : List ℕ) (first : ℕ) → place ≤ first → AllByRecursion (λ k. first ≤ k) places → AllByRecursion (λ k. place ≤ k) places
 all_behind place places first past least = all_are {P = λ k. first ≤ k} {Q = λ k. place ≤ k} (λ k behind. omega (arith, past, behind)) places least
 
-pub ends_before : (marks : List Bool) (at : ℕ) (places : List ℕ) (first : ℕ) → first ≡ get_or places 0 first → length marks ≤ first → AllByRecursion (λ k. get_or places 0 0 ≤ k) places → filter (λ k. not (needs_place marks at k)) places ≡ places
+pub ends_before : (marks : List Bool) (at : ℕ) (places : List ℕ) (first : ℕ) → first ≡ get_or places 0 first → length marks ≤ first → AllByRecursion (λ k. get_or places 0 0 ≤ k) places → filter (λ k. not (needs_index marks at k)) places ≡ places
 ends_before marks at [] first is past least = refl
 ends_before marks at (k ∷ places) first is past least =
     none_left_out marks at (k ∷ places) (all_behind (length marks) (k ∷ places) first past (subst (λ f. AllByRecursion (λ j. f ≤ j) (k ∷ places)) (sym is) least))
@@ -131,44 +131,44 @@ module _ (names : List (List ℕ)) (all : List Needed) (named : map (λ (p : Nee
   ]
 
   -- whether one patch depends on another, by names and by indexes
-  pub needs_by_place : (at k : ℕ) (p d : Needed) → at < length all → p ≡ get_or all at d → k < length names → needs_other (needing names p) (name_at_index names k) ≡ needs_place p.needs.items at k
+  pub needs_by_place : (at k : ℕ) (p d : Needed) → at < length all → p ≡ get_or all at d → k < length names → needs_other (needing names p) (name_at_index names k) ≡ needs_index p.needs.items at k
   needs_by_place at k p d within is less =
       (λ i. not ((ap (bytes_eq (name_at_index names k)) (name_of_patch at p d within is) ∙ same_place k at less (omega (arith, within, long))) i) && among_marked names p.needs.items k [] distinct less i)
 
   module _ (at : ℕ) (p d : Needed) (within : at < length all) (is : p ≡ get_or all at d) where
-    pub starts_past : (places : List ℕ) (left : ℕ) → left ≡ length all → places ≡ filter (needs_place p.needs.items at) (indexes_below (length all)) → places ≡ filter (left_over names p (drop left all)) (indexes_below (length names))
+    pub starts_past : (places : List ℕ) (left : ℕ) → left ≡ length all → places ≡ filter (needs_index p.needs.items at) (indexes_below (length all)) → places ≡ filter (left_over names p (drop left all)) (indexes_below (length names))
     starts_past places left whole are =
-        are ∙ ap (λ n. filter (needs_place p.needs.items at) (indexes_below n)) long
-        ∙ filter_up_to (needs_place p.needs.items at) (left_over names p []) (length names) (λ k less. sym (needs_by_place at k p d within is less) ∙ sym (and_true (needs_other (needing names p) (name_at_index names k))))
+        are ∙ ap (λ n. filter (needs_index p.needs.items at) (indexes_below n)) long
+        ∙ filter_up_to (needs_index p.needs.items at) (left_over names p []) (length names) (λ k less. sym (needs_by_place at k p d within is less) ∙ sym (and_true (needs_other (needing names p) (name_at_index names k))))
         ∙ ap (λ l. filter (left_over names p l) (indexes_below (length names))) (sym (drop_all left all (omega (arith, whole))))
 
     module _ (places : List ℕ) (left i : ℕ) (q e : Needed) (one : left ≡ i + 1) (inside : i < length all) (there : q ≡ get_or all i e) (so_far : places ≡ filter (left_over names p (drop left all)) (indexes_below (length names))) where
       behind : drop i all ≡ q ∷ drop (i + 1) all
       behind = drop_more all i e inside ∙ ap (λ x. x ∷ drop (i + 1) all) (sym there)
 
-      needs_it : needs_other (needing names p) q.name ≡ needs_place p.needs.items at i
+      needs_it : needs_other (needing names p) q.name ≡ needs_index p.needs.items at i
       needs_it =
           ap (needs_other (needing names p)) (name_of_patch i q e inside there) ∙ needs_by_place at i p d within is (omega (arith, inside, long))
 
       -- one of its dependencies removes its own dependencies
-      pub goes_past : (next : List ℕ) → needs_place p.needs.items at i ≡ true → next ≡ filter (λ k. not (needs_place q.needs.items i k)) places → next ≡ filter (left_over names p (drop i all)) (indexes_below (length names))
+      pub goes_past : (next : List ℕ) → needs_index p.needs.items at i ≡ true → next ≡ filter (λ k. not (needs_index q.needs.items i k)) places → next ≡ filter (left_over names p (drop i all)) (indexes_below (length names))
       goes_past next needed are =
-          are ∙ ap (filter (λ k. not (needs_place q.needs.items i k))) (so_far ∙ ap (λ m. filter (left_over names p (drop m all)) (indexes_below (length names))) one)
-          ∙ filter_again (left_over names p (drop (i + 1) all)) (λ k. not (needs_place q.needs.items i k)) (indexes_below (length names))
-          ∙ filter_up_to (λ k. left_over names p (drop (i + 1) all) k && not (needs_place q.needs.items i k)) (left_over names p (q ∷ drop (i + 1) all)) (length names) (λ k less.
+          are ∙ ap (filter (λ k. not (needs_index q.needs.items i k))) (so_far ∙ ap (λ m. filter (left_over names p (drop m all)) (indexes_below (length names))) one)
+          ∙ filter_again (left_over names p (drop (i + 1) all)) (λ k. not (needs_index q.needs.items i k)) (indexes_below (length names))
+          ∙ filter_up_to (λ k. left_over names p (drop (i + 1) all) k && not (needs_index q.needs.items i k)) (left_over names p (q ∷ drop (i + 1) all)) (length names) (λ k less.
           ap (λ b. left_over names p (drop (i + 1) all) k && not b) (sym (ap (λ b. b && needs_other (needing names q) (name_at_index names k)) (needs_it ∙ needed) ∙ needs_by_place i k q e inside there less))
           ∙ one_past (needs_other (needing names p) (name_at_index names k)) (goes_between (needing names p) (name_at_index names k) (needing names q)) (list_any (goes_between (needing names p) (name_at_index names k)) (map (needing names) (drop (i + 1) all))))
           ∙ ap (λ l. filter (left_over names p l) (indexes_below (length names))) (sym behind)
 
       -- a patch that is no dependency removes none
-      pub stays_past : needs_place p.needs.items at i ≡ false → places ≡ filter (left_over names p (drop i all)) (indexes_below (length names))
+      pub stays_past : needs_index p.needs.items at i ≡ false → places ≡ filter (left_over names p (drop i all)) (indexes_below (length names))
       stays_past needless =
           so_far ∙ ap (λ m. filter (left_over names p (drop m all)) (indexes_below (length names))) one
           ∙ filter_up_to (left_over names p (drop (i + 1) all)) (left_over names p (q ∷ drop (i + 1) all)) (length names) (λ k less.
           ap (λ b. needs_other (needing names p) (name_at_index names k) && not (b || list_any (goes_between (needing names p) (name_at_index names k)) (map (needing names) (drop (i + 1) all)))) (sym (ap (λ b. b && needs_other (needing names q) (name_at_index names k)) (needs_it ∙ needless))))
           ∙ ap (λ l. filter (left_over names p l) (indexes_below (length names))) (sym behind)
 
-    skipped : (places : List ℕ) (end left : ℕ) → ((k : ℕ) → end ≤ k → k < length all → needs_place p.needs.items at k ≡ false) → end + left ≤ length all → places ≡ filter (left_over names p (drop (end + left) all)) (indexes_below (length names)) → places ≡ filter (left_over names p (drop end all)) (indexes_below (length names))
+    skipped : (places : List ℕ) (end left : ℕ) → ((k : ℕ) → end ≤ k → k < length all → needs_index p.needs.items at k ≡ false) → end + left ≤ length all → places ≡ filter (left_over names p (drop (end + left) all)) (indexes_below (length names)) → places ≡ filter (left_over names p (drop end all)) (indexes_below (length names))
     skipped places end zero none inside so_far =
         let e : end + 0 ≡ end = omega arith in
         so_far ∙ ap (λ m. filter (left_over names p (drop m all)) (indexes_below (length names))) e
@@ -178,15 +178,15 @@ module _ (names : List (List ℕ)) (all : List Needed) (named : map (λ (p : Nee
         skipped places end left none (omega (arith, inside)) (stays_past places (end + suc left) i (get_or all i p) p (omega arith) here refl so_far (none i (omega arith) here))
 
     -- patches after its last dependency are no dependencies, so their own ones do not matter
-    pub starts_at : (places : List ℕ) (end : ℕ) → end ≤ length all → ((k : ℕ) → end ≤ k → k < length all → needs_place p.needs.items at k ≡ false) → places ≡ filter (needs_place p.needs.items at) (indexes_below end) → places ≡ filter (left_over names p (drop end all)) (indexes_below (length names))
+    pub starts_at : (places : List ℕ) (end : ℕ) → end ≤ length all → ((k : ℕ) → end ≤ k → k < length all → needs_index p.needs.items at k ≡ false) → places ≡ filter (needs_index p.needs.items at) (indexes_below end) → places ≡ filter (left_over names p (drop end all)) (indexes_below (length names))
     starts_at places end inside none are =
-        let test = needs_place p.needs.items at in
+        let test = needs_index p.needs.items at in
         let left = length all - end in
         let whole : end + left ≡ length all = omega (arith, inside) in
         let behind : filter test (indexes_below (end + left)) ≡ filter test (indexes_below end) = filter_behind test end left (λ k far less. none k far (omega (arith, less, whole))) in
         skipped places end left none (omega (arith, whole)) (starts_past places (end + left) whole (are ∙ sym behind ∙ ap (λ n. filter test (indexes_below n)) whole))
 
-    settled_past : (places : List ℕ) (left : ℕ) → EndInPlace all → left ≤ length all → AllByRecursion (λ k. left ≤ k) places → places ≡ filter (left_over names p (drop left all)) (indexes_below (length names)) → places ≡ filter (left_over names p (drop 0 all)) (indexes_below (length names))
+    settled_past : (places : List ℕ) (left : ℕ) → EndAtOwnIndex all → left ≤ length all → AllByRecursion (λ k. left ≤ k) places → places ≡ filter (left_over names p (drop left all)) (indexes_below (length names)) → places ≡ filter (left_over names p (drop 0 all)) (indexes_below (length names))
     settled_past places zero ends inside behind so_far = so_far
     settled_past places (suc i) ends inside behind so_far =
         let q = get_or all i p in
@@ -195,13 +195,13 @@ module _ (names : List (List ℕ)) (all : List Needed) (named : map (λ (p : Nee
         let one : suc i ≡ i + 1 = omega arith in
         let rest = settled_past places i ends (omega (arith, inside)) (all_behind i places (suc i) (omega arith) behind) in
         let out = none_left_out q.needs.items i places (all_behind (length q.needs.items) places (suc i) (omega (arith, end)) behind) in
-        elim (needs_place p.needs.items at i) as (λ b. needs_place p.needs.items at i ≡ b → places ≡ filter (left_over names p (drop 0 all)) (indexes_below (length names))) [
+        elim (needs_index p.needs.items at i) as (λ b. needs_index p.needs.items at i ≡ b → places ≡ filter (left_over names p (drop 0 all)) (indexes_below (length names))) [
           | true ↦ λ e. rest (goes_past places (suc i) i q p one here refl so_far places e (sym out))
           | false ↦ λ e. rest (stays_past places (suc i) i q p one here refl so_far e)
         ] refl
 
     -- if no patch before an index removes one of the indexes that are left, they are all
-    pub ends_settled : (in_place : Bool) (places : List ℕ) (left settled : ℕ) → (in_place ≡ true → EndInPlace all) → left ≤ settled → left ≤ length all → AreSettled in_place places settled → places ≡ filter (left_over names p (drop left all)) (indexes_below (length names)) → places ≡ filter (left_over names p (drop 0 all)) (indexes_below (length names))
+    pub ends_settled : (in_place : Bool) (places : List ℕ) (left settled : ℕ) → (in_place ≡ true → EndAtOwnIndex all) → left ≤ settled → left ≤ length all → AreSettled in_place places settled → places ≡ filter (left_over names p (drop left all)) (indexes_below (length names)) → places ≡ filter (left_over names p (drop 0 all)) (indexes_below (length names))
     ends_settled in_place places left settled ends less inside (inl none) so_far =
         let e : left ≡ 0 = omega (arith, less, none) in
         so_far ∙ ap (λ m. filter (left_over names p (drop m all)) (indexes_below (length names))) e

@@ -1,5 +1,5 @@
 -- The dependencies of a patch, found by a walk back from it over the inverted patches.
-use Rattle.camp_questions.proofs.Words.{◌≡◌, ◌<◌, ◌≤◌, ℕ, zero, suc, ◌+◌, ◌-◌, Bool, true, false, not, ◌&&◌, ◌||◌, cond, List, [], ◌∷◌, ◌++◌, bytes_eq, map, length, take, drop, get_or, replicate, None, Some, refl, sym, ap, ◌∙◌, subst, inl, inr, arith, AllByRecursion, length-replicate, take-append-drop, Catch, ArrangesBehind, has_patch, is_among, name_of, all_append, name_itself, or_cases, or_none, or_true, among_others, other_names, among_once, AreHeldIn, ComeToFront, CanGo, AreAmong, IsPlain, NeedsThese, set, cases_lt, All-from_recursion, All-get_or, get_or-take, get_or-map, get_or-reverse, get_or-set_same, get_or_append_left, get_or_default, get_or_past, get_or_push, length-map, length-reverse, length-set, length_push, take_all, reverse, inverse_all, PatchCatches, AreApart, ArePatches, catches_in_order, names_in_order, Needed, AreKnown, AreMarkedBelow, AreReached, IsInverted, NeedEach, marked, is_marked, marked_in_both, needing, ComeBeforeAll, StickBehind, other_way, flat_map-append, append-nil, both_ways}
+use Rattle.camp_questions.proofs.Words.{◌≡◌, ◌<◌, ◌≤◌, ℕ, zero, suc, ◌+◌, ◌-◌, Bool, true, false, not, ◌&&◌, ◌||◌, cond, List, [], ◌∷◌, ◌++◌, bytes_eq, map, length, take, drop, get_or, replicate, None, Some, refl, sym, ap, ◌∙◌, subst, inl, inr, arith, AllByRecursion, length-replicate, take-append-drop, Catch, ArrangesAfter, has_patch, is_among, name_of, all_append, name_itself, or_cases, or_none, or_true, among_others, other_names, among_once, AreHeldIn, CanMoveToFront, CanGo, AreAmong, IsPlain, NeedsThese, set, cases_lt, All-from_recursion, All-get_or, get_or-take, get_or-map, get_or-reverse, get_or-set_same, get_or_append_left, get_or_default, get_or_past, get_or_push, length-map, length-reverse, length-set, length_push, take_all, reverse, inverse_all, PatchCatches, AreApart, ArePatches, catches_in_order, names_in_order, Needed, AreKnown, AreMarkedBelow, AreReached, IsInverted, NeedEach, marked, is_marked, marked_in_both, needing, MoveBeforeAll, AreBlockedAfter, other_way, flat_map-append, append-nil, both_ways}
 use Rattle.camp_questions.proofs.Growths.{alone_among}
 use Rattle.camp_questions.proofs.GraphSteps.{AreNeeded, all_needed, none_needed, one_needed}
 use Rattle.camp_questions.proofs.BranchGrowths.{needs_are_determined, needs_come_first, needs_are_least}
@@ -54,7 +54,7 @@ module _ (patches : List PatchCatches) (are : ArePatches patches) where
 
     module _ (held : List (List ℕ)) (going : List Catch) (walked : IsWalked all held (walked_from patches (place + 1)) going) where
       -- the walk continues past a patch that is moved in front of those that go
-      pub back_aside : (left : List Catch) → is_among held p.name ≡ false → ComeBeforeAll p.name going p.catches.items left → IsWalked all held (walked_from patches place) left
+      pub back_aside : (left : List Catch) → is_among held p.name ≡ false → MoveBeforeAll p.name going p.catches.items left → IsWalked all held (walked_from patches place) left
       back_aside left free come =
           subst (λ l. IsWalked all held l left) (sym more_done) (walked_aside all held (walked_from patches (place + 1)) going walked p.name p.catches.items own_there left free come)
 
@@ -64,7 +64,7 @@ module _ (patches : List PatchCatches) (are : ArePatches patches) where
           subst (λ l. IsWalked all held l (going ++ p.catches.items)) (sym more_done) (walked_on all held (walked_from patches (place + 1)) going walked p.name p.catches.items own_there goes)
 
       -- a patch that can't be moved in front of those that go depends on them
-      pub back_stuck : is_among held p.name ≡ false → StickBehind p.name going p.catches.items → AreHeldIn all held p.name
+      pub back_stuck : is_among held p.name ≡ false → AreBlockedAfter p.name going p.catches.items → AreHeldIn all held p.name
       back_stuck free stuck =
           held_here all held (walked_from patches (place + 1)) going walked p.name p.catches.items own_there (catches_in_order (drop (index + 1) (reverse patches))) (patches_parted (reverse patches) index p d stands_within stands) free stuck
 
@@ -125,7 +125,7 @@ module _ (patches : List PatchCatches) (are : ArePatches patches) where
   pub walked_free : (held : List (List ℕ)) (place : ℕ) → AllByRecursion (λ k. is_among held (name_of k) ≡ false) (walked_from patches place) → IsWalked all held (walked_from patches place) []
   walked_free held place free = record {
     first = walked_from patches place;
-    arranged = subst (λ l. ArrangesBehind (other_names all held) [] l (walked_from patches place) []) (append-nil (walked_from patches place)) (those_come (other_names all held) (walked_from patches place) [] (both_are (λ k has lacks. among_others all held (name_of k) ∙ (λ i. has i && not (lacks i))) (walked_from patches place) (walked_there place) free) tt);
+    arranged = subst (λ l. ArrangesAfter (other_names all held) [] l (walked_from patches place) []) (append-nil (walked_from patches place)) (those_come (other_names all held) (walked_from patches place) [] (both_are (λ k has lacks. among_others all held (name_of k) ∙ (λ i. has i && not (lacks i))) (walked_from patches place) (walked_there place) free) tt);
   }
 
 -- the state of a walk back at an index: the marked patches go; each list that contains the first patch and can be
@@ -135,7 +135,7 @@ pub record ReachesTo (branch : List Catch) (patches : List PatchCatches) (from :
   pub walked : IsWalked (catches_in_order (reverse patches)) (marked (names_in_order patches) marks) (walked_from patches place) going
   pub least :
       (others : List (List ℕ)) (n : List ℕ) → is_among others (get_or (names_in_order patches) from n) ≡ true →
-      ComeToFront branch others → AreAmong (marked (names_in_order patches) marks) others
+      CanMoveToFront branch others → AreAmong (marked (names_in_order patches) marks) others
   pub itself : is_marked marks from ≡ true
 
 -- a walk back from the first patch whose dependencies are not known yet
@@ -165,7 +165,7 @@ module _ (branch : List Catch) (patches : List PatchCatches) (inverted : IsInver
       ap (is_among (marked names marks)) (called place p d within is) ∙ among_marked names marks place d.name inverted.are.distinct (omega (arith, within, names_long))
 
   -- the dependencies of a patch are in each list that contains it and can be moved to the front
-  needs_within : (p : List ℕ) (marks : List Bool) → NeedsThese branch (record { name = p; needs = marked names marks }) → (others : List (List ℕ)) → is_among others p ≡ true → ComeToFront branch others → AreAmong (marked names marks) others
+  needs_within : (p : List ℕ) (marks : List Bool) → NeedsThese branch (record { name = p; needs = marked names marks }) → (others : List (List ℕ)) → is_among others p ≡ true → CanMoveToFront branch others → AreAmong (marked names marks) others
   needs_within p marks these others has come x there =
       needs_are_least branch (p ∷ []) these.0 others plain these.1 (alone_among p others has) come x (sym (these.2 x) ∙ there)
 
@@ -178,7 +178,7 @@ module _ (branch : List Catch) (patches : List PatchCatches) (inverted : IsInver
     now = subst (λ k. ReachesTo branch patches from marks k going) next so_far
 
     -- a patch that is moved in front of those that go is skipped
-    pub step_aside : (left : List Catch) → is_marked marks place ≡ false → ComeBeforeAll p.name going p.catches.items left → ReachesTo branch patches (length known) marks place left
+    pub step_aside : (left : List Catch) → is_marked marks place ≡ false → MoveBeforeAll p.name going p.catches.items left → ReachesTo branch patches (length known) marks place left
     step_aside left free come = record {
       long = now.long;
       walked = back_aside patches inverted.are place p p within is (marked names marks) going now.walked left (by_place marks place p p within is ∙ free) come;
@@ -200,16 +200,16 @@ module _ (branch : List Catch) (patches : List PatchCatches) (inverted : IsInver
     goes_apart_from = back_apart patches inverted.are (marked names marks) place p p going within is now.walked
 
     -- a blocked patch is in each list that contains the patch and can be moved to the front
-    sticks_within : is_marked marks place ≡ false → StickBehind p.name going p.catches.items → (others : List (List ℕ)) (n : List ℕ) → is_among others (get_or names from n) ≡ true → ComeToFront branch others → is_among others p.name ≡ true
+    sticks_within : is_marked marks place ≡ false → AreBlockedAfter p.name going p.catches.items → (others : List (List ℕ)) (n : List ℕ) → is_among others (get_or names from n) ≡ true → CanMoveToFront branch others → is_among others p.name ≡ true
     sticks_within free stuck others n has come =
         let held = marked names marks in
         let plain_back : IsPlain back = record { patches = inverse_all inverted.forth; are = inverted.inverses; room = inverted.room_back } in
         let sticks = back_stuck patches inverted.are place p p within is held going now.walked (by_place marks place p p within is ∙ free) stuck in
-        let can = subst (λ l. CanGo l others) (sym inverted.inverses) (go_back inverted.forth others (subst (λ l. ComeToFront l others) inverted.plain come)) in
+        let can = subst (λ l. CanGo l others) (sym inverted.inverses) (go_back inverted.forth others (subst (λ l. CanMoveToFront l others) inverted.plain come)) in
         held_within back others plain_back can held p.name (now.least others n has come) sticks
 
     -- it goes, and its dependencies are marked
-    pub step_stuck : (q : Needed) → q ≡ get_or known place q → is_marked marks place ≡ false → StickBehind p.name going p.catches.items → ReachesTo branch patches (length known) (marked_in_both marks q.needs.items) place (going ++ p.catches.items)
+    pub step_stuck : (q : Needed) → q ≡ get_or known place q → is_marked marks place ≡ false → AreBlockedAfter p.name going p.catches.items → ReachesTo branch patches (length known) (marked_in_both marks q.needs.items) place (going ++ p.catches.items)
     step_stuck q same free stuck =
         let row : List Bool = q.needs.items in
         let row_long : length row ≡ place + 1 = ap (λ (x : Needed). length x.needs.items) same ∙ are.long place q before in
@@ -247,7 +247,7 @@ module _ (branch : List Catch) (patches : List PatchCatches) (inverted : IsInver
         let name = get_or names from n in
         let down = walked_down patches inverted.are held place d going (omega (arith, before, inside)) so_far.walked (λ r m less. among_marked names marks r m inverted.are.distinct (omega (arith, less, before, inside, names_long)) ∙ marked_there r (omega (arith, less, all_below))) in
         let can = can_go_then back held (walked_from patches 0) down.0 down.1 (whole_walk patches inverted.are) in
-        let come : ComeToFront branch held = subst (λ l. ComeToFront l held) (sym inverted.plain) (come_back inverted.forth held (subst (λ l. CanGo l held) inverted.inverses can)) in
+        let come : CanMoveToFront branch held = subst (λ l. CanMoveToFront l held) (sym inverted.plain) (come_back inverted.forth held (subst (λ l. CanGo l held) inverted.inverses can)) in
         let own_mark : is_among held name ≡ true = among_marked names marks from n inverted.are.distinct (omega (arith, inside, names_long)) ∙ so_far.itself in
         let needed = needs_are_determined branch (name ∷ []) in
         let has : is_among (map name_of branch) name ≡ true = sym (among_once (map name_of branch) name) ∙ ap (λ l. is_among l name) (sym inverted.names) ∙ there names from n (omega (arith, inside, names_long)) in

@@ -1,5 +1,5 @@
 -- Gathers the labels in conflict, from the last catch of a branch to the first.
-use Rattle.camp_questions.proofs.Words.{true≢false, ◌≤◌, ◌+◌, arith, drop, drop_more, get_or, length, take, ◌≡◌, ℕ, suc, Bool, true, false, cond, List, [], ◌∷◌, ◌++◌, map, Option, Some, None, refl, sym, ap, ◌∙◌, subst, none-some, eq_by_cmp, empty, get, get-empty, get-insert, contains_key, insert, find, flat_map, effect_of, Catch, Key, key_cmp, key_total, key_ties, Named, entries, entries_sorted, get-entries, len, values, MatchOption, is_some, slice_get, take_all, found_at, take_push, count_of_members, members_of, AddsAll, AreKeyed, ContextedPatch, ContextedPatches, context_key, with_member, inverse_all-append, inverse_all, AllSeenToo, SeenToo, first_with_key, AreSeen, IsSeen, TellNothing, told_by, append-nil, bytes_eq, filter, filter-append, ComesIf, ComesIfNamed, ComeBehind, ComesBehind, IsSideAmong, Equal-is}
+use Rattle.camp_questions.proofs.Words.{true≢false, ◌≤◌, ◌+◌, arith, drop, drop_more, get_or, length, take, ◌≡◌, ℕ, suc, Bool, true, false, cond, List, [], ◌∷◌, ◌++◌, map, Option, Some, None, refl, sym, ap, ◌∙◌, subst, none-some, eq_by_cmp, empty, get, get-empty, get-insert, contains_key, insert, find, flat_map, effect_of, Catch, Key, key_cmp, key_total, key_ties, Named, entries, entries_sorted, get-entries, len, values, MatchOption, is_some, slice_get, take_all, found_at, take_push, count_of_members, members_of, AddsAll, AreKeyed, ContextedPatch, ContextedPatches, context_key, with_member, inverse_all-append, inverse_all, AllSeenToo, SeenToo, first_with_key, AreSeen, IsSeen, HaveNoContexted, contexted_in, append-nil, bytes_eq, filter, filter-append, AppendsIf, ComesIfNamed, AppendsEachNew, AppendsNew, IsSideAmong, Equal-is}
 use Rattle.camp_catch.specs.declared.catches.Conflictor.{Conflictor}
 use Rattle.camp_ctx.proofs.AddResults.{same_key_of_sum}
 
@@ -77,7 +77,7 @@ one_member_told undone k i x was seen next at all one =
 
 -- after all members, the result is what the conflictor says
 pub conflictor_told : (undone : List Named) (k : Conflictor) (was seen : ContextedPatches) (i n : ℕ) → AreKeyed k.conflicts → n ≡ len k.conflicts → n ≤ i → AllSeenToo undone (k.identity ∷ take i (members_of k.conflicts)) was seen
-    → (key : Key) → SeenToo undone (get was key) (told_by (Catch.Conflictor k) key) (get seen key)
+    → (key : Key) → SeenToo undone (get was key) (contexted_in (Catch.Conflictor k) key) (get seen key)
 conflictor_told undone k was seen i n keyed counted past all key =
     let long = count_of_members k.conflicts in
     let whole : take i (members_of k.conflicts) ≡ members_of k.conflicts = take_all i (members_of k.conflicts) (omega arith) in
@@ -95,14 +95,14 @@ seen_before k behind key x seen = record {
   added = seen.added;
 }
 
-one_seen_at : (k : Catch) (behind : List Catch) (key : Key) (was told now : Option ContextedPatch) → told_by k key ≡ told → MatchOption was (TellNothing behind key) (IsSeen behind key)
-    → SeenToo (inverse_all (flat_map effect_of behind)) was told now → MatchOption now (TellNothing (k ∷ behind) key) (IsSeen (k ∷ behind) key)
+one_seen_at : (k : Catch) (behind : List Catch) (key : Key) (was told now : Option ContextedPatch) → contexted_in k key ≡ told → MatchOption was (HaveNoContexted behind key) (IsSeen behind key)
+    → SeenToo (inverse_all (flat_map effect_of behind)) was told now → MatchOption now (HaveNoContexted (k ∷ behind) key) (IsSeen (k ∷ behind) key)
 one_seen_at k behind key (Some x) told now is seen w =
-    subst (λ o. MatchOption o (TellNothing (k ∷ behind) key) (IsSeen (k ∷ behind) key)) (sym w) (seen_before k behind key x seen)
+    subst (λ o. MatchOption o (HaveNoContexted (k ∷ behind) key) (IsSeen (k ∷ behind) key)) (sym w) (seen_before k behind key x seen)
 one_seen_at k behind key None None now is seen w =
-    subst (λ o. MatchOption o (TellNothing (k ∷ behind) key) (IsSeen (k ∷ behind) key)) (sym w) (is, seen)
+    subst (λ o. MatchOption o (HaveNoContexted (k ∷ behind) key) (IsSeen (k ∷ behind) key)) (sym w) (is, seen)
 one_seen_at k behind key None (Some x) now is seen (y, adds, w) =
-    subst (λ o. MatchOption o (TellNothing (k ∷ behind) key) (IsSeen (k ∷ behind) key)) (sym w) (record {
+    subst (λ o. MatchOption o (HaveNoContexted (k ∷ behind) key) (IsSeen (k ∷ behind) key)) (sym w) (record {
       before = [];
       k = k;
       behind = behind;
@@ -115,9 +115,9 @@ one_seen_at k behind key None (Some x) now is seen (y, adds, w) =
 
 -- one more catch is gathered
 pub one_seen : (k : Catch) (behind : List Catch) (seen next : ContextedPatches) (undone : List Named) → undone ≡ inverse_all (flat_map effect_of behind) → AreSeen behind seen
-    → ((key : Key) → SeenToo undone (get seen key) (told_by k key) (get next key)) → AreSeen (k ∷ behind) next
+    → ((key : Key) → SeenToo undone (get seen key) (contexted_in k key) (get next key)) → AreSeen (k ∷ behind) next
 one_seen k behind seen next undone is are told key =
-    one_seen_at k behind key (get seen key) (told_by k key) (get next key) refl (are key) (subst (λ u. SeenToo u (get seen key) (told_by k key) (get next key)) is (told key))
+    one_seen_at k behind key (get seen key) (contexted_in k key) (get next key) refl (are key) (subst (λ u. SeenToo u (get seen key) (contexted_in k key) (get next key)) is (told key))
 
 -- the state of the gathering: the labels of the last catches, and the inverses of their effects
 pub record IsSoFar (catches : List Catch) (undone : List Named) (seen : ContextedPatches) : Type 0 where
@@ -128,7 +128,7 @@ pub nothing_so_far : (catches : List Catch) (undone : List Named) (seen : Contex
 nothing_so_far catches undone seen none nothing is =
     rw (none, nothing, is) (record {
       back = refl;
-      are = λ key. subst (λ o. MatchOption o (TellNothing [] key) (IsSeen [] key)) (sym (get-empty key_cmp key)) tt;
+      are = λ key. subst (λ o. MatchOption o (HaveNoContexted [] key) (IsSeen [] key)) (sym (get-empty key_cmp key)) tt;
     })
 
 -- the catch before those
@@ -138,7 +138,7 @@ catch_before catches i at k d follows within is =
 
 -- one catch more
 pub one_so_far : (k : Catch) (behind all : List Catch) (undone more : List Named) (seen next : ContextedPatches) → all ≡ k ∷ behind → IsSoFar behind undone seen
-    → ((key : Key) → SeenToo undone (get seen key) (told_by k key) (get next key)) → more ≡ undone ++ inverse_all (effect_of k) → IsSoFar all more next
+    → ((key : Key) → SeenToo undone (get seen key) (contexted_in k key) (get next key)) → more ≡ undone ++ inverse_all (effect_of k) → IsSoFar all more next
 one_so_far k behind all undone more seen next is so_far told grows =
     subst (λ l. IsSoFar l more next) (sym is) (record {
       back = grows ∙ ap (λ u. u ++ inverse_all (effect_of k)) so_far.back ∙ sym (inverse_all-append (effect_of k) (flat_map effect_of behind));
@@ -147,29 +147,29 @@ one_so_far k behind all undone more seen next is so_far told grows =
 
 -- ---- the labels of a patch are appended one after the other
 
-behind_all : (changes : List Named) (xs : List ContextedPatch) (x : ContextedPatch) (side next : List Named) → ComeBehind changes xs side → ComesBehind side x next → ComeBehind changes (xs ++ x ∷ []) next
-behind_all changes [] x side next is one = (next, subst (λ s. ComesBehind s x next) is one, refl)
+behind_all : (changes : List Named) (xs : List ContextedPatch) (x : ContextedPatch) (side next : List Named) → AppendsEachNew changes xs side → AppendsNew side x next → AppendsEachNew changes (xs ++ x ∷ []) next
+behind_all changes [] x side next is one = (next, subst (λ s. AppendsNew s x next) is one, refl)
 behind_all changes (y ∷ xs) x side next (between, first, more) one =
     (between, first, behind_all between xs x side next more one)
 
-comes_at : (xs : List ContextedPatch) (x : ContextedPatch) (side next : List Named) (b : Bool) → ComeBehind [] xs side → ComesIf b side x next → ComeBehind [] (xs ++ cond b (x ∷ []) []) next
+comes_at : (xs : List ContextedPatch) (x : ContextedPatch) (side next : List Named) (b : Bool) → AppendsEachNew [] xs side → AppendsIf b side x next → AppendsEachNew [] (xs ++ cond b (x ∷ []) []) next
 comes_at xs x side next true all one = behind_all [] xs x side next all one
 comes_at xs x side next false all same =
-    subst (λ l. ComeBehind [] l next) (sym (append-nil xs)) (subst (ComeBehind [] xs) (sym same) all)
+    subst (λ l. AppendsEachNew [] l next) (sym (append-nil xs)) (subst (AppendsEachNew [] xs) (sym same) all)
 
 abbrev of_name : List ℕ → ContextedPatch → Bool
 of_name name x = bytes_eq name x.patch.name
 
 -- the labels of a name, with one more
 pub one_comes : (name : List ℕ) (members : List ContextedPatch) (i : ℕ) (x : ContextedPatch) (side next : List Named) → slice_get members i ≡ Some x
-    → ComeBehind [] (filter (of_name name) (take i members)) side → ComesIfNamed side name x next → ComeBehind [] (filter (of_name name) (take (i + 1) members)) next
+    → AppendsEachNew [] (filter (of_name name) (take i members)) side → ComesIfNamed side name x next → AppendsEachNew [] (filter (of_name name) (take (i + 1) members)) next
 one_comes name members i x side next at all one =
     let more : filter (of_name name) (take (i + 1) members) ≡ filter (of_name name) (take i members) ++ cond (of_name name x) (x ∷ []) [] =
     ap (filter (of_name name)) (take_push members i x at) ∙ filter-append (of_name name) (take i members) (x ∷ []) in
-    subst (λ l. ComeBehind [] l next) (sym more) (comes_at (filter (of_name name) (take i members)) x side next (of_name name x) all one)
+    subst (λ l. AppendsEachNew [] l next) (sym more) (comes_at (filter (of_name name) (take i members)) x side next (of_name name x) all one)
 
-pub all_come : (name : List ℕ) (xs : ContextedPatches) (i n : ℕ) (side : List Named) → n ≡ len xs → n ≤ i → ComeBehind [] (filter (of_name name) (take i (members_of xs))) side → IsSideAmong xs name side
+pub all_come : (name : List ℕ) (xs : ContextedPatches) (i n : ℕ) (side : List Named) → n ≡ len xs → n ≤ i → AppendsEachNew [] (filter (of_name name) (take i (members_of xs))) side → IsSideAmong xs name side
 all_come name xs i n side counted past all =
     let long = count_of_members xs in
     let whole : take i (members_of xs) ≡ members_of xs = take_all i (members_of xs) (omega arith) in
-    subst (λ l. ComeBehind [] (filter (of_name name) l) side) whole all
+    subst (λ l. AppendsEachNew [] (filter (of_name name) l) side) whole all

@@ -1,5 +1,5 @@
 -- The changes of a side apply to the tree of the branch.
-use Rattle.camp_questions.proofs.Words.{◌≡◌, ℕ, suc, Bool, true, false, cond, List, [], ◌∷◌, map, bytes_eq, Some, refl, sym, ◌∙◌, subst, none-some, same_Some, eq_by_cmp, empty, get, flat_map, AllByRecursion, Files, FitsAll, LeadsTo, effect_of, Catch, Key, key_cmp, key_total, Named, entries, entries_sorted, get-entries, values, MatchOption, slice_get, all_filter, IsSeenFrom, Plain, found_at, AddsAll, AreValid, ContextedPatch, ContextedPatches, Valid, context_key, whole, joined_runs, runs_back, AppliesAll, inverse_all, AppliesEach, SidesApply, changes_in, AreSeen, ComeBehind, ComesUnless, IsSeen, IsSideAmong, TellNothing, has_key, labels_of_patch, told_by, tree_of_effects}
+use Rattle.camp_questions.proofs.Words.{◌≡◌, ℕ, suc, Bool, true, false, cond, List, [], ◌∷◌, map, bytes_eq, Some, refl, sym, ◌∙◌, subst, none-some, same_Some, eq_by_cmp, empty, get, flat_map, AllByRecursion, Files, FitsAll, LeadsTo, effect_of, Catch, Key, key_cmp, key_total, Named, entries, entries_sorted, get-entries, values, MatchOption, slice_get, all_filter, IsSeenFrom, Plain, found_at, AddsAll, AreValid, ContextedPatch, ContextedPatches, Valid, context_key, whole, joined_runs, runs_back, AppliesAll, inverse_all, AppliesEach, SidesApply, changes_in, AreSeen, AppendsEachNew, AppendsUnless, IsSeen, IsSideAmong, HaveNoContexted, has_key, labels_of_patch, contexted_in, tree_of_effects}
 use Rattle.camp_branch.proofs.EffectSteps.{second_fits}
 use Rattle.camp_ctx.proofs.AddValid.{valid_by_adding_all}
 
@@ -8,12 +8,12 @@ told_valid_at tree true identity x members key all one is = subst (Valid tree) (
 told_valid_at tree false identity x members key all one is = all key x is
 
 -- what a catch says of a label is valid in the tree after it
-told_valid : (tree : Files) (k : Catch) (key : Key) (x : ContextedPatch) → IsSeenFrom tree k → told_by k key ≡ Some x → Valid tree x
+told_valid : (tree : Files) (k : Catch) (key : Key) (x : ContextedPatch) → IsSeenFrom tree k → contexted_in k key ≡ Some x → Valid tree x
 told_valid tree (Plain a) key x seen is = absurd (none-some x is)
 told_valid tree (Catch.Conflictor k) key x seen is =
     told_valid_at tree (eq_by_cmp key_cmp key (context_key k.identity)) k.identity x k.conflicts key seen.0 seen.1 is
 
-valid_behind : (before behind : List Catch) (k : Catch) (tree : Files) (key : Key) (x seen : ContextedPatch) → told_by k key ≡ Some x → AddsAll (inverse_all (flat_map effect_of behind)) x seen → (between : Files) × FitsAll before empty between × FitsAll (k ∷ behind) between tree → Valid tree seen
+valid_behind : (before behind : List Catch) (k : Catch) (tree : Files) (key : Key) (x seen : ContextedPatch) → contexted_in k key ≡ Some x → AddsAll (inverse_all (flat_map effect_of behind)) x seen → (between : Files) × FitsAll before empty between × FitsAll (k ∷ behind) between tree → Valid tree seen
 valid_behind before behind k tree key x seen told added (between, first, rest) =
     let runs = tree_of_effects behind rest.0 tree rest.2 in
     valid_by_adding_all (inverse_all (flat_map effect_of behind)) x seen added tree rest.0 (runs_back (flat_map effect_of behind) rest.0 tree runs) (told_valid rest.0 k key x rest.1.seen told)
@@ -26,7 +26,7 @@ seen_valid branch tree key x leads seen =
 -- all of them are
 pub all_valid : (branch : List Catch) (tree : Files) (seen : ContextedPatches) → LeadsTo branch tree → AreSeen branch seen → AreValid tree seen
 all_valid branch tree seen leads are key x is =
-    seen_valid branch tree key x leads (subst (λ o. MatchOption o (TellNothing branch key) (IsSeen branch key)) is (are key))
+    seen_valid branch tree key x leads (subst (λ o. MatchOption o (HaveNoContexted branch key) (IsSeen branch key)) is (are key))
 
 by_index : (P : ContextedPatch → Type 0) (es : List (Key × ContextedPatch)) → ((i : ℕ) (k : Key) (x : ContextedPatch) → slice_get es i ≡ Some (k, x) → P x) → AllByRecursion P (map (λ (e : Key × ContextedPatch). e.1) es)
 by_index P [] each = tt
@@ -41,13 +41,13 @@ abbrev Apply : Files → List Named → Type 0
 Apply tree changes = (next : Files) × AppliesAll changes tree next
 
 one_applies : (tree : Files) (changes : List Named) (x : ContextedPatch) (next : List Named) (b : Bool) → Valid tree x → Apply tree changes
-    → ComesUnless b changes x next → Apply tree next
+    → AppendsUnless b changes x next → Apply tree next
 one_applies tree changes x next true valid applies is = subst (Apply tree) (sym is) applies
 one_applies tree changes x next false valid applies (y, adds, is) =
     let valid_then = valid_by_adding_all (inverse_all changes) x y adds applies.0 tree (runs_back changes tree applies.0 applies.1) valid in
     subst (Apply tree) (sym is) (valid_then.0, joined_runs changes (whole y) tree applies.0 valid_then.0 applies.1 valid_then.1)
 
-all_apply : (tree : Files) (changes : List Named) (xs : List ContextedPatch) (side : List Named) → AllByRecursion (Valid tree) xs → Apply tree changes → ComeBehind changes xs side → Apply tree side
+all_apply : (tree : Files) (changes : List Named) (xs : List ContextedPatch) (side : List Named) → AllByRecursion (Valid tree) xs → Apply tree changes → AppendsEachNew changes xs side → Apply tree side
 all_apply tree changes [] side all applies is = subst (Apply tree) (sym is) applies
 all_apply tree changes (x ∷ xs) side all applies (next, one, more) =
     all_apply tree next xs side all.1 (one_applies tree changes x next (has_key changes (context_key x)) all.0 applies one) more

@@ -1,5 +1,5 @@
 -- What blocks the patches of a branch on their way to its front.
-use Rattle.camp_questions.proofs.Words.{◌≡◌, ℕ, true, false, ◌||◌, List, [], ◌∷◌, ◌++◌, map, bytes_eq, refl, sym, ap, ◌∙◌, subst, inl, inr, map-append, list_any-append, Key, Catch, is_among, name_of, ArrangeSticks, ComesBefore, SticksBehind, StopsAt, is_among_is, not_among, or_true, same_name, keep_labels, or_cases, or_none}
+use Rattle.camp_questions.proofs.Words.{◌≡◌, ℕ, true, false, ◌||◌, List, [], ◌∷◌, ◌++◌, map, bytes_eq, refl, sym, ap, ◌∙◌, subst, inl, inr, map-append, list_any-append, Key, Catch, is_among, name_of, ArrangeIsBlocked, ComesBefore, IsBlockedAfter, StopsAt, is_among_is, not_among, or_true, same_name, keep_labels, or_cases, or_none}
 use Rattle.camp_questions.proofs.PatchFronts.{at_first}
 
 -- the names of the patches of some catches
@@ -43,7 +43,7 @@ module _ (names own : List (List ℕ)) where
   abbrev pub SticksBetween : Key → Key → Type 0
   SticksBetween patch on = Waits on.name × (is_among own patch.name ≡ true) × (is_among names patch.name ≡ true)
 
-  sticks_behind : (rest list : List Catch) (patch on : Key) → AllWait rest → AreOwn list → SticksBehind names rest list patch on → SticksBetween patch on
+  sticks_behind : (rest list : List Catch) (patch on : Key) → AllWait rest → AreOwn list → IsBlockedAfter names rest list patch on → SticksBetween patch on
   sticks_behind rest [] patch on all own_list w = absurd w
   sticks_behind rest (k ∷ list) patch on all own_list (inl w) =
       let called : patch.name ≡ name_of k = ap (λ key. key.name) w.2 in (
@@ -60,6 +60,6 @@ module _ (names own : List (List ℕ)) where
       sticks_behind (rest ++ k ∷ []) list patch on (one_waits k rest waits all) (λ name there. own_list name (or_true (bytes_eq name (name_of k)) _ there)) w.1
 
 -- a block is between a patch that is to be moved to the front, and one that is not
-pub sticks_between : (names : List (List ℕ)) (branch : List Catch) (patch on : Key) → ArrangeSticks names branch patch on → SticksBetween names (map name_of branch) patch on
+pub sticks_between : (names : List (List ℕ)) (branch : List Catch) (patch on : Key) → ArrangeIsBlocked names branch patch on → SticksBetween names (map name_of branch) patch on
 sticks_between names branch patch on w =
     sticks_behind names (map name_of branch) [] branch patch on (λ name there. cc) (λ name there. there) w

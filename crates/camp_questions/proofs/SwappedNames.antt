@@ -1,5 +1,5 @@
 -- Two changes that commute give the same names to lines in both orders.
-use Rattle.camp_questions.proofs.Words.{◌≡◌, ◌≢◌, ◌≤◌, ℕ, ◌+◌, ◌-◌, Bool, true, false, true≢false, cond, List, [], ◌∷◌, ◌++◌, map, Some, length, take, drop, bytes_eq, refl, sym, ap, ◌∙◌, subst, inl, inr, arith, empty, get, get-insert, insert, same_map, slice_range, splice, eq_by_cmp, bytes_eq-Decides, Edit, key_cmp, key_of, key_ties, key_total, label_of, Key, Named, Primitive, Add, Remove, Hunk, Catch, Known, behind_catches, behind_change, behind_hunk, names_coming, nothing_known, annotated, Annotated, StandsWithin, AreKnownIn, append_assoc, drop_at, length-append, length-take-le, take-append-drop, take_at, drop-drop, Files, Splices, FitsAll, false_from_ne_true, FinMap, SplicesLines, Align, ComesFirst, Plain, Leads, PrimitivesCommute, Commute, at_line, path_of, cut_run, equivalent_run, AppliesAll, Annotates, own_names, AnnotateAlike, OrderKeepsNames, tree_of_effects, BothPlain, CommuteCatch}
+use Rattle.camp_questions.proofs.Words.{◌≡◌, ◌≢◌, ◌≤◌, ℕ, ◌+◌, ◌-◌, Bool, true, false, true≢false, cond, List, [], ◌∷◌, ◌++◌, map, Some, length, take, drop, bytes_eq, refl, sym, ap, ◌∙◌, subst, inl, inr, arith, empty, get, get-insert, insert, same_map, slice_range, splice, eq_by_cmp, bytes_eq-Decides, Edit, key_cmp, key_of, key_ties, key_total, label_of, Key, Named, Primitive, Add, Remove, Hunk, Catch, Known, known_after_catches, known_after_change, known_after_hunk, names_coming, nothing_known, annotated, Annotated, LiesWithin, AreKnownIn, append_assoc, drop_at, length-append, length-take-le, take-append-drop, take_at, drop-drop, Files, Splices, FitsAll, false_from_ne_true, FinMap, SplicesLines, Align, ComesFirst, Plain, Leads, PrimitivesCommute, Commute, at_line, path_of, cut_run, equivalent_run, AppliesAll, Annotates, own_names, AnnotateAlike, OrderKeepsNames, tree_of_effects, BothPlain, CommuteCatch}
 use Rattle.camp_prim.proofs.HunksOfOneFile.{SplicesTwice, lower_first, upper_first}
 use Rattle.camp_seq.proofs.ExchangeSteps.{shared}
 use Rattle.camp_seq.proofs.ListEquivalence.{after_one, swapped}
@@ -49,7 +49,7 @@ module _ (names gone coming after : List (List ℕ)) (line count : ℕ) (put : S
 
 -- the state after a hunk, given the names that it removes and adds
 behind_is : (name : List ℕ) (key : Key) (hunk : Edit) (known : Known) (gone coming after : List (List ℕ)) → SplicesLines hunk.line gone coming known.names after → length gone ≡ length hunk.old
-    → names_coming (get known.taken key) (own_names gone name hunk) (length hunk.new) ≡ coming → behind_hunk name key hunk known ≡ record { names = after; taken = insert known.taken key gone }
+    → names_coming (get known.taken key) (own_names gone name hunk) (length hunk.new) ≡ coming → known_after_hunk name key hunk known ≡ record { names = after; taken = insert known.taken key gone }
 behind_is name key hunk known gone coming after put many comes =
     let from : ℕ = hunk.line - 1 in
     let to : ℕ = from + length hunk.old in
@@ -66,7 +66,7 @@ coming_at name key hunk known =
     names_coming (get known.taken key) (own_names (gone_at known hunk) name hunk) (length hunk.new)
 
 -- a hunk replaces the names that it removes by those that it adds
-puts_names : (name : List ℕ) (key : Key) (hunk : Edit) (known : Known) → 1 ≤ hunk.line → StandsWithin hunk known → SplicesLines hunk.line (gone_at known hunk) (coming_at name key hunk known) known.names (behind_hunk name key hunk known).names
+puts_names : (name : List ℕ) (key : Key) (hunk : Edit) (known : Known) → 1 ≤ hunk.line → LiesWithin hunk known → SplicesLines hunk.line (gone_at known hunk) (coming_at name key hunk known) known.names (known_after_hunk name key hunk known).names
 puts_names name key hunk known line within =
     let from : ℕ = hunk.line - 1 in
     let to : ℕ = from + length hunk.old in
@@ -98,15 +98,15 @@ turned_above h k gap stands gone coming gone' coming' old new many comes many' c
 
 module _ (n m : List ℕ) (a b : Key) (apart : a ≢ b) where
   -- two hunks of one file
-  one_file : (h k : Edit) (at_first at_second : ℕ) (known : Known) → Turned h k at_first at_second → 1 ≤ h.line → 1 ≤ k.line → StandsWithin h known → StandsWithin k (behind_hunk n a h known)
-      → behind_hunk m b k (behind_hunk n a h known) ≡ behind_hunk n a (at_line at_second h) (behind_hunk m b (at_line at_first k) known)
+  one_file : (h k : Edit) (at_first at_second : ℕ) (known : Known) → Turned h k at_first at_second → 1 ≤ h.line → 1 ≤ k.line → LiesWithin h known → LiesWithin k (known_after_hunk n a h known)
+      → known_after_hunk m b k (known_after_hunk n a h known) ≡ known_after_hunk n a (at_line at_second h) (known_after_hunk m b (at_line at_first k) known)
   one_file h k at_first at_second known turn line line' within within' =
-      let next = behind_hunk n a h known in
+      let next = known_after_hunk n a h known in
       let gone = gone_at known h in
       let coming = coming_at n a h known in
       let gone' = gone_at next k in
       let coming' = coming_at m b k next in
-      let after = (behind_hunk m b k next).names in
+      let after = (known_after_hunk m b k next).names in
       let many : length gone ≡ length h.old = gone_count h known within in
       let many' : length gone' ≡ length k.old = gone_count k next within' in
       let t = turn gone coming gone' coming' known.names after many (coming_count n a h known within) many' (coming_count m b k next within')
@@ -114,61 +114,61 @@ module _ (n m : List ℕ) (a b : Key) (apart : a ≢ b) where
       let kept' : names_coming (get known.taken b) (own_names gone' m k) (length k.new) ≡ coming' = ap (λ o. names_coming o (own_names gone' m k) (length k.new)) (sym (kept_apart known.taken a b gone apart)) in
       let kept : names_coming (get (insert known.taken b gone') a) (own_names gone n h) (length h.new) ≡ coming = ap (λ o. names_coming o (own_names gone n h) (length h.new)) (kept_apart known.taken b a gone' (λ e. apart (sym e))) in
       let between : Known = record { names = t.between; taken = insert known.taken b gone' } in
-      let first : behind_hunk m b (at_line at_first k) known ≡ between = behind_is m b (at_line at_first k) known gone' coming' t.between t.first many' kept' in
-      let second : behind_hunk n a (at_line at_second h) between ≡ record { names = after; taken = insert (insert known.taken b gone') a gone } = behind_is n a (at_line at_second h) between gone coming after t.second many kept in
-      sym (ap (behind_hunk n a (at_line at_second h)) first ∙ second ∙ (λ i. record { names = after; taken = sym (both_kept known.taken a b gone gone' apart) i }))
+      let first : known_after_hunk m b (at_line at_first k) known ≡ between = behind_is m b (at_line at_first k) known gone' coming' t.between t.first many' kept' in
+      let second : known_after_hunk n a (at_line at_second h) between ≡ record { names = after; taken = insert (insert known.taken b gone') a gone } = behind_is n a (at_line at_second h) between gone coming after t.second many kept in
+      sym (ap (known_after_hunk n a (at_line at_second h)) first ∙ second ∙ (λ i. record { names = after; taken = sym (both_kept known.taken a b gone gone' apart) i }))
 
   module _ (path : List ℕ) where
-    stays : (name : List ℕ) (key : Key) (p : Primitive) (known : Known) → path_of p ≢ path → behind_change path name key p known ≡ known
+    stays : (name : List ℕ) (key : Key) (p : Primitive) (known : Known) → path_of p ≢ path → known_after_change path name key p known ≡ known
     stays name key (Add q) known other = refl
     stays name key (Remove q) known other = refl
     stays name key (Hunk hunk) known other =
-        ap (λ c. cond c (behind_hunk name key hunk known) known) (false_from_ne_true (bytes_eq hunk.path path) (λ e. other ((bytes_eq-Decides hunk.path path).0 e)))
+        ap (λ c. cond c (known_after_hunk name key hunk known) known) (false_from_ne_true (bytes_eq hunk.path path) (λ e. other ((bytes_eq-Decides hunk.path path).0 e)))
 
-    two_files_at : (p q : Primitive) (known : Known) (c : Bool) → bytes_eq (path_of p) path ≡ c → path_of p ≢ path_of q → behind_change path m b q (behind_change path n a p known) ≡ behind_change path n a p (behind_change path m b q known)
+    two_files_at : (p q : Primitive) (known : Known) (c : Bool) → bytes_eq (path_of p) path ≡ c → path_of p ≢ path_of q → known_after_change path m b q (known_after_change path n a p known) ≡ known_after_change path n a p (known_after_change path m b q known)
     two_files_at p q known true e other =
         let there : path_of q ≢ path = λ f. other ((bytes_eq-Decides (path_of p) path).0 e ∙ sym f) in
-        stays m b q (behind_change path n a p known) there ∙ ap (behind_change path n a p) (sym (stays m b q known there))
+        stays m b q (known_after_change path n a p known) there ∙ ap (known_after_change path n a p) (sym (stays m b q known there))
     two_files_at p q known false e other =
         let there : path_of p ≢ path = λ f. absurd (true≢false (sym ((bytes_eq-Decides (path_of p) path).1 f) ∙ e)) in
-        ap (behind_change path m b q) (stays n a p known there) ∙ sym (stays n a p (behind_change path m b q known) there)
+        ap (known_after_change path m b q) (stays n a p known there) ∙ sym (stays n a p (known_after_change path m b q known) there)
 
     -- the line of a hunk that applies
     from_one : (hunk : Edit) (old new : Files) → Splices hunk.path hunk.line hunk.old hunk.new old new → 1 ≤ hunk.line
     from_one hunk old new w = omega (arith, w.splices.at)
 
     two_hunks_at : (h k : Edit) (at_first at_second : ℕ) (old new : Files) (known : Known) (c : Bool) → bytes_eq h.path path ≡ c → h.path ≡ k.path → Turned h k at_first at_second → Leads (Hunk h) (Hunk k) old new → AreKnownIn path old known
-        → behind_change path m b (Hunk k) (behind_change path n a (Hunk h) known) ≡ behind_change path n a (Hunk (at_line at_second h)) (behind_change path m b (Hunk (at_line at_first k)) known)
+        → known_after_change path m b (Hunk k) (known_after_change path n a (Hunk h) known) ≡ known_after_change path n a (Hunk (at_line at_second h)) (known_after_change path m b (Hunk (at_line at_first k)) known)
     two_hunks_at h k at_first at_second old new known true e one turn leads are =
         let here : h.path ≡ path = (bytes_eq-Decides h.path path).0 e in
         let there : bytes_eq k.path path ≡ true = (bytes_eq-Decides k.path path).1 (sym one ∙ here) in
         let within = stands_within path h old leads.between known here leads.first are in
         let next = hunk_counts path n a h old leads.between known here leads.first are in
-        let within' = stands_within path k leads.between new (behind_hunk n a h known) (sym one ∙ here) leads.second next in
-        (λ i. cond (there i) (behind_hunk m b k (cond (e i) (behind_hunk n a h known) known)) (cond (e i) (behind_hunk n a h known) known))
+        let within' = stands_within path k leads.between new (known_after_hunk n a h known) (sym one ∙ here) leads.second next in
+        (λ i. cond (there i) (known_after_hunk m b k (cond (e i) (known_after_hunk n a h known) known)) (cond (e i) (known_after_hunk n a h known) known))
         ∙ one_file h k at_first at_second known turn (from_one h old leads.between leads.first) (from_one k leads.between new leads.second) within within'
-        ∙ sym (λ i. cond (e i) (behind_hunk n a (at_line at_second h) (cond (there i) (behind_hunk m b (at_line at_first k) known) known)) (cond (there i) (behind_hunk m b (at_line at_first k) known) known))
+        ∙ sym (λ i. cond (e i) (known_after_hunk n a (at_line at_second h) (cond (there i) (known_after_hunk m b (at_line at_first k) known) known)) (cond (there i) (known_after_hunk m b (at_line at_first k) known) known))
     two_hunks_at h k at_first at_second old new known false e one turn leads are =
         let there : bytes_eq k.path path ≡ false = ap (λ q. bytes_eq q path) (sym one) ∙ e in
-        (λ i. cond (there i) (behind_hunk m b k (cond (e i) (behind_hunk n a h known) known)) (cond (e i) (behind_hunk n a h known) known))
-        ∙ sym (λ i. cond (e i) (behind_hunk n a (at_line at_second h) (cond (there i) (behind_hunk m b (at_line at_first k) known) known)) (cond (there i) (behind_hunk m b (at_line at_first k) known) known))
+        (λ i. cond (there i) (known_after_hunk m b k (cond (e i) (known_after_hunk n a h known) known)) (cond (e i) (known_after_hunk n a h known) known))
+        ∙ sym (λ i. cond (e i) (known_after_hunk n a (at_line at_second h) (cond (there i) (known_after_hunk m b (at_line at_first k) known) known)) (cond (there i) (known_after_hunk m b (at_line at_first k) known) known))
 
     leads_as : (p q r s : Primitive) (old new : Files) → p ≡ r → q ≡ s → Leads p q old new → Leads r s old new
     leads_as p q r s old new e f leads =
         subst (λ x. Leads r x old new) f (subst (λ x. Leads x q old new) e leads)
 
     -- two changes that commute
-    either_order : (p q q' p' : Primitive) (old new : Files) (known : Known) → PrimitivesCommute p q q' p' → Leads p q old new → AreKnownIn path old known → behind_change path m b q (behind_change path n a p known) ≡ behind_change path n a p' (behind_change path m b q' known)
+    either_order : (p q q' p' : Primitive) (old new : Files) (known : Known) → PrimitivesCommute p q q' p' → Leads p q old new → AreKnownIn path old known → known_after_change path m b q (known_after_change path n a p known) ≡ known_after_change path n a p' (known_after_change path m b q' known)
     either_order p q q' p' old new known (inl s) leads are =
-        two_files_at p q known (bytes_eq (path_of p) path) refl s.paths ∙ (λ i. behind_change path n a (sym s.first i) (behind_change path m b (sym s.second i) known))
+        two_files_at p q known (bytes_eq (path_of p) path) refl s.paths ∙ (λ i. known_after_change path n a (sym s.first i) (known_after_change path m b (sym s.second i) known))
     either_order p q q' p' old new known (inr (inl s)) leads are =
-        (λ i. behind_change path m b (s.is_q i) (behind_change path n a (s.is_p i) known))
+        (λ i. known_after_change path m b (s.is_q i) (known_after_change path n a (s.is_p i) known))
         ∙ two_hunks_at s.h s.k (s.h.line + length s.h.old + s.gap) s.h.line old new known (bytes_eq s.h.path path) refl s.path (turned_below s.h s.k s.gap s.stands) (leads_as p q (Hunk s.h) (Hunk s.k) old new s.is_p s.is_q leads) are
-        ∙ sym (λ i. behind_change path n a ((s.first ∙ s.is_p) i) (behind_change path m b (s.second i) known))
+        ∙ sym (λ i. known_after_change path n a ((s.first ∙ s.is_p) i) (known_after_change path m b (s.second i) known))
     either_order p q q' p' old new known (inr (inr s)) leads are =
-        (λ i. behind_change path m b (s.is_q i) (behind_change path n a (s.is_p i) known))
+        (λ i. known_after_change path m b (s.is_q i) (known_after_change path n a (s.is_p i) known))
         ∙ two_hunks_at s.h s.k s.k.line (s.k.line + length s.k.new + s.gap) old new known (bytes_eq s.h.path path) refl s.path (turned_above s.h s.k s.gap s.stands) (leads_as p q (Hunk s.h) (Hunk s.k) old new s.is_p s.is_q leads) are
-        ∙ sym (λ i. behind_change path n a (s.first i) (behind_change path m b ((s.second ∙ s.is_q) i) known))
+        ∙ sym (λ i. known_after_change path n a (s.first i) (known_after_change path m b ((s.second ∙ s.is_q) i) known))
 
 plain_leads : (s : List Named) (old new : Files) → AppliesAll s old new → FitsAll (map Plain s) old new
 plain_leads [] old new w = w
@@ -176,36 +176,36 @@ plain_leads (p ∷ s) old new w =
     (w.0, record { effect = (w.0, w.1, refl); seen = tt }, plain_leads s w.0 new w.2)
 
 module _ (path : List ℕ) where
-  behind_both : (before s : List Named) (known : Known) → behind_catches path (map Plain (before ++ s)) known ≡ behind_catches path (map Plain s) (behind_catches path (map Plain before) known)
+  behind_both : (before s : List Named) (known : Known) → known_after_catches path (map Plain (before ++ s)) known ≡ known_after_catches path (map Plain s) (known_after_catches path (map Plain before) known)
   behind_both [] s known = refl
   behind_both (p ∷ before) s known =
-      behind_both before s (behind_change path p.name (key_of (label_of p)) p.prim known)
+      behind_both before s (known_after_change path p.name (key_of (label_of p)) p.prim known)
 
   -- two patches that commute
   two_swapped : (p q q' p' : Named) (old new : Files) (known : Known) → Commute p q q' p' → Leads p.prim q.prim old new → AreKnownIn path old known
-      → behind_change path q.name (key_of (label_of q)) q.prim (behind_change path p.name (key_of (label_of p)) p.prim known) ≡ behind_change path p'.name (key_of (label_of p')) p'.prim (behind_change path q'.name (key_of (label_of q')) q'.prim known)
+      → known_after_change path q.name (key_of (label_of q)) q.prim (known_after_change path p.name (key_of (label_of p)) p.prim known) ≡ known_after_change path p'.name (key_of (label_of p')) p'.prim (known_after_change path q'.name (key_of (label_of q')) q'.prim known)
   two_swapped p q q' p' old new known s leads are =
       either_order p.name q.name (key_of (label_of p)) (key_of (label_of q)) s.anywhere.apart path p.prim q.prim q'.prim p'.prim old new known s.anywhere.change leads are
-      ∙ sym (λ i. behind_change path (s.anywhere.first i).name (key_of (s.anywhere.first i)) p'.prim (behind_change path (s.anywhere.second i).name (key_of (s.anywhere.second i)) q'.prim known))
+      ∙ sym (λ i. known_after_change path (s.anywhere.first i).name (key_of (s.anywhere.first i)) p'.prim (known_after_change path (s.anywhere.second i).name (key_of (s.anywhere.second i)) q'.prim known))
 
   -- a list leads to this tree, and to this state of the annotation
   abbrev LeadsToKnown : Files → Known → List Named → Type 0
-  LeadsToKnown tree known s = AppliesAll s empty tree × (behind_catches path (map Plain s) nothing_known ≡ known)
+  LeadsToKnown tree known s = AppliesAll s empty tree × (known_after_catches path (map Plain s) nothing_known ≡ known)
 
   -- one exchange of neighbours keeps both
   exchange_keeps : (tree : Files) (known : Known) (s t : List Named) → CommutesOnce Commute s t → LeadsToKnown tree known s → LeadsToKnown tree known t
   exchange_keeps tree known s t e (runs, is) =
       let cut = cut_run e.before (e.p ∷ e.q ∷ e.after) empty tree (subst (λ l. AppliesAll l empty tree) e.was runs) in
-      let at : Known = behind_catches path (map Plain e.before) nothing_known in
+      let at : Known = known_after_catches path (map Plain e.before) nothing_known in
       let are : AreKnownIn path cut.0 at = catches_count path (map Plain e.before) empty cut.0 nothing_known (plain_leads e.before empty cut.0 cut.1) (none_known path) in
       let two = two_swapped e.p e.q e.q' e.p' cut.0 cut.2.2.0 at e.turns (record { between = cut.2.0; first = cut.2.1; second = cut.2.2.1 }) are in (
         (equivalent_run s t (exchanged e) empty tree).0 runs,
-        ap (λ l. behind_catches path (map Plain l) nothing_known) e.becomes ∙ behind_both e.before (e.q' ∷ e.p' ∷ e.after) nothing_known ∙ ap (behind_catches path (map Plain e.after)) (sym two) ∙ sym (behind_both e.before (e.p ∷ e.q ∷ e.after) nothing_known) ∙ sym (ap (λ l. behind_catches path (map Plain l) nothing_known) e.was) ∙ is,
+        ap (λ l. known_after_catches path (map Plain l) nothing_known) e.becomes ∙ behind_both e.before (e.q' ∷ e.p' ∷ e.after) nothing_known ∙ ap (known_after_catches path (map Plain e.after)) (sym two) ∙ sym (behind_both e.before (e.p ∷ e.q ∷ e.after) nothing_known) ∙ sym (ap (λ l. known_after_catches path (map Plain l) nothing_known) e.was) ∙ is,
       )
 
 half : (patches others : List Named) (path : List ℕ) (told : Annotated) → patches ~ others → Annotates (map Plain patches) path told → Annotates (map Plain others) path told
 half patches others path told e (tree, leads, is) =
-    let known : Known = behind_catches path (map Plain patches) nothing_known in
+    let known : Known = known_after_catches path (map Plain patches) nothing_known in
     let runs : AppliesAll patches empty tree = subst (λ s. AppliesAll s empty tree) (plain_effects patches) (tree_of_effects (map Plain patches) empty tree leads) in
     let both = (shared (LeadsToKnown path tree known) (exchange_keeps path tree known) patches others e).0 (runs, refl) in
     (tree, plain_leads others empty tree both.0, is ∙ ap (λ (k : Known). annotated (get tree path) k.names) (sym both.1))

@@ -1,5 +1,5 @@
 -- One pass over patches: the dependents go, and the others are moved in front of them.
-use Rattle.camp_questions.proofs.Words.{or_none, ◌≡◌, ℕ, true, false, not, ◌&&◌, ◌||◌, List, [], ◌∷◌, ◌++◌, map, Err, bytes_eq, get_or, length, take, drop, take_more, arith, zero, suc, ◌+◌, ◌<◌, ◌≤◌, refl, sym, ap, ◌∙◌, subst, inl, inr, insert, keys, Catch, ArrangesBehind, SticksBehind, AllByRecursion, has_patch, is_among, name_of, all_append, name_itself, or_parts, or_true, among_others, other_names, AreHeldIn, CanGo, ObliterateGives, take_all, All-from_recursion, All-get_or, Names, PatchCatches, AreApart, AreOfPatch, ArePatches, catches_in_order, names_in_order, GrowsToGo, ComeBeforeAll, StickBehind, take-append-drop, flat_map-append, drop_more, Depends}
+use Rattle.camp_questions.proofs.Words.{or_none, ◌≡◌, ℕ, true, false, not, ◌&&◌, ◌||◌, List, [], ◌∷◌, ◌++◌, map, Err, bytes_eq, get_or, length, take, drop, take_more, arith, zero, suc, ◌+◌, ◌<◌, ◌≤◌, refl, sym, ap, ◌∙◌, subst, inl, inr, insert, keys, Catch, ArrangesAfter, IsBlockedAfter, AllByRecursion, has_patch, is_among, name_of, all_append, name_itself, or_parts, or_true, among_others, other_names, AreHeldIn, CanGo, ObliterateGives, take_all, All-from_recursion, All-get_or, Names, PatchCatches, AreApart, AreOfPatch, ArePatches, catches_in_order, names_in_order, GrowsToGo, MoveBeforeAll, AreBlockedAfter, take-append-drop, flat_map-append, drop_more, Depends}
 use Rattle.camp_questions.proofs.PatchesBack.{catches-append}
 use Rattle.camp_questions.proofs.BranchGrowths.{to_go}
 use Rattle.camp_questions.proofs.Growing.{IsGrownSoFar, all_grown, none_grown, one_grown, one_more}
@@ -10,7 +10,7 @@ module _ (all : List Catch) where
   -- the patches up to here have been visited: those that stay are in front, and those that go after them
   pub record IsWalked (held : List (List ℕ)) (done going : List Catch) : Type 0 where
     pub first : List Catch
-    pub arranged : ArrangesBehind (other_names all held) [] done first going
+    pub arranged : ArrangesAfter (other_names all held) [] done first going
 
   -- the catches of a patch of the branch
   abbrev pub AreThere : List ℕ → List Catch → Type 0
@@ -34,7 +34,7 @@ module _ (all : List Catch) where
 
   module _ (held : List (List ℕ)) (done going : List Catch) (walked : IsWalked held done going) (name : List ℕ) (list : List Catch) (are : AreThere name list) where
     -- a patch is moved in front of those that go
-    pub walked_aside : (left : List Catch) → is_among held name ≡ false → ComeBeforeAll name going list left → IsWalked held (done ++ list) left
+    pub walked_aside : (left : List Catch) → is_among held name ≡ false → MoveBeforeAll name going list left → IsWalked held (done ++ list) left
     walked_aside left free come = record {
       first = walked.first ++ come.0;
       arranged = arranged_further (other_names all held) [] done list walked.first going come.0 left walked.arranged (arranged_alike (name ∷ []) (other_names all held) going list come.0 left (agree held name list free are) come.1);
@@ -48,12 +48,12 @@ module _ (all : List Catch) where
     }
 
     -- a patch that can't be moved in front of those that go is a dependent
-    pub held_here : (rest : List Catch) → all ≡ done ++ (list ++ rest) → is_among held name ≡ false → StickBehind name going list → AreHeldIn all held name
+    pub held_here : (rest : List Catch) → all ≡ done ++ (list ++ rest) → is_among held name ≡ false → AreBlockedAfter name going list → AreHeldIn all held name
     held_here rest parts free stuck =
         let alike = sticks_alike (name ∷ []) (other_names all held) going list stuck.0 stuck.1 (agree held name list free are) stuck.2 in
         let whole = sticks_further (other_names all held) [] done (list ++ rest) walked.first going stuck.0 stuck.1 walked.arranged (still_sticks (other_names all held) going list rest stuck.0 stuck.1 alike) in
         let called = stuck_name name going list stuck.0 stuck.1 (own name list are) stuck.2 in
-        let sticks = subst (λ l. SticksBehind (other_names all held) [] l stuck.0 stuck.1) (sym parts) whole in
+        let sticks = subst (λ l. IsBlockedAfter (other_names all held) [] l stuck.0 stuck.1) (sym parts) whole in
         (stuck.1.name, subst (λ n. ObliterateGives all held (Err (Depends n stuck.1.name))) called (inr (stuck.0, stuck.1, sticks, refl)))
 
   -- two sets of names are such that each catch is of a name in both, or in none
@@ -71,7 +71,7 @@ module _ (all : List Catch) where
   -- at the end all others are in front
   pub can_go_then : (held : List (List ℕ)) (done going : List Catch) → IsWalked held done going → done ≡ all → CanGo all held
   can_go_then held done going walked whole =
-      (walked.first, inl (walked.first, going, subst (λ l. ArrangesBehind (other_names all held) [] l walked.first going) whole walked.arranged, refl))
+      (walked.first, inl (walked.first, going, subst (λ l. ArrangesAfter (other_names all held) [] l walked.first going) whole walked.arranged, refl))
 
   -- the names inserted so far, and the patches up to here have been visited
   pub record IsGrown (names held : List (List ℕ)) (done going : List Catch) : Type 0 where
@@ -85,7 +85,7 @@ module _ (all : List Catch) where
   }
 
   -- a patch that can't be moved in front of those that go is added to them, and its name is inserted
-  pub one_held : (names : List (List ℕ)) (set next : Names) (done going list rest : List Catch) (name : List ℕ) → IsGrown names (keys set) done going → AreThere name list → all ≡ done ++ (list ++ rest) → AllByRecursion (λ k. (has_patch all (name_of k) ≡ true) × (bytes_eq (name_of k) name ≡ false)) done → is_among (keys set) name ≡ false → StickBehind name going list → next ≡ insert set name tt → IsGrown names (keys next) (done ++ list) (going ++ list)
+  pub one_held : (names : List (List ℕ)) (set next : Names) (done going list rest : List Catch) (name : List ℕ) → IsGrown names (keys set) done going → AreThere name list → all ≡ done ++ (list ++ rest) → AllByRecursion (λ k. (has_patch all (name_of k) ≡ true) × (bytes_eq (name_of k) name ≡ false)) done → is_among (keys set) name ≡ false → AreBlockedAfter name going list → next ≡ insert set name tt → IsGrown names (keys next) (done ++ list) (going ++ list)
   one_held names set next done going list rest name so_far are parts apart free stuck becomes =
       let held = keys set in
       let more : (n : List ℕ) → is_among (keys next) n ≡ (is_among held n || bytes_eq n name) = λ n. one_more set next name n becomes in
@@ -164,7 +164,7 @@ module _ (patches : List PatchCatches) (are : ArePatches patches) (i : ℕ) (p d
     goes_apart =
         left_apart p.name (other_names whole (keys set)) done so_far.walked.first going so_far.walked.arranged (apart_before patches i p d within is are)
 
-    pub past_aside : (left : List Catch) → is_among (keys set) p.name ≡ false → ComeBeforeAll p.name going p.catches.items left → IsGrown whole names (keys set) (catches_in_order (take (i + 1) patches)) left
+    pub past_aside : (left : List Catch) → is_among (keys set) p.name ≡ false → MoveBeforeAll p.name going p.catches.items left → IsGrown whole names (keys set) (catches_in_order (take (i + 1) patches)) left
     past_aside left free come = record {
       walked = subst (λ l. IsWalked whole (keys set) l left) (sym (one_more_done patches i p d within is)) (walked_aside whole (keys set) done going so_far.walked p.name p.catches.items there_of left free come);
       grown = so_far.grown;
@@ -176,7 +176,7 @@ module _ (patches : List PatchCatches) (are : ArePatches patches) (i : ℕ) (p d
       grown = so_far.grown;
     }
 
-    pub past_stuck : (next : Names) → is_among (keys set) p.name ≡ false → StickBehind p.name going p.catches.items → next ≡ insert set p.name tt → IsGrown whole names (keys next) (catches_in_order (take (i + 1) patches)) (going ++ p.catches.items)
+    pub past_stuck : (next : Names) → is_among (keys set) p.name ≡ false → AreBlockedAfter p.name going p.catches.items → next ≡ insert set p.name tt → IsGrown whole names (keys next) (catches_in_order (take (i + 1) patches)) (going ++ p.catches.items)
     past_stuck next free stuck becomes =
         let apart = both_are (λ k has other. (has, other)) done done_there (apart_before patches i p d within is are) in
         subst (λ l. IsGrown whole names (keys next) l (going ++ p.catches.items)) (sym (one_more_done patches i p d within is)) (one_held whole names set next done going p.catches.items (catches_in_order (drop (i + 1) patches)) p.name so_far there_of (patches_parted patches i p d within is) apart free stuck becomes)

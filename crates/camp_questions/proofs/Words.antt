@@ -17,7 +17,7 @@ pub use Rattle.camp_branch.proofs.NamesKept.{among_kept, among_once, among_other
 pub use Rattle.camp_branch.specs.Branches.{first_lacked, AreDistinct, HasPatches, IsLawfulBranch, LeadsTo, Patch, has_patch, is_among, labels_from, labels_of, name_of, names_of, patch_names, recorded, IsSized}
 pub use Rattle.camp_branch.specs.Conflicting.{AreConflicts}
 pub use Rattle.camp_branch.specs.Fields.{names_in, has_name}
-pub use Rattle.camp_catch.specs.Arranging.{Arrange, ArrangeSticks, ArrangesBehind, ComesBefore, SticksBehind, StopsAt, Align, ComesFirst, DoNotCommute, IsOf}
+pub use Rattle.camp_catch.specs.Arranging.{Arrange, ArrangeIsBlocked, ArrangesAfter, ComesBefore, IsBlockedAfter, StopsAt, Align, ComesFirst, DoNotCommute, IsOf}
 pub use Rattle.camp_catch.specs.Catches.{FitsAll, effect_of, IsSeenFrom, catch_key}
 pub use Rattle.camp_catch.specs.declared.catches.Catch.{Catch}
 pub use Rattle.camp_object.specs.declared.objects.Decided.TheVariants.{Answer, Next}
@@ -28,16 +28,16 @@ pub use Rattle.camp_prim.specs.declared.labels.Key.{Key}
 pub use Rattle.camp_prim.specs.declared.named.Named.{Named}
 pub use Rattle.camp_prim.specs.declared.primitives.Primitive.{Primitive}
 pub use Rattle.camp_prim.specs.declared.primitives.Primitive.TheVariants.{Add, Hunk, Remove}
-pub use Rattle.camp_questions.specs.Answers.{AnswerOf, Tells, OfBranch, OfPatches, TellsOrWants}
+pub use Rattle.camp_questions.specs.Answers.{AnswerOf, ReportsAnswer, OfBranch, OfPatches, ReportsAnswerOrMemory}
 pub use Rattle.camp_questions.specs.Inside.Finding.{IsFound}
 pub use Rattle.camp_questions.specs.declared.annotations.Annotated.{Annotated}
 pub use Rattle.camp_questions.specs.declared.faults.Unanswered.{Unanswered}
-pub use Rattle.camp_questions.specs.Annotations.{Known, annotated, behind_all, behind_catches, behind_change, behind_hunk, names_coming, names_of_lines, nothing_known, Annotates, own_names}
-pub use Rattle.camp_questions.specs.Dependencies.{AreAdded, AreGrown, AreHeldIn, CanGo, ComeToFront, HeldBy, Needs, StickOn, in_order}
+pub use Rattle.camp_questions.specs.Annotations.{Known, annotated, known_after_all, known_after_catches, known_after_change, known_after_hunk, names_coming, names_of_lines, nothing_known, Annotates, own_names}
+pub use Rattle.camp_questions.specs.Dependencies.{AreAdded, AreGrown, AreHeldIn, CanGo, CanMoveToFront, HeldBy, Needs, AreBlockedBy, in_order}
 pub use Rattle.camp_questions.specs.Differences.{IsMissing, missing_in}
 pub use Rattle.camp_questions.specs.Graphs.{Drawn, IsGraph, Needing, NeedsThese, goes_between, needs_directly, needs_other, node_of}
 pub use Rattle.camp_questions.specs.Inside.Graphing.{NeedEach, needing, AreKnown, AreMarkedBelow, AreReached, IsInverted, marked, marked_in_both}
-pub use Rattle.camp_questions.specs.Inside.Walking.{AppliesOn, AreKnownIn, FollowsOn, StandsWithin, kept_in, known_in, lines_or_none}
+pub use Rattle.camp_questions.specs.Inside.Walking.{AppliesOn, AreKnownIn, FollowsOn, LiesWithin, kept_in, known_in, lines_or_none}
 pub use Rattle.camp_questions.specs.Showing.{changes_of, patch_in, changes_in}
 pub use Rattle.camp_questions.specs.declared.graphs.Node.{Node}
 pub use Rattle.camp_repo.proofs.ByMembers.{AreAlike, obliterate_alike}
@@ -59,7 +59,7 @@ pub use Rattle.camp_branch.proofs.BranchFields.{Names, contains_more}
 pub use Rattle.camp_branch.proofs.BranchLabels.{names_of_patches, labels_count, none_else}
 pub use Rattle.camp_branch.proofs.ConflictsDetermined.{conflicts_are_determined, member_name, some_member, has_of_each, is_image, key_is_listed, listed_has_member, listed_joined}
 pub use Rattle.camp_branch.proofs.SortedPairs.{IsInOrder, Pair, first_or_later, has_first, has_later, no_member, sorted_once}
-pub use Rattle.camp_branch.specs.Pulling.{MergesBehind, Outcome, PullGives, WantedNext, common_names}
+pub use Rattle.camp_branch.specs.Pulling.{MergesAfterCommon, Outcome, PullGives, WantedNext, common_names}
 pub use Rattle.camp_branch.specs.declared.faults.Blocked.TheVariants.{Depends}
 pub use Rattle.camp_call.specs.declared.replies.Refusal.{Refusal}
 pub use Rattle.camp_call.specs.declared.replies.Refusal.TheVariants.{DoesNotApply, NoBranch, NoPatch, NothingToDo, PatchExists, TooLarge}
@@ -75,19 +75,19 @@ pub use Rattle.camp_ctx.specs.Contexts.{AreKeyed, AreValid, ContextedPatch, Cont
 pub use Rattle.camp_prim.specs.Commuting.{Commute, PrimitivesCommute, at_line, path_of}
 pub use Rattle.camp_questions.specs.CommonLines.{brought_by, common_end, common_front}
 pub use Rattle.camp_questions.specs.Inside.ByPatch.{AreApart, AreOfPatch, ArePatches, ArePatchesOf, catches_in_order, names_in_order, until_next}
-pub use Rattle.camp_questions.specs.Inside.ByPlace.{AreSettled, EndInPlace, name_at_index, needs_place, node_in, indexes_below}
-pub use Rattle.camp_questions.specs.Inside.ChangedFiles.{AreFilesOf, AreMarkedToo, GoMarked, IsMarkedPlain, IsPlainInRange, file_number, how_many, is_marked, number_behind, number_of, HasFiles}
+pub use Rattle.camp_questions.specs.Inside.ByIndex.{AreSettled, EndAtOwnIndex, name_at_index, needs_index, node_in, indexes_below}
+pub use Rattle.camp_questions.specs.Inside.ChangedFiles.{AreFilesOf, AreMarkedToo, GoMarked, IsMarkedPlain, IsPlainInRange, file_number, how_many, is_marked, hash_after, number_of, HasFiles}
 pub use Rattle.camp_questions.specs.Inside.Growing.{Grows, GrowsToFront, GrowsToGo}
 pub use Rattle.camp_questions.specs.Inside.Moving.{HunkCommutesPast, hunk_at}
-pub use Rattle.camp_questions.specs.Inside.Seeing.{AllSeenToo, ComesIf, ComesIfNamed, SeenToo, first_with_key}
-pub use Rattle.camp_questions.specs.Inside.StandingAside.{AllStay, ComeBeforeAll, StandsAside, StickBehind}
-pub use Rattle.camp_questions.specs.Inside.Telling.{IsTold}
+pub use Rattle.camp_questions.specs.Inside.Seeing.{AllSeenToo, AppendsIf, ComesIfNamed, SeenToo, first_with_key}
+pub use Rattle.camp_questions.specs.Inside.Independence.{AllStay, MoveBeforeAll, IsIndependent, AreBlockedAfter}
+pub use Rattle.camp_questions.specs.Inside.Reporting.{IsReported}
 pub use Rattle.camp_questions.specs.Inside.TakingBack.{AreInverses, HaveRoom}
 pub use Rattle.camp_questions.specs.Marks.{AreVersions, MakesVersion, MarksAt, is_in_pair, names_in_pairs, with_made}
 pub use Rattle.camp_questions.specs.OpenConflicts.{AreOpenAmong, AreOpenIn, OpensWith, is_open}
 pub use Rattle.camp_questions.specs.Pictures.{Picture, drawn_about, hangs_on, kept_node, part_with, whole_picture, with_needing, with_needing_one, with_needs, with_needs_of}
-pub use Rattle.camp_questions.specs.Places.{File, Place, at_place, differs_within, file_from, is_within, union_of, place_from, range_of, touch, with_marks, with_range}
-pub use Rattle.camp_questions.specs.Sides.{AreSeen, ComeBehind, ComesBehind, ComesUnless, IsSeen, IsSideAmong, IsSideIn, TellNothing, has_key, labels_of_patch, told_by}
+pub use Rattle.camp_questions.specs.Places.{File, MarkedHunk, at_range, differs_within, file_from, is_within, union_of, hunk_from, range_of, touch, with_marks, with_range}
+pub use Rattle.camp_questions.specs.Sides.{AreSeen, AppendsEachNew, AppendsNew, AppendsUnless, IsSeen, IsSideAmong, IsSideIn, HaveNoContexted, has_key, labels_of_patch, contexted_in}
 pub use Rattle.camp_questions.specs.declared.fast.going.Going.{Going}
 pub use Rattle.camp_questions.specs.declared.fast.patch_catches.PatchCatches.{PatchCatches}
 pub use Rattle.camp_questions.specs.declared.marking.Version.{Version}
@@ -106,7 +106,7 @@ pub use Rattle.camp_branch.proofs.OutcomesDetermined.{outcomes_are_determined}
 pub use Rattle.camp_branch.specs.Inside.Collecting.{pair_of}
 pub use Rattle.camp_catch.specs.Commuting.{BothPlain, CommuteCatch}
 pub use Rattle.camp_prim.proofs.FilesAtPaths.{get-with_file, get-with_file_other, get-with_file_same, same_path, with_file}
-pub use Rattle.camp_questions.specs.Inside.Alongside.{StandBehind}
+pub use Rattle.camp_questions.specs.Inside.Alongside.{AreAfterCommon}
 pub use Rattle.camp_questions.specs.Inside.OpenPairs.{open_against, open_in, open_with, open_within}
 pub use Rattle.camp_seq.specs.Room.{HasRoom, here}
 pub use Rattle.std.proofs.Math.ListN.{drop_of_length-le}

@@ -1,7 +1,7 @@
 -- Which patches a pull from one branch into another has to list.
 use Rattle.std.specs.Prelude.{◌≡◌, ◌≢◌, ◌⊎◌, ℕ, List, None, Some, Result, Ok, Err}
 use Rattle.camp_prim.specs.declared.labels.Key.{Key}
-use Rattle.camp_catch.specs.Arranging.{Arrange, ArrangeSticks}
+use Rattle.camp_catch.specs.Arranging.{Arrange, ArrangeIsBlocked}
 use Rattle.camp_catch.specs.declared.catches.Catch.{Catch}
 use Rattle.camp_branch.specs.Branches.{first_lacked}
 use Rattle.camp_branch.specs.Pulling.{common_names}
@@ -9,7 +9,7 @@ use Rattle.camp_call.specs.declared.replies.Refusal.TheVariants.{Diverged, SameB
 use Rattle.camp_repo.specs.States.{Contents, catches_of}
 use Rattle.camp_repo.specs.Steps.{wanted}
 use Rattle.camp_questions.specs.Answers.{AnswerOf, OfBranch, OfPatches}
-use Rattle.camp_questions.specs.Dependencies.{AreGrown, ComeToFront, StickOn}
+use Rattle.camp_questions.specs.Dependencies.{AreGrown, CanMoveToFront, AreBlockedBy}
 use Rattle.camp_questions.specs.declared.faults.Unanswered.{Unanswered}
 use Rattle.camp_questions.specs.declared.faults.Unanswered.TheVariants.{Refused, Memory}
 
@@ -18,12 +18,12 @@ use Rattle.camp_questions.specs.declared.faults.Unanswered.TheVariants.{Refused,
 abbrev pub ComesAlong : List Catch → List Catch → List (List ℕ) → List (List ℕ) → Type 0
 ComesAlong from to names told =
     (common : List Catch) × (behind : List Catch) × Arrange (common_names from to) from common behind
-    × AreGrown from (ComeToFront behind) (StickOn behind) (wanted to names) told
+    × AreGrown from (CanMoveToFront behind) (AreBlockedBy behind) (wanted to names) told
 
 -- the patches that both branches have can't be moved to the front of `from`: the one of this name is blocked
 abbrev pub HaveDiverged : List Catch → List Catch → List ℕ → Type 0
 HaveDiverged from to name =
-    (stuck : Key) × (on : Key) × ArrangeSticks (common_names from to) from stuck on × (name ≡ stuck.name)
+    (stuck : Key) × (on : Key) × ArrangeIsBlocked (common_names from to) from stuck on × (name ≡ stuck.name)
 
 -- the names to pull, or the refusal if the branches have diverged
 abbrev pub AlongOr : List Catch → List Catch → List (List ℕ) → AnswerOf (List (List ℕ)) → Type 0
@@ -52,7 +52,7 @@ pub record MayBeTried (state : Contents) (from to : List ℕ) (names : List (Lis
   pub has : first_lacked theirs names ≡ None
 
 -- the result of the question
-abbrev pub TellsAlong : Contents → List ℕ → List ℕ → List (List ℕ) → Result (List (List ℕ)) Unanswered → Type 0
-TellsAlong state from to names (Ok told) = AreAlong state from to names (Ok told)
-TellsAlong state from to names (Err (Refused refusal)) = AreAlong state from to names (Err refusal)
-TellsAlong state from to names (Err Memory) = MayBeTried state from to names
+abbrev pub ReportsAlong : Contents → List ℕ → List ℕ → List (List ℕ) → Result (List (List ℕ)) Unanswered → Type 0
+ReportsAlong state from to names (Ok told) = AreAlong state from to names (Ok told)
+ReportsAlong state from to names (Err (Refused refusal)) = AreAlong state from to names (Err refusal)
+ReportsAlong state from to names (Err Memory) = MayBeTried state from to names

@@ -44,8 +44,8 @@ names_coming (Some taken) own count = if length taken == count then taken else o
 
 -- the state after a hunk of the file: the new lines with their names replace the old ones, whose names are stored
 -- under the absolute label of the hunk
-abbrev pub behind_hunk : List ℕ → Key → Edit → Known → Known
-behind_hunk name key hunk known =
+abbrev pub known_after_hunk : List ℕ → Key → Edit → Known → Known
+known_after_hunk name key hunk known =
     let from = hunk.line - 1 in
     let to = from + length hunk.old in
     let gone = slice_range known.names from to in
@@ -56,27 +56,27 @@ behind_hunk name key hunk known =
     }
 
 -- the state after a change, for the file of a path: only hunks of this file change it
-abbrev pub behind_change : List ℕ → List ℕ → Key → Primitive → Known → Known
-behind_change path name key (Add other) known = known
-behind_change path name key (Remove other) known = known
-behind_change path name key (Hunk hunk) known =
-    if bytes_eq hunk.path path then behind_hunk name key hunk known else known
+abbrev pub known_after_change : List ℕ → List ℕ → Key → Primitive → Known → Known
+known_after_change path name key (Add other) known = known
+known_after_change path name key (Remove other) known = known
+known_after_change path name key (Hunk hunk) known =
+    if bytes_eq hunk.path path then known_after_hunk name key hunk known else known
 
 -- the state after an effect of a patch, primitive by primitive
-abbrev pub behind_all : List ℕ → List ℕ → List Named → Known → Known
-behind_all path name [] known = known
-behind_all path name (p ∷ s) known =
-    behind_all path name s (behind_change path name (key_of (label_of p)) p.prim known)
+abbrev pub known_after_all : List ℕ → List ℕ → List Named → Known → Known
+known_after_all path name [] known = known
+known_after_all path name (p ∷ s) known =
+    known_after_all path name s (known_after_change path name (key_of (label_of p)) p.prim known)
 
 -- the state after catches, one after the other
-abbrev pub behind_catches : List ℕ → List Catch → Known → Known
-behind_catches path [] known = known
-behind_catches path (k ∷ ks) known =
-    behind_catches path ks (behind_all path (name_of k) (effect_of k) known)
+abbrev pub known_after_catches : List ℕ → List Catch → Known → Known
+known_after_catches path [] known = known
+known_after_catches path (k ∷ ks) known =
+    known_after_catches path ks (known_after_all path (name_of k) (effect_of k) known)
 
 -- for each line of the file of a path, the name of the patch of a branch that added it
 abbrev pub names_of_lines : List ℕ → List Catch → List (List ℕ)
-names_of_lines path branch = (behind_catches path branch nothing_known).names
+names_of_lines path branch = (known_after_catches path branch nothing_known).names
 
 -- the answer for a path that has these lines, or no file
 abbrev pub annotated : Option Lines → List (List ℕ) → Annotated

@@ -23,14 +23,14 @@ OfPatches catches names GoesOn answer =
     MatchOption (first_lacked catches names) (GoesOn answer) (λ name. answer ≡ Err (NoPatch name))
 
 -- the reported result is the one defined; out of memory is reported only if there is an answer, and no refusal
-abbrev pub Tells : {A : Type 0} → (AnswerOf A → Type 0) → Result A Unanswered → Type 0
-Tells ComesTo (Ok answer) = ComesTo (Ok answer)
-Tells ComesTo (Err (Refused refusal)) = ComesTo (Err refusal)
-Tells {A} ComesTo (Err Memory) = (answer : A) × ComesTo (Ok answer)
+abbrev pub ReportsAnswer : {A : Type 0} → (AnswerOf A → Type 0) → Result A Unanswered → Type 0
+ReportsAnswer ComesTo (Ok answer) = ComesTo (Ok answer)
+ReportsAnswer ComesTo (Err (Refused refusal)) = ComesTo (Err refusal)
+ReportsAnswer {A} ComesTo (Err Memory) = (answer : A) × ComesTo (Ok answer)
 
--- `Tells` for a question that allocates before its answer is known: out of memory is reported only if the question is
+-- `ReportsAnswer` for a question that allocates before its answer is known: out of memory is reported only if the question is
 -- not refused
-abbrev pub TellsOrWants : {A : Type 0} → (AnswerOf A → Type 0) → Result A Unanswered → Type 0
-TellsOrWants ComesTo (Ok answer) = ComesTo (Ok answer)
-TellsOrWants ComesTo (Err (Refused refusal)) = ComesTo (Err refusal)
-TellsOrWants ComesTo (Err Memory) = (refusal : Refusal) → ¬ (ComesTo (Err refusal))
+abbrev pub ReportsAnswerOrMemory : {A : Type 0} → (AnswerOf A → Type 0) → Result A Unanswered → Type 0
+ReportsAnswerOrMemory ComesTo (Ok answer) = ComesTo (Ok answer)
+ReportsAnswerOrMemory ComesTo (Err (Refused refusal)) = ComesTo (Err refusal)
+ReportsAnswerOrMemory ComesTo (Err Memory) = (refusal : Refusal) → ¬ (ComesTo (Err refusal))

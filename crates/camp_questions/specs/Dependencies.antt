@@ -1,7 +1,7 @@
 -- Dependencies and dependents of patches in a branch.
 use Rattle.std.specs.Prelude.{◌≡◌, ℕ, List, [], ◌∷◌, ◌++◌, filter, Ok, Err}
 use Rattle.camp_prim.specs.declared.labels.Key.{Key}
-use Rattle.camp_catch.specs.Arranging.{Arrange, ArrangeSticks}
+use Rattle.camp_catch.specs.Arranging.{Arrange, ArrangeIsBlocked}
 use Rattle.camp_catch.specs.declared.catches.Catch.{Catch}
 use Rattle.camp_branch.specs.Branches.{is_among, names_of}
 use Rattle.camp_branch.specs.Obliterating.{ObliterateGives}
@@ -10,13 +10,13 @@ use Rattle.camp_repo.specs.States.{Contents}
 use Rattle.camp_questions.specs.Answers.{AnswerOf, OfBranch, OfPatches}
 
 -- the patches of these names can be moved to the front of a branch
-abbrev pub ComeToFront : List Catch → List (List ℕ) → Type 0
-ComeToFront branch names = (first : List Catch) × (rest : List Catch) × Arrange names branch first rest
+abbrev pub CanMoveToFront : List Catch → List (List ℕ) → Type 0
+CanMoveToFront branch names = (first : List Catch) × (rest : List Catch) × Arrange names branch first rest
 
 -- the patches of these names can't be moved to the front of a branch: one of them is blocked by the patch of this
 -- name
-abbrev pub StickOn : List Catch → List (List ℕ) → List ℕ → Type 0
-StickOn branch names name = (patch : Key) × (on : Key) × ArrangeSticks names branch patch on × (name ≡ on.name)
+abbrev pub AreBlockedBy : List Catch → List (List ℕ) → List ℕ → Type 0
+AreBlockedBy branch names name = (patch : Key) × (on : Key) × ArrangeIsBlocked names branch patch on × (name ≡ on.name)
 
 -- the patches of these names can be taken out of a branch
 abbrev pub CanGo : List Catch → List (List ℕ) → Type 0
@@ -45,7 +45,7 @@ AreGrown branch Done Stops names grown =
 -- the dependencies of these names in a branch: while they can't be moved to its front, the name of the patch that
 -- blocks them is added
 abbrev pub Needs : List Catch → List (List ℕ) → List (List ℕ) → Type 0
-Needs branch names needed = AreGrown branch (ComeToFront branch) (StickOn branch) names needed
+Needs branch names needed = AreGrown branch (CanMoveToFront branch) (AreBlockedBy branch) names needed
 
 -- the dependents of these names in a branch: while they can't be taken out, the name of a patch that depends on one
 -- of them is added

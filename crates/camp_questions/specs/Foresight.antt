@@ -10,7 +10,7 @@ use Rattle.camp_repo.specs.Steps.{Decision, step}
 use Rattle.camp_repo.specs.Wanting.{CallMayWant}
 use Rattle.camp_questions.specs.OpenConflicts.{AreOpenIn}
 use Rattle.camp_questions.specs.declared.foresight.Foreseen.{Foreseen}
-use Rattle.camp_questions.specs.declared.foresight.Standing.{Standing}
+use Rattle.camp_questions.specs.declared.foresight.BranchState.{BranchState}
 
 -- the branch that a call writes to; a question writes to none
 abbrev pub branch_written : Call → Option (List ℕ)
@@ -21,7 +21,7 @@ branch_written (call.Obliterate branch names) = Some branch
 branch_written other = None
 
 -- the state of a branch: the tree and the conflicts with which questions for them are answered
-pub record StandsIn (state : Contents) (standing : Standing) : Type 0 where
+pub record IsBranchState (state : Contents) (standing : BranchState) : Type 0 where
   pub tree : step state (call.Tree standing.branch) ≡ Answer (reply.Tree standing.tree)
   pub conflicts : step state (call.Conflicts standing.branch) ≡ Answer (reply.Conflicts standing.conflicts)
 
@@ -51,10 +51,10 @@ pub record OpensAndResolves (state next : Contents) (branch : List ℕ) (opened 
 -- then, and these of its conflicts are unresolved then and not now, or now and not then.
 pub record IsAcceptedSo (call : Call) (state next : Contents) (seen : Foreseen) : Type 0 where
   pub told : seen.reply ≡ reply.Done next.count
-  pub standing : Standing
+  pub standing : BranchState
   pub changed : seen.changed ≡ Some standing
   pub written : branch_written call ≡ Some standing.branch
-  pub stands : StandsIn next standing
+  pub stands : IsBranchState next standing
   pub changes : OpensAndResolves state next standing.branch standing.opened standing.resolved
 
 -- the foreseen result of a call at a state, given its decision: if it is accepted, its reply and the branch that it

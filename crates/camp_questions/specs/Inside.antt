@@ -1,7 +1,7 @@
 -- Definitions that only private functions use.
 pub mod Alongside
 pub mod ByPatch
-pub mod ByPlace
+pub mod ByIndex
 pub mod ChangedFiles
 pub mod Finding
 pub mod Foresight
@@ -11,7 +11,7 @@ pub mod Moving
 pub mod OpenPairs
 pub mod PartsOfOne
 pub mod Seeing
-pub mod StandingAside
+pub mod Independence
 pub mod TakingBack
-pub mod Telling
+pub mod Reporting
 pub mod Walking

@@ -29,13 +29,13 @@ use Rattle.camp_call.specs.declared.replies.Reply.TheVariants as reply
 use Rattle.camp_object.specs.declared.objects.Decided.TheVariants.{Next}
 use Rattle.camp_repo.specs.Lawful.{IsLawfulState}
 use Rattle.camp_repo.specs.Laws.{Has}
-use Rattle.camp_repo.specs.Objects.{replies_to, reply_of, state_behind}
+use Rattle.camp_repo.specs.Objects.{replies_to, reply_of, state_after_decision}
 use Rattle.camp_repo.specs.States.{Contents, stands}
 use Rattle.camp_repo.specs.Steps.{has_long_file, is_too_large, refused, step}
 use Rattle.camp_questions.specs.Along.{AreAlong}
-use Rattle.camp_questions.specs.Annotations.{Annotates, Known, behind_hunk, names_of_lines}
+use Rattle.camp_questions.specs.Annotations.{Annotates, Known, known_after_hunk, names_of_lines}
 use Rattle.camp_questions.specs.CommonLines.{brought_by}
-use Rattle.camp_questions.specs.Dependencies.{AreHeldIn, CanGo, ComeToFront, HeldBy, Needs, StickOn}
+use Rattle.camp_questions.specs.Dependencies.{AreHeldIn, CanGo, CanMoveToFront, HeldBy, Needs, AreBlockedBy}
 use Rattle.camp_questions.specs.Differences.{missing_in}
 use Rattle.camp_questions.specs.Foresight.{AreOpenThere, Foresees, pairs_without}
 use Rattle.camp_questions.specs.Graphs.{Drawn, IsGraph}
@@ -46,7 +46,7 @@ use Rattle.camp_questions.specs.Sides.{IsSideIn}
 use Rattle.camp_questions.specs.declared.annotations.Annotated.{Annotated}
 use Rattle.camp_questions.specs.declared.annotations.Annotated.TheVariants.{File}
 use Rattle.camp_questions.specs.declared.foresight.Foreseen.{Foreseen}
-use Rattle.camp_questions.specs.declared.foresight.Standing.{Standing}
+use Rattle.camp_questions.specs.declared.foresight.BranchState.{BranchState}
 use Rattle.camp_questions.specs.declared.graphs.Node.{Node}
 
 -- a pull without names that is accepted appends to a branch the names that it was missing; if it misses none, such a
@@ -81,7 +81,7 @@ pub record GrewFrom (Stops : List (List ℕ) → List ℕ → Type 0) (names gro
 abbrev pub NeedsComeFirst : Type 0
 NeedsComeFirst =
     (branch : List Catch) (names needed : List (List ℕ)) → first_lacked branch names ≡ None → Needs branch names needed →
-    ComeToFront branch needed × GrewFrom (StickOn branch) names needed
+    CanMoveToFront branch needed × GrewFrom (AreBlockedBy branch) names needed
 
 -- each list of names has exactly one list of dependencies
 abbrev pub NeedsAreDetermined : Type 0
@@ -98,7 +98,7 @@ pub record IsPlain (branch : List Catch) : Type 0 where
 abbrev pub NeedsAreLeast : Type 0
 NeedsAreLeast =
     (branch : List Catch) (names needed others : List (List ℕ)) → IsPlain branch → Needs branch names needed →
-    AreAmong names others → ComeToFront branch others → AreAmong needed others
+    AreAmong names others → CanMoveToFront branch others → AreAmong needed others
 
 -- of plain catches with headroom: the dependents of names are in every list that has these names and can be taken out
 -- of the branch
@@ -145,7 +145,7 @@ pub record LinesHaveNames : Type 0 where
   pub given_back :
       (name other : List ℕ) (key : Key) (hunk : Edit) (known : Known) →
       hunk.line - 1 + length hunk.old ≤ length known.names →
-      (behind_hunk other key (flipped hunk) (behind_hunk name key hunk known)).names ≡ known.names
+      (known_after_hunk other key (flipped hunk) (known_after_hunk name key hunk known)).names ≡ known.names
 
 -- a line is one that a hunk of a file adds, and the hunk is among the changes that a patch has in a branch
 pub record IsBrought (branch : List Catch) (path name line : List ℕ) : Type 0 where
@@ -302,14 +302,14 @@ AlongIsEnough =
 -- unresolved conflicts that the branch has after it and not before, and before it and not after, are the foreseen ones.
 pub record ComesAsForeseen (state : Contents) (asked : Call) (seen : Foreseen) : Type 0 where
   pub replied : reply_of (step state asked) ≡ seen.reply
-  pub stays : seen.changed ≡ None → state_behind state (step state asked) ≡ state
+  pub stays : seen.changed ≡ None → state_after_decision state (step state asked) ≡ state
   pub changed :
-      (standing : Standing) → seen.changed ≡ Some standing →
+      (standing : BranchState) → seen.changed ≡ Some standing →
       replies_to state (asked ∷ call.Tree standing.branch ∷ call.Conflicts standing.branch ∷ [])
       ≡ seen.reply ∷ reply.Tree standing.tree ∷ reply.Conflicts standing.conflicts ∷ []
   pub unresolved :
-      (standing : Standing) → seen.changed ≡ Some standing → (before after : List (List ℕ × List ℕ)) →
-      AreOpenThere state standing.branch before → AreOpen (state_behind state (step state asked)) standing.branch (Ok after) →
+      (standing : BranchState) → seen.changed ≡ Some standing → (before after : List (List ℕ × List ℕ)) →
+      AreOpenThere state standing.branch before → AreOpen (state_after_decision state (step state asked)) standing.branch (Ok after) →
       (standing.opened ≡ pairs_without before after) × (standing.resolved ≡ pairs_without after before)
 
 -- every call at every state does what was foreseen

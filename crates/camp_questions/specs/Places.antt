@@ -29,8 +29,8 @@ with_range places range =
     ++ fold union_of range (filter (touch range) places) ∷ filter (λ place. nat_lt range.to place.from) places
 
 -- the ranges of a file where versions of it differ
-abbrev pub places_of : Lines → List Version → List Range
-places_of lines versions = fold with_range [] (map (λ (version : Version). range_of lines version.lines) versions)
+abbrev pub differing_ranges : Lines → List Version → List Range
+differing_ranges lines versions = fold with_range [] (map (λ (version : Version). range_of lines version.lines) versions)
 
 -- a range is within another
 abbrev pub is_within : Range → Range → Bool
@@ -42,31 +42,31 @@ differs_within lines place version = is_within (range_of lines version.lines) pl
 
 -- the lines of a version at a range of the file: without those before the range, and without as many at its end as
 -- the file has after the range
-abbrev pub at_place : Lines → Range → Version → Version
-at_place lines place version =
+abbrev pub at_range : Lines → Range → Version → Version
+at_range lines place version =
     record {
       name = version.name;
       lines = slice_range version.lines place.from (length version.lines - (length lines - place.to));
     }
 
 -- a hunk of a file: the context lines since the hunk above, its own lines, and the lines of the versions there
-pub record Place : Type 0 where
+pub record MarkedHunk : Type 0 where
   pub before : Lines
   pub lines : Lines
   pub sides : List Version
 
 -- a hunk with the context lines from an earlier line on
-abbrev pub place_from : Lines → List Version → ℕ → Range → Place
-place_from lines versions at place =
+abbrev pub hunk_from : Lines → List Version → ℕ → Range → MarkedHunk
+hunk_from lines versions at place =
     record {
       before = slice_range lines at place.from;
       lines = slice_range lines place.from place.to;
-      sides = map (at_place lines place) (filter (differs_within lines place) versions);
+      sides = map (at_range lines place) (filter (differs_within lines place) versions);
     }
 
 -- a file as hunks, and the lines after the last one
 pub record File : Type 0 where
-  pub places : List Place
+  pub places : List MarkedHunk
   pub rest : Lines
 
 -- the hunks of a file from a line on, and the lines after the last one
@@ -74,8 +74,8 @@ abbrev pub file_from : Lines → List Version → ℕ → List Range → File
 file_from lines versions at [] = record { places = []; rest = drop at lines }
 file_from lines versions at (place ∷ places) =
     let behind = file_from lines versions place.to places in
-    record { places = place_from lines versions at place ∷ behind.places; rest = behind.rest }
+    record { places = hunk_from lines versions at place ∷ behind.places; rest = behind.rest }
 
 -- a file with the lines of its versions in the ranges where they differ
 abbrev pub with_marks : Lines → List Version → File
-with_marks lines versions = file_from lines versions zero (places_of lines versions)
+with_marks lines versions = file_from lines versions zero (differing_ranges lines versions)

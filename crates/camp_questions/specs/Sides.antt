@@ -18,14 +18,14 @@ use Rattle.camp_questions.specs.Answers.{AnswerOf, OfBranch, OfPatches}
 use Rattle.camp_questions.specs.Showing.{changes_in}
 
 -- the contexted patch that a conflictor has under an absolute label: its identity, or the member of its set
-abbrev pub told_by : Catch → Key → Option ContextedPatch
-told_by (Plain a) key = None
-told_by (Catch.Conflictor k) key =
+abbrev pub contexted_in : Catch → Key → Option ContextedPatch
+contexted_in (Plain a) key = None
+contexted_in (Catch.Conflictor k) key =
     if eq_by_cmp key_cmp key (context_key k.identity) then Some k.identity else get k.conflicts key
 
 -- none of the catches has a contexted patch under an absolute label
-abbrev pub TellNothing : List Catch → Key → Type 0
-TellNothing catches key = AllByRecursion (λ k. told_by k key ≡ None) catches
+abbrev pub HaveNoContexted : List Catch → Key → Type 0
+HaveNoContexted catches key = AllByRecursion (λ k. contexted_in k key ≡ None) catches
 
 -- a label in conflict as seen from the end of a branch: the contexted patch that the last catch k with this label
 -- has, with the inverses of the effects after k added; branch = before k behind
@@ -34,14 +34,14 @@ pub record IsSeen (branch : List Catch) (key : Key) (seen : ContextedPatch) : Ty
   pub k : Catch
   pub behind : List Catch
   pub parts : branch ≡ before ++ k ∷ behind
-  pub last : TellNothing behind key
+  pub last : HaveNoContexted behind key
   pub x : ContextedPatch
-  pub told : told_by k key ≡ Some x
+  pub told : contexted_in k key ≡ Some x
   pub added : AddsAll (inverse_all (flat_map effect_of behind)) x seen
 
 -- all labels in conflict of a branch, as seen from its end
 abbrev pub AreSeen : List Catch → ContextedPatches → Type 0
-AreSeen branch seen = (key : Key) → MatchOption (get seen key) (TellNothing branch key) (IsSeen branch key)
+AreSeen branch seen = (key : Key) → MatchOption (get seen key) (HaveNoContexted branch key) (IsSeen branch key)
 
 -- a primitive of a list has an absolute label
 abbrev pub has_key : List Named → Key → Bool
@@ -49,20 +49,20 @@ has_key s key = list_any (λ p. eq_by_cmp key_cmp key (key_of (label_of p))) s
 
 -- appends a contexted patch to changes: the inverses of the changes are added to it, and its context and patch come
 -- after them. True leaves the changes as they are.
-abbrev pub ComesUnless : Bool → List Named → ContextedPatch → List Named → Type 0
-ComesUnless true changes x next = next ≡ changes
-ComesUnless false changes x next =
+abbrev pub AppendsUnless : Bool → List Named → ContextedPatch → List Named → Type 0
+AppendsUnless true changes x next = next ≡ changes
+AppendsUnless false changes x next =
     (y : ContextedPatch) × AddsAll (inverse_all changes) x y × (next ≡ changes ++ whole y)
 
 -- appends a contexted patch to changes, unless they have its absolute label
-abbrev pub ComesBehind : List Named → ContextedPatch → List Named → Type 0
-ComesBehind changes x next = ComesUnless (has_key changes (context_key x)) changes x next
+abbrev pub AppendsNew : List Named → ContextedPatch → List Named → Type 0
+AppendsNew changes x next = AppendsUnless (has_key changes (context_key x)) changes x next
 
 -- contexted patches are appended to changes, one after the other
-abbrev pub ComeBehind : List Named → List ContextedPatch → List Named → Type 0
-ComeBehind changes [] side = side ≡ changes
-ComeBehind changes (x ∷ xs) side =
-    (next : List Named) × ComesBehind changes x next × ComeBehind next xs side
+abbrev pub AppendsEachNew : List Named → List ContextedPatch → List Named → Type 0
+AppendsEachNew changes [] side = side ≡ changes
+AppendsEachNew changes (x ∷ xs) side =
+    (next : List Named) × AppendsNew changes x next × AppendsEachNew next xs side
 
 -- the labels of a patch, in ascending place
 abbrev pub labels_of_patch : List ℕ → ContextedPatches → List ContextedPatch
@@ -70,7 +70,7 @@ labels_of_patch name seen = filter (λ x. bytes_eq name x.patch.name) (values se
 
 -- the side of a patch, given the labels in conflict of its branch: those of the patch, appended one after the other
 abbrev pub IsSideAmong : ContextedPatches → List ℕ → List Named → Type 0
-IsSideAmong seen name side = ComeBehind [] (labels_of_patch name seen) side
+IsSideAmong seen name side = AppendsEachNew [] (labels_of_patch name seen) side
 
 -- the side of a patch in a branch
 abbrev pub IsSideIn : List Catch → List ℕ → List Named → Type 0

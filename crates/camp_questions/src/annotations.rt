@@ -3,11 +3,11 @@ ghost use Rattle.std.specs.FinMap.{get};
 ghost use Rattle.std.specs.Prelude.{◌≡◌, IfOk};
 ghost use Rattle.camp_branch.specs.Branches.{LeadsTo};
 ghost use Rattle.camp_questions.specs.Annotations.{AreAnnotated, annotated, names_of_lines};
-ghost use Rattle.camp_questions.specs.Answers.{Tells};
+ghost use Rattle.camp_questions.specs.Answers.{ReportsAnswer};
 
 use crate::Unanswered;
 use crate::finding::branch_of;
-use crate::telling::told;
+use crate::reporting::answer_or_memory;
 use crate::walks::names_of_lines;
 use camp_base::{Line, Name, Path, Tree};
 use camp_catch::Catch;
@@ -30,10 +30,10 @@ pub enum Annotated {
 /// Returns each line of the file of a path with the name of the patch that added it. The lines are shared
 /// with the tree of the branch.
 pub fn annotate(state: &State, branch: &Name, path: &Path) -> Result<Annotated, Unanswered>
-    ensures exact { Tells (AreAnnotated state.now branch.now path.now) result }
+    ensures exact { ReportsAnswer (AreAnnotated state.now branch.now path.now) result }
 {
     let branch = branch_of(state, branch)?;
-    told(with_names(branch.catches(), branch.tree(), path))
+    answer_or_memory(with_names(branch.catches(), branch.tree(), path))
 }
 
 /// Makes the answer for a path, given the catches of a branch and the tree that they lead to.

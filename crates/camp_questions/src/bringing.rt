@@ -5,14 +5,14 @@ ghost use Rattle.camp_branch.specs.Branches.{is_among};
 ghost use Rattle.camp_branch.specs.Fields.{names_in};
 ghost use Rattle.camp_branch.specs.Pulling.{common_names};
 ghost use Rattle.camp_repo.specs.Steps.{wanted};
-ghost use Rattle.camp_questions.specs.Along.{ComesAlong, TellsAlong};
-ghost use Rattle.camp_questions.specs.Inside.Alongside.{DoNotStand, StandBehind};
+ghost use Rattle.camp_questions.specs.Along.{ComesAlong, ReportsAlong};
+ghost use Rattle.camp_questions.specs.Inside.Alongside.{AreNotFound, AreAfterCommon};
 
 use crate::Unanswered;
 use crate::dependencies::{in_order, stuck_to_front};
 use crate::finding::branch_of;
 use crate::keeping::keep_lacked;
-use crate::telling::told;
+use crate::reporting::answer_or_memory;
 use camp_base::Name;
 use camp_branch::{NameSet, set_of};
 use camp_catch::{Catch, Unmade, arrange};
@@ -24,7 +24,7 @@ use std::alloc::{AllocError, Global};
 /// and each patch that blocks them on their way to the front of what `from` has after the common patches. In
 /// the order of `from`.
 pub fn along(state: &State, from: &Name, to: &Name, names: &[Name]) -> Result<Names, Unanswered>
-    ensures exact { TellsAlong state.now from.now to.now names.now result }
+    ensures exact { ReportsAlong state.now from.now to.now names.now result }
 {
     let theirs = branch_of(state, from)?;
     let ours = branch_of(state, to)?;
@@ -35,7 +35,7 @@ pub fn along(state: &State, from: &Name, to: &Name, names: &[Name]) -> Result<Na
         return Err(Unanswered::Refused(Refusal::NoPatch(name)));
     }
     let behind = behind_common(theirs, ours)?;
-    told(brought(theirs, ours, &behind, names))
+    answer_or_memory(brought(theirs, ours, &behind, names))
 }
 
 /// Returns the names to pull, given the catches of `from` after the common patches.
@@ -45,7 +45,7 @@ fn brought(
     behind: &[Shared<Catch>],
     names: &[Name],
 ) -> Result<Names, AllocError>
-    requires { StandBehind from.now to.now behind.now }
+    requires { AreAfterCommon from.now to.now behind.now }
     ensures { IfOk result (ComesAlong from.now to.now names.now) }
 {
     let alloc = from.catches().allocator();
@@ -56,7 +56,7 @@ fn brought(
 
 /// Returns the catches of a branch after those of the patches that both branches have.
 fn behind_common(from: &Branch, to: &Branch) -> Result<Vec<Shared<Catch>>, Unanswered>
-    ensures { MatchResult result (λ behind. StandBehind from.now to.now behind.items) (DoNotStand from.now to.now) }
+    ensures { MatchResult result (λ behind. AreAfterCommon from.now to.now behind.items) (AreNotFound from.now to.now) }
 {
     let common = common(from, to)?;
     let catches = from.catches().to_vec()?;

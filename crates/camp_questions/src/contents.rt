@@ -1,12 +1,12 @@
 //! The contents of a repository and its branches.
 ghost use Rattle.std.specs.FinMap.{get};
 ghost use Rattle.std.specs.Prelude.{◌≡◌, IfOk};
-ghost use Rattle.camp_questions.specs.Answers.{Tells};
+ghost use Rattle.camp_questions.specs.Answers.{ReportsAnswer};
 ghost use Rattle.camp_questions.specs.Files.{IsFile, branch_names};
 
 use crate::Unanswered;
 use crate::finding::branch_of;
-use crate::telling::told;
+use crate::reporting::answer_or_memory;
 use camp_base::{Line, Name, Path, Tree};
 use camp_repo::{Names, State};
 use camp_share::{Share, SharedList};
@@ -27,10 +27,10 @@ pub fn file(
     branch: &Name,
     path: &Path,
 ) -> Result<Option<SharedList<Line>>, Unanswered>
-    ensures exact { Tells (IsFile state.now branch.now path.now) result }
+    ensures exact { ReportsAnswer (IsFile state.now branch.now path.now) result }
 {
     let branch = branch_of(state, branch)?;
-    told(file_at(branch.tree(), path))
+    answer_or_memory(file_at(branch.tree(), path))
 }
 
 /// Returns the lines of the file of a path, shared with the tree.

@@ -1,7 +1,7 @@
 //! Dependencies and dependents of patches in a branch.
 ghost use Rattle.std.specs.Prelude.{◌≡◌, IfOk};
 ghost use Rattle.camp_branch.specs.Fields.{names_in};
-ghost use Rattle.camp_questions.specs.Answers.{Tells};
+ghost use Rattle.camp_questions.specs.Answers.{ReportsAnswer};
 ghost use Rattle.camp_questions.specs.Dependencies.{AreHeldBy, AreNeeded, HeldBy, Needs, in_order};
 ghost use Rattle.camp_questions.specs.Inside.Growing.{GrowsToFront};
 
@@ -9,7 +9,7 @@ use crate::Unanswered;
 use crate::fast::{by_patch, held_in, taken_back};
 use crate::finding::branch_with;
 use crate::keeping::keep_named;
-use crate::telling::told;
+use crate::reporting::answer_or_memory;
 use camp_base::Name;
 use camp_branch::{NameSet, set_of};
 use camp_catch::{Catch, Unmade, arrange};
@@ -21,10 +21,10 @@ use std::alloc::{AllocError, Global};
 /// on their way to its front. In the order of the branch. A pull into another branch may need others, which
 /// `along` returns.
 pub fn needs(state: &State, branch: &Name, names: &[Name]) -> Result<Names, Unanswered>
-    ensures exact { Tells (AreNeeded state.now branch.now names.now) result }
+    ensures exact { ReportsAnswer (AreNeeded state.now branch.now names.now) result }
 {
     let branch = branch_with(state, branch, names)?;
-    told(needed_in(branch, names))
+    answer_or_memory(needed_in(branch, names))
 }
 
 /// Returns the dependencies of names of a branch.
@@ -39,10 +39,10 @@ pub(crate) fn needed_in(branch: &Branch, names: &[Name]) -> Result<Names, AllocE
 /// Returns the names that must be taken out of a branch together with these: the names themselves, and each
 /// patch that depends on one of them. In the order of the branch.
 pub fn held_by(state: &State, branch: &Name, names: &[Name]) -> Result<Names, Unanswered>
-    ensures exact { Tells (AreHeldBy state.now branch.now names.now) result }
+    ensures exact { ReportsAnswer (AreHeldBy state.now branch.now names.now) result }
 {
     let branch = branch_with(state, branch, names)?;
-    told(held_there(branch, names))
+    answer_or_memory(held_there(branch, names))
 }
 
 /// Returns the dependents of names of a branch.

@@ -1,12 +1,12 @@
 //! The patches that one branch has and another lacks.
 ghost use Rattle.std.specs.Prelude.{◌≡◌, IfOk};
-ghost use Rattle.camp_questions.specs.Answers.{Tells};
+ghost use Rattle.camp_questions.specs.Answers.{ReportsAnswer};
 ghost use Rattle.camp_questions.specs.Differences.{IsMissing, missing_in};
 
 use crate::Unanswered;
 use crate::finding::branch_of;
 use crate::keeping::keep_lacked;
-use crate::telling::told;
+use crate::reporting::answer_or_memory;
 use camp_base::Name;
 use camp_repo::{Branch, Names, State};
 use std::alloc::AllocError;
@@ -14,11 +14,11 @@ use std::alloc::AllocError;
 /// Returns the names of the patches that the branch `from` has and `to` lacks, in the order of `from`; none
 /// if the two are one. A pull without names brings these, unless it is refused.
 pub fn missing(state: &State, from: &Name, to: &Name) -> Result<Names, Unanswered>
-    ensures exact { Tells (IsMissing state.now from.now to.now) result }
+    ensures exact { ReportsAnswer (IsMissing state.now from.now to.now) result }
 {
     let theirs = branch_of(state, from)?;
     let ours = branch_of(state, to)?;
-    told(missing_in(ours, theirs))
+    answer_or_memory(missing_in(ours, theirs))
 }
 
 /// Returns the names of the patches that one branch lacks, in the order of the other.

@@ -14,12 +14,12 @@ pub struct Foreseen {
     /// The reply that it would get.
     pub reply: Reply,
     /// If it would be accepted: the branch that it would write to, in its state after the call.
-    pub changed: Option<Standing>,
+    pub changed: Option<BranchState>,
 }
 
 /// The state of a branch after a call, and what the call would change about its unresolved conflicts.
 #[derive(Drop)]
-pub struct Standing {
+pub struct BranchState {
     pub branch: Name,
     pub tree: Tree,
     pub conflicts: Conflicts,
@@ -63,7 +63,7 @@ fn written(state: &State, next: &State, call: &Call) -> Result<Foreseen, AllocEr
     let tree = branch.tree().try_clone()?;
     let pairs = branch.conflicts()?;
     let (opened, resolved) = opened_and_resolved(alloc, state, next, &name)?;
-    let standing = Standing {
+    let standing = BranchState {
         branch: name,
         tree,
         conflicts: Conflicts::new(pairs),

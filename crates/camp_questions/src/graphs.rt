@@ -1,13 +1,13 @@
 //! The graph of a branch.
 ghost use Rattle.std.specs.Prelude.{◌≡◌, IfOk};
-ghost use Rattle.camp_questions.specs.Answers.{Tells};
+ghost use Rattle.camp_questions.specs.Answers.{ReportsAnswer};
 ghost use Rattle.camp_questions.specs.Graphs.{IsGraph, IsGraphOf};
 
 use crate::Unanswered;
 use crate::finding::branch_of;
 use crate::needed::all_needed;
 use crate::nodes::nodes;
-use crate::telling::told;
+use crate::reporting::answer_or_memory;
 use camp_base::Name;
 use camp_repo::{Branch, Conflicts, Names, State};
 use std::alloc::AllocError;
@@ -64,10 +64,10 @@ impl PatchGraph {
 /// Returns the patches of a branch in its order, their direct dependencies, and the pairs that are in
 /// conflict.
 pub fn graph(state: &State, branch: &Name) -> Result<PatchGraph, Unanswered>
-    ensures exact { Tells (IsGraphOf state.now branch.now) result }
+    ensures exact { ReportsAnswer (IsGraphOf state.now branch.now) result }
 {
     let branch = branch_of(state, branch)?;
-    told(graph_of(branch))
+    answer_or_memory(graph_of(branch))
 }
 
 pub(crate) fn graph_of(branch: &Branch) -> Result<PatchGraph, AllocError>

@@ -24,9 +24,9 @@ mod passing;
 mod pictures;
 mod places;
 mod related;
+mod reporting;
 mod showing;
 mod sides;
-mod telling;
 mod walks;
 
 pub use annotations::{Annotated, annotate};
@@ -35,7 +35,7 @@ pub use contents::{branches, file};
 pub use dependencies::{held_by, needs};
 pub use differences::missing;
 pub use faults::Unanswered;
-pub use foresight::{Foreseen, Standing, what_if};
+pub use foresight::{BranchState, Foreseen, what_if};
 pub use graph_texts::graph_text;
 pub use graphs::{Node, PatchGraph, graph};
 pub use laws::{
@@ -45,7 +45,7 @@ pub use laws::{
     needs_can_be_pulled, needs_come_first, order_keeps_names, parts_are_reached, recorded_is_shown,
     sides_apply, sides_are_accepted,
 };
-pub use marking::{Marked, MarkedFile, Place, Version, marks};
+pub use marking::{Marked, MarkedFile, MarkedHunk, Version, marks};
 pub use open_conflicts::open_pairs;
 pub use pictures::{Picture, picture_of};
 pub use showing::{Shown, show};

@@ -3,7 +3,7 @@ ghost use Rattle.std.specs.Prelude.{◌≡◌, ◌++◌, [], ℕ, List, IfOk, On
 ghost use Rattle.std.specs.FinMap.{get};
 ghost use Rattle.camp_branch.specs.Branches.{LeadsTo};
 ghost use Rattle.camp_ctx.specs.Contexts.{AreValid, ContextedPatches};
-ghost use Rattle.camp_questions.specs.Answers.{TellsOrWants};
+ghost use Rattle.camp_questions.specs.Answers.{ReportsAnswerOrMemory};
 ghost use Rattle.camp_questions.specs.Marks.{AreMarked, AreVersions, MakesVersion, MarksAt, names_in_pairs, with_made};
 ghost use Rattle.camp_questions.specs.OpenConflicts.{AreOpenAmong};
 ghost use Rattle.camp_questions.specs.Sides.{AreSeen};
@@ -14,8 +14,8 @@ use crate::dependencies::in_order;
 use crate::finding::branch_of;
 use crate::open_conflicts::open_among;
 use crate::places::with_marks;
+use crate::reporting::answer_or_memory;
 use crate::sides::{labels_seen, side_among};
-use crate::telling::told;
 use camp_base::{Apply, Line, Name, Path, Tree};
 use camp_branch::set_of;
 use camp_ctx::CtxSet;
@@ -36,7 +36,7 @@ pub enum Marked {
 /// A file as hunks, and the lines after the last one.
 #[derive(Drop)]
 pub struct MarkedFile {
-    pub(crate) places: Vec<Place>,
+    pub(crate) places: Vec<MarkedHunk>,
     pub(crate) rest: SharedList<Line>,
 }
 
@@ -50,7 +50,7 @@ impl Model for MarkedFile {
 
 impl MarkedFile {
     /// Returns the hunks, from the top.
-    pub fn places(&self) -> &[Place]
+    pub fn places(&self) -> &[MarkedHunk]
         ensures value { result.now ≡ self.now.places }
     {
         &self.places
@@ -66,21 +66,21 @@ impl MarkedFile {
 
 /// A hunk: its lines, the context lines since the hunk above, and the lines of each side there.
 #[derive(Drop)]
-pub struct Place {
+pub struct MarkedHunk {
     pub(crate) before: SharedList<Line>,
     pub(crate) lines: SharedList<Line>,
     pub(crate) sides: Vec<Version>,
 }
 
-impl Model for Place {
-    ghost use Rattle.camp_questions.specs.Places.{Place};
+impl Model for MarkedHunk {
+    ghost use Rattle.camp_questions.specs.Places.{MarkedHunk};
 
-    ghost Value = { Place };
+    ghost Value = { MarkedHunk };
 
     ghost view = { λ place. record { before = place.before; lines = place.lines; sides = place.sides.items } };
 }
 
-impl Place {
+impl MarkedHunk {
     /// Returns the context lines since the hunk above.
     pub fn before(&self) -> &SharedList<Line>
         ensures value { result.now ≡ self.now.before }
@@ -112,10 +112,10 @@ pub struct Version {
 
 /// Returns a file of a branch with the unresolved sides of its conflicts.
 pub fn marks(state: &State, branch: &Name, path: &Path) -> Result<Marked, Unanswered>
-    ensures exact { TellsOrWants (AreMarked state.now branch.now path.now) result }
+    ensures exact { ReportsAnswerOrMemory (AreMarked state.now branch.now path.now) result }
 {
     let branch = branch_of(state, branch)?;
-    told(marks_at(branch, branch.tree(), path))
+    answer_or_memory(marks_at(branch, branch.tree(), path))
 }
 
 /// MakesVersion the answer for a path, given a branch and its tree.

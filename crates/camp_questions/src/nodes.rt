@@ -3,7 +3,7 @@ ghost use Rattle.std.specs.Prelude.{◌≡◌, ◌<◌, ◌≤◌, ◌&&◌, ℕ
 ghost use Rattle.std.specs.List.{AllByRecursion};
 ghost use Rattle.camp_branch.specs.Branches.{AreDistinct};
 ghost use Rattle.camp_questions.specs.Inside.Graphing.{needing};
-ghost use Rattle.camp_questions.specs.Inside.ByPlace.{AreSettled, EndInPlace, name_at_index, needs_place, node_in, indexes_below};
+ghost use Rattle.camp_questions.specs.Inside.ByIndex.{AreSettled, EndAtOwnIndex, name_at_index, needs_index, node_in, indexes_below};
 ghost use Rattle.camp_questions.specs.declared.needed.Needed.{Needed as AnyNeeded};
 
 use crate::graphs::Node;
@@ -33,7 +33,7 @@ pub(crate) fn nodes(alloc: Global, names: &[Name], all: &[Needed]) -> Result<Vec
 
 /// True if no patch has a mark beyond its own index.
 fn end_in_place(all: &[Needed]) -> bool
-    ensures { IsTrue result → EndInPlace all.now }
+    ensures { IsTrue result → EndAtOwnIndex all.now }
 {
     for at in 0..all.len() {
         if all[at].needs.len() > at + 1 {
@@ -56,7 +56,7 @@ fn direct_needs(
 ) -> Result<Names, AllocError>
     requires within { at < length all.now }
     requires is { patch.now ≡ get_or all.now at patch.now }
-    requires ends { IsTrue in_place → EndInPlace all.now }
+    requires ends { IsTrue in_place → EndAtOwnIndex all.now }
     requires named { map (λ (patch : AnyNeeded). patch.name) all.now ≡ names.now }
     requires distinct { AreDistinct names.now }
     ensures { IfOk result (λ needs.
@@ -79,7 +79,7 @@ fn direct_needs(
 /// Returns the index after the last dependency of the patch at an index, of those below `count`.
 fn end_of_needed(marks: &[bool], at: usize, count: usize) -> usize
     ensures within { result ≤ count }
-    ensures none { (place : ℕ) → result ≤ place → place < count → needs_place marks.now at place ≡ false }
+    ensures none { (place : ℕ) → result ≤ place → place < count → needs_index marks.now at place ≡ false }
 {
     let mut end = marks.len().min(count);
     while end > 0 {
@@ -113,7 +113,7 @@ fn needed_places(
     at: usize,
     count: usize,
 ) -> Result<Vec<usize>, AllocError>
-    ensures { IfOk result (λ places. places.items ≡ filter (needs_place marks.now at) (indexes_below count)) }
+    ensures { IfOk result (λ places. places.items ≡ filter (needs_index marks.now at) (indexes_below count)) }
 {
     let mut places = Vec::new(alloc);
     for place in 0..count {
@@ -126,7 +126,7 @@ fn needed_places(
 
 /// True if the patch at an index depends on the one at another.
 fn needs(marks: &[bool], at: usize, place: usize) -> bool
-    ensures { result ≡ needs_place marks.now at place }
+    ensures { result ≡ needs_index marks.now at place }
 {
     place != at && place < marks.len() && marks[place]
 }
@@ -135,7 +135,7 @@ fn needs(marks: &[bool], at: usize, place: usize) -> bool
 /// indexes, removes none.
 fn leave_out(places: &mut Vec<usize>, marks: &[bool], at: usize)
     requires { AllByRecursion (λ place. get_or places.old.items 0 0 ≤ place) places.old.items }
-    ensures { places.new.items ≡ filter (λ place. not (needs_place marks.now at place)) places.old.items }
+    ensures { places.new.items ≡ filter (λ place. not (needs_index marks.now at place)) places.old.items }
 {
     if places.is_empty() {
         return;

@@ -2,14 +2,14 @@
 ghost use Rattle.std.specs.Prelude.{◌≡◌, ◌++◌, IfOk, OnOk};
 ghost use Rattle.std.specs.List.{flat_map};
 ghost use Rattle.camp_branch.specs.Inside.Collecting.{pair_of};
-ghost use Rattle.camp_questions.specs.Answers.{TellsOrWants};
+ghost use Rattle.camp_questions.specs.Answers.{ReportsAnswerOrMemory};
 ghost use Rattle.camp_questions.specs.Inside.OpenPairs.{open_at, open_in, open_with, open_within};
 ghost use Rattle.camp_questions.specs.OpenConflicts.{AreOpen, AreOpenAmong, AreOpenIn, is_open, takes_back};
 
 use crate::Unanswered;
 use crate::finding::branch_of;
+use crate::reporting::answer_or_memory;
 use crate::sides::labels_seen;
-use crate::telling::told;
 use camp_base::Name;
 use camp_catch::Catch;
 use camp_ctx::{Contexted, CtxSet};
@@ -22,10 +22,10 @@ use std::cmp::Ordering;
 /// Returns the pairs of patches that are in an unresolved conflict: each once, the lesser name first, in
 /// ascending order.
 pub fn open_pairs(state: &State, branch: &Name) -> Result<Conflicts, Unanswered>
-    ensures exact { TellsOrWants (AreOpen state.now branch.now) result }
+    ensures exact { ReportsAnswerOrMemory (AreOpen state.now branch.now) result }
 {
     let branch = branch_of(state, branch)?;
-    told(open_in(branch))
+    answer_or_memory(open_in(branch))
 }
 
 /// Returns the unresolved conflicts of a branch.

@@ -3,7 +3,7 @@ ghost use Rattle.std.specs.Prelude.{◌≡◌, ◌++◌, ◌∷◌, ◌&&◌, []
 ghost use Rattle.std.specs.List.{list_any};
 ghost use Rattle.camp_branch.specs.Branches.{is_among};
 ghost use Rattle.camp_branch.specs.Fields.{has_name, names_in};
-ghost use Rattle.camp_questions.specs.Answers.{TellsOrWants};
+ghost use Rattle.camp_questions.specs.Answers.{ReportsAnswerOrMemory};
 ghost use Rattle.camp_questions.specs.Graphs.{Drawn, IsGraph};
 ghost use Rattle.camp_questions.specs.OpenConflicts.{AreOpenIn};
 ghost use Rattle.camp_questions.specs.Pictures.{IsPictured, drawn_about, hangs_on, kept_node, part_with, whole_picture, with_needing, with_needing_one, with_needs, with_needs_of};
@@ -13,7 +13,7 @@ use crate::graphs::graph_of;
 use crate::keeping::keep_named;
 use crate::open_conflicts::open_in;
 use crate::related::part_of_one;
-use crate::telling::told;
+use crate::reporting::answer_or_memory;
 use crate::{Node, PatchGraph, Unanswered};
 use camp_base::Name;
 use camp_branch::{NameSet, set_of};
@@ -68,10 +68,10 @@ impl Picture {
 /// Returns the graph of a branch. If patches are named, it has these, their dependencies and their
 /// dependents.
 pub fn picture_of(state: &State, branch: &Name, names: &[Name]) -> Result<Picture, Unanswered>
-    ensures exact { TellsOrWants (IsPictured state.now branch.now names.now) result }
+    ensures exact { ReportsAnswerOrMemory (IsPictured state.now branch.now names.now) result }
 {
     let branch = branch_with(state, branch, names)?;
-    told(picture_in(branch, names))
+    answer_or_memory(picture_in(branch, names))
 }
 
 fn picture_in(branch: &Branch, names: &[Name]) -> Result<Picture, AllocError>

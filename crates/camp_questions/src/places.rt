@@ -1,10 +1,10 @@
 //! The hunks of a file with marks: the ranges of lines where versions of it differ.
 ghost use Rattle.std.specs.Prelude.{◌≡◌, [], ◌∷◌, ◌++◌, map, filter, fold, if◌then◌else◌, IfOk, OnOk};
 ghost use Rattle.std.specs.List.{slice_range};
-ghost use Rattle.camp_questions.specs.Places.{at_place, differs_within, file_from, is_within, union_of, place_from, range_of, touch, with_marks, with_range};
+ghost use Rattle.camp_questions.specs.Places.{at_range, differs_within, file_from, is_within, union_of, hunk_from, range_of, touch, with_marks, with_range};
 
 use crate::common_lines::{common_end, common_front};
-use crate::marking::{MarkedFile, Place, Version};
+use crate::marking::{MarkedFile, MarkedHunk, Version};
 use camp_base::Line;
 use camp_share::SharedList;
 use std::alloc::{AllocError, Global};
@@ -25,7 +25,7 @@ pub(crate) fn with_marks(
 {
     let alloc = lines.allocator();
     let ranges = ranges_of(alloc, lines, versions)?;
-    let found = places_of(alloc, &ranges)?;
+    let found = merged_ranges(alloc, &ranges)?;
     file_with(lines, versions, &ranges, &found)
 }
 
@@ -42,7 +42,7 @@ fn file_with(
     let mut places = Vec::with_capacity(lines.allocator(), found.len())?;
     let mut at = 0;
     for place in found {
-        let next = place_from(lines, versions, ranges, at, *place)?;
+        let next = hunk_from(lines, versions, ranges, at, *place)?;
         places.push(next)?;
         at = place.to;
     }
@@ -81,7 +81,7 @@ fn range_of(lines: &[Line], others: &[Line]) -> Range
 }
 
 /// Returns the ranges with those joined that overlap or touch.
-fn places_of(alloc: Global, ranges: &[Range]) -> Result<Vec<Range>, AllocError>
+fn merged_ranges(alloc: Global, ranges: &[Range]) -> Result<Vec<Range>, AllocError>
     ensures { IfOk result (λ places. places.items ≡ fold with_range [] ranges.now) }
 {
     let mut places = Vec::new(alloc);
@@ -136,20 +136,20 @@ fn join(range: Range, other: Range) -> Range
 }
 
 /// Makes a hunk, with the context lines from an earlier line on.
-fn place_from(
+fn hunk_from(
     lines: &SharedList<Line>,
     versions: &[Version],
     ranges: &[Range],
     at: usize,
     place: Range,
-) -> Result<Place, AllocError>
+) -> Result<MarkedHunk, AllocError>
     requires { ranges.now ≡ map (λ version. range_of lines.now version.lines) versions.now }
-    ensures { IfOk result (λ next. next ≡ place_from lines.now versions.now at place) }
+    ensures { IfOk result (λ next. next ≡ hunk_from lines.now versions.now at place) }
 {
     let before = part(lines, at, place.from)?;
     let within = part(lines, place.from, place.to)?;
     let sides = sides_at(lines, versions, ranges, place)?;
-    Ok(Place {
+    Ok(MarkedHunk {
         before,
         lines: within,
         sides,
@@ -164,7 +164,7 @@ fn sides_at(
     place: Range,
 ) -> Result<Vec<Version>, AllocError>
     requires { ranges.now ≡ map (λ version. range_of lines.now version.lines) versions.now }
-    ensures { IfOk result (λ sides. sides.items ≡ map (at_place lines.now place) (filter (differs_within lines.now place) versions.now)) }
+    ensures { IfOk result (λ sides. sides.items ≡ map (at_range lines.now place) (filter (differs_within lines.now place) versions.now)) }
 {
     let mut sides = Vec::new(lines.allocator());
     for at in 0..versions.len() {
@@ -183,12 +183,12 @@ fn push_within(
     version: &Version,
 ) -> Result<(), AllocError>
     ensures { OnOk result (sides.new.items ≡
-        (if is_within range.now place then sides.old.items ++ at_place lines.now place version.now ∷ [] else sides.old.items)) }
+        (if is_within range.now place then sides.old.items ++ at_range lines.now place version.now ∷ [] else sides.old.items)) }
 {
     if !is_within(*range, place) {
         return Ok(());
     }
-    let side = at_place(lines, place, version)?;
+    let side = at_range(lines, place, version)?;
     sides.push(side)?;
     Ok(())
 }
@@ -201,12 +201,12 @@ fn is_within(range: Range, place: Range) -> bool
 }
 
 /// Returns the lines of a version at a hunk.
-fn at_place(
+fn at_range(
     lines: &SharedList<Line>,
     place: Range,
     version: &Version,
 ) -> Result<Version, AllocError>
-    ensures { IfOk result (λ side. side ≡ at_place lines.now place version.now) }
+    ensures { IfOk result (λ side. side ≡ at_range lines.now place version.now) }
 {
     let behind = lines.len().saturating_sub(place.to);
     let to = version.lines.len().saturating_sub(behind);

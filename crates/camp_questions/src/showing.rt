@@ -1,12 +1,12 @@
 //! A patch as it is in a branch.
 ghost use Rattle.std.specs.Prelude.{◌≡◌, ◌++◌, [], ◌∷◌, IfOk, OnOk};
 ghost use Rattle.camp_repo.specs.Steps.{catches_named};
-ghost use Rattle.camp_questions.specs.Answers.{Tells};
+ghost use Rattle.camp_questions.specs.Answers.{ReportsAnswer};
 ghost use Rattle.camp_questions.specs.Showing.{IsShown, changes_in, changes_of, patch_in};
 
 use crate::Unanswered;
 use crate::finding::branch_with;
-use crate::telling::told;
+use crate::reporting::answer_or_memory;
 use camp_base::Name;
 use camp_catch::Catch;
 use camp_prim::{Named, Primitive};
@@ -61,10 +61,10 @@ impl Shown {
 
 /// Returns a patch as it is in a branch. Its catches and the lines of its changes are shared with the branch.
 pub fn show(state: &State, branch: &Name, name: &Name) -> Result<Shown, Unanswered>
-    ensures exact { Tells (IsShown state.now branch.now name.now) result }
+    ensures exact { ReportsAnswer (IsShown state.now branch.now name.now) result }
 {
     let branch = branch_with(state, branch, slice::from_ref(name))?;
-    told(patch_in(branch.catches(), name))
+    answer_or_memory(patch_in(branch.catches(), name))
 }
 
 /// Returns the patch of a name as it is in a list.

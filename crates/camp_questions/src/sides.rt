@@ -7,16 +7,16 @@ ghost use Rattle.camp_prim.specs.Labels.{key_cmp, key_of, label_of};
 ghost use Rattle.camp_prim.specs.declared.labels.Key.{Key as AnyKey};
 ghost use Rattle.camp_prim.specs.declared.named.Named.{Named as AnyNamed};
 ghost use Rattle.camp_seq.specs.Running.{inverse_all};
-ghost use Rattle.camp_questions.specs.Answers.{TellsOrWants};
+ghost use Rattle.camp_questions.specs.Answers.{ReportsAnswerOrMemory};
 ghost use Rattle.camp_questions.specs.Inside.Seeing.{AllSeenToo, ComesIfNamed, SeenToo};
 ghost use Rattle.camp_questions.specs.Showing.{changes_in};
-ghost use Rattle.camp_questions.specs.Sides.{AreSeen, ComesBehind, IsSide, IsSideAmong, IsSideIn, has_key, told_by};
+ghost use Rattle.camp_questions.specs.Sides.{AreSeen, AppendsNew, IsSide, IsSideAmong, IsSideIn, has_key, contexted_in};
 
 use crate::Unanswered;
 use crate::finding::branch_with;
 use crate::passing::seen_before;
+use crate::reporting::answer_or_memory;
 use crate::showing::changes_in;
-use crate::telling::told;
 use camp_base::Name;
 use camp_catch::{Catch, Conflictor};
 use camp_ctx::{Contexted, CtxSet};
@@ -61,10 +61,10 @@ impl Said {
 
 /// Returns the side of a patch in a branch; empty if the patch is in no conflict.
 pub fn side(state: &State, branch: &Name, name: &Name) -> Result<Said, Unanswered>
-    ensures exact { TellsOrWants (IsSide state.now branch.now name.now) result }
+    ensures exact { ReportsAnswerOrMemory (IsSide state.now branch.now name.now) result }
 {
     let branch = branch_with(state, branch, slice::from_ref(name))?;
-    told(said_in(branch, name))
+    answer_or_memory(said_in(branch, name))
 }
 
 /// Makes the side of a patch that the branch has.
@@ -104,7 +104,7 @@ pub(crate) fn labels_seen(branch: &Branch) -> Result<CtxSet, AllocError>
 /// Returns the labels in conflict that were gathered so far, with those of one more catch.
 fn with_told(alloc: Global, seen: CtxSet, catch: &Catch, undone: &Seq) -> Result<CtxSet, AllocError>
     ensures { IfOk result (λ next. (key : AnyKey) →
-        SeenToo undone.now (get seen key) (told_by catch.now key) (get next key)) }
+        SeenToo undone.now (get seen key) (contexted_in catch.now key) (get next key)) }
 {
     match catch {
         Catch::Plain(_) => Ok(seen),
@@ -119,7 +119,7 @@ fn with_conflictor(
     undone: &Seq,
 ) -> Result<CtxSet, AllocError>
     ensures { IfOk result (λ next. (key : AnyKey) →
-        SeenToo undone.now (get was key) (told_by (catch.Conflictor k.now) key) (get next key)) }
+        SeenToo undone.now (get was key) (contexted_in (catch.Conflictor k.now) key) (get next key)) }
 {
     let mut seen = with_label(alloc, was, &k.identity, undone)?;
     for index in 0..k.conflicts.len() {
@@ -187,7 +187,7 @@ fn append_named(side: &mut Seq, name: &Name, x: &Contexted) -> Result<(), AllocE
 
 /// Appends a contexted patch to changes, unless its label is there already.
 fn append_label(side: &mut Seq, x: &Contexted) -> Result<(), AllocError>
-    ensures { OnOk result (ComesBehind side.old x.now side.new) }
+    ensures { OnOk result (AppendsNew side.old x.now side.new) }
 {
     if has_key(side.items(), &x.key()) {
         return Ok(());

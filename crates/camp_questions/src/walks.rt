@@ -4,8 +4,8 @@ ghost use Rattle.std.specs.FinMap.{get, insert};
 ghost use Rattle.camp_base.specs.Trees.{Files};
 ghost use Rattle.camp_prim.specs.Labels.{key_of, label_of};
 ghost use Rattle.camp_branch.specs.Branches.{LeadsTo};
-ghost use Rattle.camp_questions.specs.Annotations.{behind_all, behind_change, behind_hunk, names_coming, names_of_lines, nothing_known, own_names};
-ghost use Rattle.camp_questions.specs.Inside.Walking.{AppliesOn, FollowsOn, StandsWithin, kept_in, known_in};
+ghost use Rattle.camp_questions.specs.Annotations.{known_after_all, known_after_change, known_after_hunk, names_coming, names_of_lines, nothing_known, own_names};
+ghost use Rattle.camp_questions.specs.Inside.Walking.{AppliesOn, FollowsOn, LiesWithin, kept_in, known_in};
 
 use crate::common_lines::{common_end, common_front};
 use camp_base::{Name, Path};
@@ -25,7 +25,7 @@ pub(crate) fn names_of_lines(
 {
     let mut walk = Walk::new(catches.allocator());
     for catch in catches.iter() {
-        walk.behind_all(path, catch.name(), catch.effect())?;
+        walk.after_effect(path, catch.name(), catch.effect())?;
     }
     Ok(walk.names)
 }
@@ -49,25 +49,25 @@ impl Walk {
     }
 
     /// Advances the state past an effect of a patch of this name.
-    fn behind_all(&mut self, path: &Path, name: &Name, effect: &[Named]) -> Result<(), AllocError>
+    fn after_effect(&mut self, path: &Path, name: &Name, effect: &[Named]) -> Result<(), AllocError>
         requires { FollowsOn path.now effect.now (known_in self.old) }
-        ensures { OnOk result (known_in self.new ≡ behind_all path.now name.now effect.now (known_in self.old)) }
+        ensures { OnOk result (known_in self.new ≡ known_after_all path.now name.now effect.now (known_in self.old)) }
     {
         for p in effect {
-            self.behind_change(path, name, p)?;
+            self.after_change(path, name, p)?;
         }
         Ok(())
     }
 
     // Advances the state past a primitive: only hunks of the file change it.
-    fn behind_change(&mut self, path: &Path, name: &Name, p: &Named) -> Result<(), AllocError>
+    fn after_change(&mut self, path: &Path, name: &Name, p: &Named) -> Result<(), AllocError>
         requires { AppliesOn path.now p.now.prim (known_in self.old) }
         ensures { OnOk result (known_in self.new ≡
-            behind_change path.now name.now (key_of (label_of p.now)) p.now.prim (known_in self.old)) }
+            known_after_change path.now name.now (key_of (label_of p.now)) p.now.prim (known_in self.old)) }
     {
         match &p.prim {
             Primitive::Hunk(hunk) if hunk.path() == path => {
-                self.behind_hunk(name, p.label().key(), hunk)
+                self.after_hunk(name, p.label().key(), hunk)
             }
             _ => Ok(()),
         }
@@ -75,9 +75,9 @@ impl Walk {
 
     // Advances the state past a hunk of the file. Costs time for the hunk's own lines, a search among the
     // hunks before it, and a reference count for each chunk of the list.
-    fn behind_hunk(&mut self, name: &Name, key: Key, hunk: &Hunk) -> Result<(), AllocError>
-        requires { StandsWithin hunk.now (known_in self.old) }
-        ensures { OnOk result (known_in self.new ≡ behind_hunk name.now key hunk.now (known_in self.old)) }
+    fn after_hunk(&mut self, name: &Name, key: Key, hunk: &Hunk) -> Result<(), AllocError>
+        requires { LiesWithin hunk.now (known_in self.old) }
+        ensures { OnOk result (known_in self.new ≡ known_after_hunk name.now key hunk.now (known_in self.old)) }
     {
         let from = hunk.line() as usize - 1;
         let to = from + hunk.old().len();

@@ -1,5 +1,5 @@
 -- Pulls and obliterations go by which names are there, and not by their order or number.
-use Rattle.camp_repo.proofs.Words.{◌≡◌, ◌==◌, ℕ, Bool, not, nat_lt, ◌+◌, ◌||◌, List, [], ◌∷◌, filter, length, Ok, refl, sym, ap, ◌∙◌, subst, inl, inr, true≢false, length-map, ◌↔◌, Contains, entries, keys, len, len-entries, Catch, catches_named, is_among, name_of, names_of, ObliterateGives, Names, is_empty, is_full_with, MergesBehind, Outcome, PullGives, WantedNext, common_names, is_among_is, name_itself}
+use Rattle.camp_repo.proofs.Words.{◌≡◌, ◌==◌, ℕ, Bool, not, nat_lt, ◌+◌, ◌||◌, List, [], ◌∷◌, filter, length, Ok, refl, sym, ap, ◌∙◌, subst, inl, inr, true≢false, length-map, ◌↔◌, Contains, entries, keys, len, len-entries, Catch, catches_named, is_among, name_of, names_of, ObliterateGives, Names, is_empty, is_full_with, MergesAfterCommon, Outcome, PullGives, WantedNext, common_names, is_among_is, name_itself}
 use Rattle.std.proofs.Math.Dec.{eqb-suc-zero}
 use Rattle.camp_catch.proofs.ListResults.{arrange_by_members}
 
@@ -24,7 +24,7 @@ module _ (names others : List (List ℕ)) (alike : AreAlike names others) where
   -- a pull of the same names
   pub pull_alike : (from to : List Catch) (outcome : Outcome) → PullGives from to names outcome → PullGives from to others outcome
   pull_alike from to outcome (inl w) =
-      inl (w.0, w.1, w.2, wanted_alike w.1 (λ chosen left. MergesBehind (common_names from to) w.0 chosen to) outcome w.3)
+      inl (w.0, w.1, w.2, wanted_alike w.1 (λ chosen left. MergesAfterCommon (common_names from to) w.0 chosen to) outcome w.3)
   pull_alike from to outcome (inr w) = inr w
 
   -- an obliteration of the same names

@@ -1,5 +1,5 @@
 -- The state after a legal history of calls.
-use Rattle.camp_repo.proofs.Words.{◌≡◌, ℕ, List, [], ◌∷◌, Option, None, Some, subst, refl, same_Some, option_and_then, Call, Next, Answer, IsLawfulState, repositories_are_lawful, sym, Contents, new_within, Decision, step, HistoriesAreCounted, HistoriesAreLawful, HistoriesKeepLimits, HistoriesTellTrees, StepsKeepLimits, ◌∙◌, ap, Bounds}
+use Rattle.camp_repo.proofs.Words.{◌≡◌, ℕ, List, [], ◌∷◌, Option, None, Some, subst, refl, same_Some, option_and_then, Call, Next, Answer, IsLawfulState, repositories_are_lawful, sym, Contents, new_within, Decision, step, HistoriesAreCounted, HistoriesAreLawful, HistoriesKeepLimits, HistoriesGiveTrees, StepsKeepLimits, ◌∙◌, ap, Bounds}
 use Rattle.camp_object.specs.Histories.{run}
 use Rattle.camp_object.proofs.Replays.{count-replay}
 use Rattle.camp_repo.specs.Objects.{next_of, repository_within}
@@ -32,7 +32,7 @@ histories_lawful limits history state replays =
     run_lawful limits history (Some (new_within limits))
     (λ first is. subst IsLawfulState (same_Some (new_within limits) first is) (initial_lawful limits)) state replays
 
-pub histories_tell : HistoriesTellTrees
+pub histories_tell : HistoriesGiveTrees
 histories_tell limits history state branch catches replays has =
     trees_answered state branch catches (histories_lawful limits history state replays) has
 

@@ -18,7 +18,7 @@ pub use Rattle.camp_branch.specs.Branches.{first_lacked, AreDistinct, LeadsTo, h
 pub use Rattle.camp_branch.specs.Fields.{names_in}
 pub use Rattle.camp_branch.specs.Laws.{AppliesEach, AreLacked, others_of, those_of}
 pub use Rattle.camp_branch.specs.Obliterating.{ObliterateGives}
-pub use Rattle.camp_branch.specs.Pulling.{Outcome, PullGives, MergesBehind, WantedNext, common_names}
+pub use Rattle.camp_branch.specs.Pulling.{Outcome, PullGives, MergesAfterCommon, WantedNext, common_names}
 pub use Rattle.camp_call.specs.declared.calls.Call.{Call}
 pub use Rattle.camp_call.specs.declared.replies.Refusal.{Refusal}
 pub use Rattle.camp_call.specs.declared.replies.Refusal.TheVariants.{BranchExists, NoBranch, NothingToDo, PatchExists, SameBranch, TooLarge, DoesNotApply, NoPatch}
@@ -30,7 +30,7 @@ pub use Rattle.camp_prim.specs.Commuting.{path_of}
 pub use Rattle.camp_prim.specs.declared.primitives.Primitive.{Primitive}
 pub use Rattle.camp_repo.specs.Beginnings.{AgreesIn, AllHold, catches_in}
 pub use Rattle.camp_repo.specs.Lawful.{IsLawfulBy, IsLawfulState, names_of_branches}
-pub use Rattle.camp_repo.specs.Laws.{Has, AcceptedCallsHaveEffect, ChangesOne, Copies, Effect, HistoriesAreCounted, HistoriesAreLawful, HistoriesKeepLimits, HistoriesTellTrees, InitialIsLawful, Obliterates, OutcomesAreDefined, Pulls, Records, StepsKeepLawful, StepsKeepLimits, TreesAreAnswered}
+pub use Rattle.camp_repo.specs.Laws.{Has, AcceptedCallsHaveEffect, ChangesOne, Copies, Effect, HistoriesAreCounted, HistoriesAreLawful, HistoriesKeepLimits, HistoriesGiveTrees, InitialIsLawful, Obliterates, OutcomesAreDefined, Pulls, Records, StepsKeepLawful, StepsKeepLimits, TreesAreAnswered}
 pub use Rattle.camp_repo.specs.LimitLaws.{CanPull, DefaultLimitsHold, Holds, StatesHoldTheirLimits}
 pub use Rattle.camp_repo.specs.ObjectLaws.{repositories_are_lawful}
 pub use Rattle.camp_repo.specs.Outcomes.{obliterated, pulled}

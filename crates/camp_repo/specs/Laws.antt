@@ -117,8 +117,8 @@ HistoriesAreLawful =
 
 -- after a legal history each branch has a tree: the effects of its catches, in order, applied to the empty tree; a
 -- question for the tree is answered with it
-abbrev pub HistoriesTellTrees : Type 0
-HistoriesTellTrees =
+abbrev pub HistoriesGiveTrees : Type 0
+HistoriesGiveTrees =
     (limits : Bounds) (history : List (ℕ × Call)) (state : Contents) (branch : List ℕ) (catches : List Catch)
     → replay (repository_within limits) history ≡ Some state → Has state branch catches →
     (tree : Files) × LeadsTo catches tree × (tree_of catches ≡ Some tree)

@@ -18,7 +18,7 @@ use Rattle.camp_call.specs.declared.replies.Refusal.TheVariants.{NothingToDo, Pa
 use Rattle.camp_object.specs.Objects.{IsLawfulObject}
 use Rattle.camp_object.specs.declared.objects.Decided.TheVariants.{Next, Answer}
 use Rattle.camp_repo.specs.Limits.{Bounds, default_bounds}
-use Rattle.camp_repo.specs.Objects.{next_of, number_told, repository, repository_within}
+use Rattle.camp_repo.specs.Objects.{next_of, reply_number, repository, repository_within}
 use Rattle.camp_repo.specs.Outcomes.{obliterated, pulled}
 use Rattle.camp_repo.specs.States.{Contents, after, catches_of, new_within, stands, tree_of, with_catches}
 use Rattle.camp_repo.specs.Steps.{Decision, becomes, changed, is_empty, is_full_with, is_too_large}
@@ -70,51 +70,51 @@ CountsOne state call next =
     (next.count ≡ state.count + 1) × (is_writing call ≡ true) × (next.limits ≡ state.limits)
 
 -- the reply has no number
-abbrev pub TellsNone : Reply → Type 0
-TellsNone answer = number_told answer ≡ None
+abbrev pub HasNoNumber : Reply → Type 0
+HasNoNumber answer = reply_number answer ≡ None
 
-none_told : (refusal : Refusal) → TellsNone (reply.Refused refusal)
+none_told : (refusal : Refusal) → HasNoNumber (reply.Refused refusal)
 none_told refusal = refl
 
-pub step_comes : (state : Contents) (call : Call) → Comes (CountsOne state call) TellsNone (step state call)
+pub step_comes : (state : Contents) (call : Call) → Comes (CountsOne state call) HasNoNumber (step state call)
 step_comes state (call.Branch new from) =
     let P = CountsOne state (call.Branch new from) in
-    of_branch P TellsNone none_told from _ (catches_of state.branches from)
-    (λ catches. past_test P TellsNone none_told (is_some (catches_of state.branches new)) (BranchExists new) _
-    (past_test P TellsNone none_told (nat_le state.limits.branches (length state.branches)) TooLarge _ (refl, refl, refl)))
+    of_branch P HasNoNumber none_told from _ (catches_of state.branches from)
+    (λ catches. past_test P HasNoNumber none_told (is_some (catches_of state.branches new)) (BranchExists new) _
+    (past_test P HasNoNumber none_told (nat_le state.limits.branches (length state.branches)) TooLarge _ (refl, refl, refl)))
 step_comes state (call.Record branch name changes) =
     let P = CountsOne state (call.Record branch name changes) in
-    of_branch P TellsNone none_told branch _ (catches_of state.branches branch)
-    (λ catches. past_test P TellsNone none_told (stands state.branches name) (PatchExists name) _
-    (past_test P TellsNone none_told (is_too_large state.limits.catches catches changes) TooLarge _
-    (from_tree P TellsNone none_told (tree_of catches) _
-    (λ tree. by_tree P TellsNone none_told state branch (catches ++ recorded name 1 changes) (changed changes tree)
+    of_branch P HasNoNumber none_told branch _ (catches_of state.branches branch)
+    (λ catches. past_test P HasNoNumber none_told (stands state.branches name) (PatchExists name) _
+    (past_test P HasNoNumber none_told (is_too_large state.limits.catches catches changes) TooLarge _
+    (from_tree P HasNoNumber none_told (tree_of catches) _
+    (λ tree. by_tree P HasNoNumber none_told state branch (catches ++ recorded name 1 changes) (changed changes tree)
     (refl, refl, refl)))))
 step_comes state (call.Pull from to names) =
     let P = CountsOne state (call.Pull from to names) in
-    of_branch P TellsNone none_told from _ (catches_of state.branches from)
-    (λ theirs. of_branch P TellsNone none_told to _ (catches_of state.branches to)
-    (λ ours. past_test P TellsNone none_told (bytes_eq from to) (SameBranch to) _
-    (past_names P TellsNone none_told (first_lacked theirs (listed theirs names)) _
-    (past_test P TellsNone none_told (is_empty (wanted ours (listed theirs names))) NothingToDo _
-    (past_test P TellsNone none_told (is_full_with state.limits.catches ours theirs (wanted ours (listed theirs names))) TooLarge _
-    (by_outcome P TellsNone none_told state to (pulled theirs ours (wanted ours (listed theirs names))) (λ catches.
+    of_branch P HasNoNumber none_told from _ (catches_of state.branches from)
+    (λ theirs. of_branch P HasNoNumber none_told to _ (catches_of state.branches to)
+    (λ ours. past_test P HasNoNumber none_told (bytes_eq from to) (SameBranch to) _
+    (past_names P HasNoNumber none_told (first_lacked theirs (listed theirs names)) _
+    (past_test P HasNoNumber none_told (is_empty (wanted ours (listed theirs names))) NothingToDo _
+    (past_test P HasNoNumber none_told (is_full_with state.limits.catches ours theirs (wanted ours (listed theirs names))) TooLarge _
+    (by_outcome P HasNoNumber none_told state to (pulled theirs ours (wanted ours (listed theirs names))) (λ catches.
     (refl, refl, refl))))))))
 step_comes state (call.Obliterate branch names) =
     let P = CountsOne state (call.Obliterate branch names) in
-    of_branch P TellsNone none_told branch _ (catches_of state.branches branch)
-    (λ catches. past_names P TellsNone none_told (first_lacked catches names) _
-    (past_test P TellsNone none_told (is_empty names) NothingToDo _
-    (by_outcome P TellsNone none_told state branch (obliterated catches names) (λ left. (refl, refl, refl)))))
+    of_branch P HasNoNumber none_told branch _ (catches_of state.branches branch)
+    (λ catches. past_names P HasNoNumber none_told (first_lacked catches names) _
+    (past_test P HasNoNumber none_told (is_empty names) NothingToDo _
+    (by_outcome P HasNoNumber none_told state branch (obliterated catches names) (λ left. (refl, refl, refl)))))
 step_comes state (call.Tree branch) =
     let P = CountsOne state (call.Tree branch) in
-    of_branch P TellsNone none_told branch _ (catches_of state.branches branch)
-    (λ catches. by_shown P TellsNone none_told (tree_of catches) (λ tree. refl))
+    of_branch P HasNoNumber none_told branch _ (catches_of state.branches branch)
+    (λ catches. by_shown P HasNoNumber none_told (tree_of catches) (λ tree. refl))
 step_comes state (call.Conflicts branch) =
-    of_branch (CountsOne state (call.Conflicts branch)) TellsNone none_told branch _ (catches_of state.branches branch)
+    of_branch (CountsOne state (call.Conflicts branch)) HasNoNumber none_told branch _ (catches_of state.branches branch)
     (λ catches. refl)
 step_comes state (call.Names branch) =
-    of_branch (CountsOne state (call.Names branch)) TellsNone none_told branch _ (catches_of state.branches branch)
+    of_branch (CountsOne state (call.Names branch)) HasNoNumber none_told branch _ (catches_of state.branches branch)
     (λ catches. refl)
 
 on_next : (P : Contents → Type 0) (Q : Reply → Type 0) (d : Decision) (next : Contents) → Comes P Q d
@@ -125,9 +125,9 @@ on_next P Q (Answer answer) next comes is = cc
 -- an accepted call keeps the limits
 pub limits_stay : (state : Contents) (call : Call) (next : Contents) → next_of (step state call) ≡ Some next
     → next.limits ≡ state.limits
-limits_stay state call next is = (on_next (CountsOne state call) TellsNone (step state call) next (step_comes state call) is).2
+limits_stay state call next is = (on_next (CountsOne state call) HasNoNumber (step state call) next (step_comes state call) is).2
 
-tells_exactly : (answer : Reply) (at : ℕ) → number_told answer ≡ Some at → answer ≡ reply.Done at
+tells_exactly : (answer : Reply) (at : ℕ) → reply_number answer ≡ Some at → answer ≡ reply.Done at
 tells_exactly (reply.Done other) at is = cc
 tells_exactly (reply.Refused refusal) at is = cc
 tells_exactly (reply.Tree tree) at is = cc
@@ -137,15 +137,15 @@ tells_exactly (reply.Names names) at is = cc
 pub repositories_are_lawful : (limits : Bounds) → IsLawfulObject (repository_within limits)
 repositories_are_lawful limits = record {
   starts = refl;
-  counts = λ state call next is. (on_next (CountsOne state call) TellsNone (step state call) next
+  counts = λ state call next is. (on_next (CountsOne state call) HasNoNumber (step state call) next
       (step_comes state call) is).0;
   begins = refl;
   stays = λ state call next is. ap new_within (limits_stay state call next is);
-  writes = λ state call next is. (on_next (CountsOne state call) TellsNone (step state call) next
+  writes = λ state call next is. (on_next (CountsOne state call) HasNoNumber (step state call) next
       (step_comes state call) is).1;
   tells = λ at. refl;
   tells_exactly = tells_exactly;
-  tells_none = λ state call answer is. subst (Comes (CountsOne state call) TellsNone) is (step_comes state call);
+  tells_none = λ state call answer is. subst (Comes (CountsOne state call) HasNoNumber) is (step_comes state call);
 }
 
 pub repository_is_lawful : IsLawfulObject repository

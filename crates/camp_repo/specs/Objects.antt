@@ -16,12 +16,12 @@ next_of (Next state) = Some state
 next_of (Answer answer) = None
 
 -- the number in a reply, if it is one to an accepted call
-abbrev pub number_told : Reply → Option ℕ
-number_told (reply.Done at) = Some at
-number_told (reply.Refused refusal) = None
-number_told (reply.Tree tree) = None
-number_told (reply.Conflicts pairs) = None
-number_told (reply.Names names) = None
+abbrev pub reply_number : Reply → Option ℕ
+reply_number (reply.Done at) = Some at
+reply_number (reply.Refused refusal) = None
+reply_number (reply.Tree tree) = None
+reply_number (reply.Conflicts pairs) = None
+reply_number (reply.Names names) = None
 
 -- a repository with these limits as an object: a call is accepted if it leads to a next state
 abbrev pub repository_within : Bounds → Sequential Contents Call Reply
@@ -33,7 +33,7 @@ repository_within limits = record {
   count = λ state. state.count;
   is_writing = is_writing;
   done = reply.Done;
-  done_at = number_told;
+  done_at = reply_number;
 }
 
 -- a repository that was given no limits
@@ -46,16 +46,16 @@ reply_of (Next state) = reply.Done state.count
 reply_of (Answer answer) = answer
 
 -- the state after a decision
-abbrev pub state_behind : Contents → Decision → Contents
-state_behind state (Next next) = next
-state_behind state (Answer answer) = state
+abbrev pub state_after_decision : Contents → Decision → Contents
+state_after_decision state (Next next) = next
+state_after_decision state (Answer answer) = state
 
 -- the state after a list of calls, some of which may be refused
 abbrev pub state_after : Contents → List Call → Contents
 state_after state [] = state
-state_after state (call ∷ calls) = state_after (state_behind state (step state call)) calls
+state_after state (call ∷ calls) = state_after (state_after_decision state (step state call)) calls
 
 -- the replies to a list of calls
 abbrev pub replies_to : Contents → List Call → List Reply
 replies_to state [] = []
-replies_to state (call ∷ calls) = reply_of (step state call) ∷ replies_to (state_behind state (step state call)) calls
+replies_to state (call ∷ calls) = reply_of (step state call) ∷ replies_to (state_after_decision state (step state call)) calls

@@ -1,5 +1,5 @@
 //! The laws of the repository, as functions whose contracts state them.
-ghost use Rattle.camp_repo.specs.Laws.{AcceptedCallsHaveEffect, HistoriesAreCounted, HistoriesAreLawful, HistoriesTellTrees};
+ghost use Rattle.camp_repo.specs.Laws.{AcceptedCallsHaveEffect, HistoriesAreCounted, HistoriesAreLawful, HistoriesGiveTrees};
 ghost use Rattle.camp_repo.specs.LimitLaws.{DefaultLimitsHold, StatesHoldTheirLimits};
 ghost use Rattle.camp_repo.specs.Laws.{HistoriesKeepLimits, InitialIsLawful, OutcomesAreDefined, RepositoryIsLawful, StepsKeepLawful, StepsKeepLimits, TreesAreAnswered};
 
@@ -28,7 +28,7 @@ pub fn histories_are_lawful()
 /// After every legal history, the tree of a branch is the effects of its catches applied to the empty tree,
 /// and a question for it is answered with that tree.
 pub fn histories_tell_trees()
-    ensures law { HistoriesTellTrees }
+    ensures law { HistoriesGiveTrees }
 {}
 
 /// A state counts the calls of the history that leads to it: the number in the reply to an accepted call is

@@ -7,7 +7,7 @@ use Rattle.camp_object.proofs.Beginnings.{begins_through, begins_self}
 use Rattle.camp_object.proofs.Replays.{count-replay, legal_front, replay_more}
 use Rattle.camp_clients.proofs.Single.{locked_is_serial, shared_is_serial}
 use Rattle.camp_call.specs.declared.replies.Reply.TheVariants as reply
-use Rattle.camp_repo.specs.Objects.{next_of, number_told, replies_to, reply_of, repository_within, state_after, state_behind}
+use Rattle.camp_repo.specs.Objects.{next_of, reply_number, replies_to, reply_of, repository_within, state_after, state_after_decision}
 use Rattle.camp_repo.specs.States.{new_within}
 use Rattle.camp_run.specs.Laws.{LockedSectionIsSerial, OneByOneIsSerial, SharedSectionIsSerial}
 use Rattle.camp_run.specs.Serial.{IsSerial, accepted_from, booked, history_from, replies_from}
@@ -19,7 +19,7 @@ module _ (limits : Bounds) where
       (prefix : Entries) (decision : Decision) : Type 0 where
     replies : answer ≡ Ok (reply_of decision)
     books : prefix ≡ before ++ booked decision (seat, call) []
-    leads : replay (repository_within limits) prefix ≡ Some (state_behind state decision)
+    leads : replay (repository_within limits) prefix ≡ Some (state_after_decision state decision)
 
   module _ (seat : ℕ) (before : Entries) (state : Contents) (call : Call) (prefix : Entries) where
     done : (at : ℕ) (decision : Decision) → replay (repository_within limits) prefix ≡ next_of decision → IsLegal (repository_within limits) prefix
@@ -47,7 +47,7 @@ module _ (limits : Bounds) where
         ap (replay (repository_within limits)) ends ∙ replay_more (repository_within limits) before (seat, call)
         ∙ ap (option_and_then (λ s. next_of (step s call))) replays
 
-    by_position : (position : Option ℕ) (answer : Reply) → number_told answer ≡ position → replay (repository_within limits) before ≡ Some state
+    by_position : (position : Option ℕ) (answer : Reply) → reply_number answer ≡ position → replay (repository_within limits) before ≡ Some state
         → IsLegal (repository_within limits) prefix
         → MatchOption position ((prefix ≡ before) × IsAnswered (repository_within limits) before call answer)
         (λ at. (prefix ≡ before ++ (seat, call) ∷ []) × (at ≡ length prefix))
@@ -63,7 +63,7 @@ module _ (limits : Bounds) where
     is_step : (answer : Result Reply Fault) → replay (repository_within limits) before ≡ Some state → IsLegal (repository_within limits) prefix
         → SaysAlone (repository_within limits) seat before call answer prefix
         → IsStep seat before state call answer prefix (step state call)
-    is_step (Ok answer) replays legal says = by_position (number_told answer) answer refl replays legal says
+    is_step (Ok answer) replays legal says = by_position (reply_number answer) answer refl replays legal says
     is_step (Err fault) replays legal says = absurd says
 
   -- the history before an answer is a prefix of the history after it
@@ -76,7 +76,7 @@ module _ (limits : Bounds) where
 
     says_grows : (before : Entries) (call : Call) (answer : Result Reply Fault) (prefix : Entries)
         → SaysAlone (repository_within limits) seat before call answer prefix → IsBeginning before prefix
-    says_grows before call (Ok answer) prefix says = prefix_grows (number_told answer) before call prefix _ says
+    says_grows before call (Ok answer) prefix says = prefix_grows (reply_number answer) before call prefix _ says
     says_grows before call (Err fault) prefix says = absurd says
 
     section_grows : (first : Entries) (calls : List Call) (answers : List (Result Reply Fault)) (last : Entries)
@@ -121,8 +121,8 @@ module _ (limits : Bounds) where
       let decision = step state c in
       let legal_next = legal_front (repository_within limits) (section_grows seat s.0 calls answers last s.2) legal in
       let one = is_step seat first state c s.0 a replays legal_next s.1 in
-      let others = is_section seat s.0 (state_behind state decision) calls answers last one.leads legal s.2 in
-      let rest = accepted_from seat (state_behind state decision) calls in
+      let others = is_section seat s.0 (state_after_decision state decision) calls answers last one.leads legal s.2 in
+      let rest = accepted_from seat (state_after_decision state decision) calls in
       record {
         replies = ap (λ x. x ∷ answers) one.replies ∙ ap (λ xs. Ok (reply_of decision) ∷ xs) others.replies;
         books = others.books ∙ ap (λ h. h ++ rest) one.books

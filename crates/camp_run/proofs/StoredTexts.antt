@@ -1,6 +1,6 @@
 -- The calls of a stored history, executed again on a new repository.
 use Rattle.std.proofs.Common.{◌≡◌, ℕ, ◌+◌, ◌≤◌, List, [], ◌∷◌, length, map, subst, Option, None, Some, Ok}
-use Rattle.camp_run.proofs.Words.{refl, sym, ◌∙◌, ap, arith, AllByRecursion, Next, Answer, is_writing, Call, repositories_are_lawful, Bounds, next_of, replies_to, reply_of, repository_within, state_behind, IsSerial, accepted_from, booked, Entries}
+use Rattle.camp_run.proofs.Words.{refl, sym, ◌∙◌, ap, arith, AllByRecursion, Next, Answer, is_writing, Call, repositories_are_lawful, Bounds, next_of, replies_to, reply_of, repository_within, state_after_decision, IsSerial, accepted_from, booked, Entries}
 use Rattle.std.specs.Option.{option_and_then}
 use Rattle.std.proofs.lemmas.List.{append-nil, length-map}
 use Rattle.std.proofs.lemmas.List.Sums.{count_by-le-length}
@@ -47,9 +47,9 @@ module _ (limits : Bounds) where
         let more = others next leads in
         let counts = (repositories_are_lawful limits).counts state entry.1 next (ap next_of is) in
         record {
-          books = ap (λ d. booked d (0, entry.1) (accepted_from 0 (state_behind state d) calls)) is
+          books = ap (λ d. booked d (0, entry.1) (accepted_from 0 (state_after_decision state d) calls)) is
               ∙ ap (λ h. (0, entry.1) ∷ h) more.books;
-          replies = ap (λ d. Ok (reply_of d) ∷ map Ok (replies_to (state_behind state d) calls)) is
+          replies = ap (λ d. Ok (reply_of d) ∷ map Ok (replies_to (state_after_decision state d) calls)) is
               ∙ ap (λ rs. Ok (reply.Done next.count) ∷ rs) more.replies
               ∙ ap (λ n. Ok (reply.Done n) ∷ dones (n + 1) calls) counts;
           lists = (lists_names state entry.1 next is, more.lists);

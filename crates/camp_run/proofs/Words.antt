@@ -15,7 +15,7 @@ pub use Rattle.camp_object.specs.declared.faults.Fault.{Fault}
 pub use Rattle.camp_object.specs.declared.objects.Decided.TheVariants.{Answer, Next}
 pub use Rattle.camp_repo.specs.Limits.{Bounds}
 pub use Rattle.camp_repo.specs.ObjectLaws.{repositories_are_lawful}
-pub use Rattle.camp_repo.specs.Objects.{next_of, replies_to, reply_of, repository_within, state_behind}
+pub use Rattle.camp_repo.specs.Objects.{next_of, replies_to, reply_of, repository_within, state_after_decision}
 pub use Rattle.camp_repo.specs.States.{Contents}
 pub use Rattle.camp_repo.specs.Steps.{Decision, step}
 pub use Rattle.camp_run.specs.Serial.{IsSerial, accepted_from, booked}

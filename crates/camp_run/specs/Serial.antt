@@ -5,7 +5,7 @@ use Rattle.camp_object.specs.declared.objects.Decided.TheVariants.{Next, Answer}
 use Rattle.camp_call.specs.declared.calls.Call.{Call}
 use Rattle.camp_call.specs.declared.replies.Reply.{Reply}
 use Rattle.camp_repo.specs.Limits.{Bounds}
-use Rattle.camp_repo.specs.Objects.{replies_to, state_after, state_behind}
+use Rattle.camp_repo.specs.Objects.{replies_to, state_after, state_after_decision}
 use Rattle.camp_repo.specs.States.{Contents, new_within}
 use Rattle.camp_repo.specs.Steps.{Decision, step}
 
@@ -23,7 +23,7 @@ booked (Answer answer) entry rest = rest
 abbrev pub accepted_from : ℕ → Contents → List Call → List (ℕ × Call)
 accepted_from seat state [] = []
 accepted_from seat state (call ∷ calls) =
-    booked (step state call) (seat, call) (accepted_from seat (state_behind state (step state call)) calls)
+    booked (step state call) (seat, call) (accepted_from seat (state_after_decision state (step state call)) calls)
 
 -- the accepted calls of sections that run one after the other from a state on, each with its seat; the first section is
 -- at seat `seat`

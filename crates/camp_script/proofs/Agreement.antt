@@ -1,12 +1,12 @@
 -- A reader gives the script of the definitions.
-use Rattle.camp_script.proofs.Common.{◌≡◌, ℕ, ◌+◌, Bool, true, false, not, ◌&&◌, ◌||◌, ◌==◌, nat_le, cond, List, [], ◌∷◌, ◌++◌, length, codes, refl, sym, ap, ◌∙◌, Option, None, Some, Result, Ok, Err, arith, length-append, cond-false, nat_tests, Edit, Primitive, Hunk, is_writing, Call, Command, Nothing, Ask, BeginEdit, BeginGroup, BeginSection, command_of, words_of, OpenEdit, OpenRecord, Progress, start, after_change, obey, heed, read_from, LineFault, bytes_eq, if◌then◌else◌, GroupLine, NoChange, WholeChange, EditChange, EndGroup, group_line_of, grown, ended_edit, parsed_edit, group_of, after_body_line, after_entry, with_change, ◌>>=◌, in_turn, NumberedLine, Entry, Item, numbered, up_to, pieces, begins_with, begins_edit, begins_group, words_on, ends_body, line_entries, entry_words, ends_group, items_of, first_section, clients_of, is_full, with_asked, after_item, after_client, script_of_lines}
+use Rattle.camp_script.proofs.Common.{◌≡◌, ℕ, ◌+◌, Bool, true, false, not, ◌&&◌, ◌||◌, ◌==◌, nat_le, cond, List, [], ◌∷◌, ◌++◌, length, codes, refl, sym, ap, ◌∙◌, Option, None, Some, Result, Ok, Err, arith, length-append, cond-false, nat_tests, Edit, Primitive, Hunk, is_writing, Call, Command, Nothing, Ask, BeginEdit, BeginGroup, BeginSection, command_of, words_of, OpenEdit, OpenRecord, Progress, start, after_change, after_command, after_group_line, read_from, LineFault, bytes_eq, if◌then◌else◌, GroupLine, NoChange, WholeChange, EditChange, EndGroup, group_line_of, grown, ended_edit, parsed_edit, group_of, after_body_line, after_entry, with_change, ◌>>=◌, in_turn, NumberedLine, Entry, Item, numbered, up_to, pieces, begins_with, begins_edit, begins_group, words_on, ends_body, line_entries, entry_words, ends_group, items_of, first_section, clients_of, is_full, with_asked, after_item, after_client, script_of_lines}
 use Rattle.std.specs.List.{list_any}
 use Rattle.camp_call.specs.declared.calls.Call.TheVariants as call
 use Rattle.camp_script.specs.Faults.{fault_at}
 use Rattle.camp_script.specs.declared.faults.FaultKind.TheVariants.{BadGroup, EditNotEnded, GroupNotEnded, TooManyClients, TooManyCommands}
 use Rattle.camp_script.proofs.EndSteps.{has_one}
 use Rattle.camp_script.proofs.Holding.{Holds}
-use Rattle.camp_script.proofs.Asked.{Fits, is_edit, is_group, is_section, fits, FitsGroup, is_edit_change, is_end, fits_group}
+use Rattle.camp_script.proofs.ParsedLine.{Fits, is_edit, is_group, is_section, fits, FitsGroup, is_edit_change, is_end, fits_group}
 
 -- ---- the state of a reader, and the meaning of the rest of the lines there
 
@@ -136,7 +136,7 @@ module _ (n : ℕ) (bytes : List ℕ) (lines : List (List ℕ)) (next : Agrees (
   abbrev group_so_far : OpenRecord
   group_so_far = record { branch = branch; name = name; opened = opened; grouped = true; changes = changes; open_edit = None }
 
-  group_says : (said : GroupLine) → (heed n (inside closed calls branch name opened true changes None) group_so_far said >>= λ p. read_from (n + 1) p lines) ≡ group_where (is_edit_change said) (is_end said) (Ok said)
+  group_says : (said : GroupLine) → (after_group_line n (inside closed calls branch name opened true changes None) group_so_far said >>= λ p. read_from (n + 1) p lines) ≡ group_where (is_edit_change said) (is_end said) (Ok said)
   group_says NoChange = next.in_group closed calls branch name opened changes
   group_says (WholeChange change) = next.in_group closed calls branch name opened (changes ++ change ∷ [])
   group_says (EditChange path place) =
@@ -154,7 +154,7 @@ module _ (n : ℕ) (bytes : List ℕ) (lines : List (List ℕ)) (next : Agrees (
       ]
 
   group_meets : (r : Result GroupLine LineFault) → Holds (FitsGroup (length changes) (words_of bytes)) r
-      → ((r >>= heed n (inside closed calls branch name opened true changes None) group_so_far) >>= λ p. read_from (n + 1) p lines) ≡ group_where (begins_edit (words_of bytes)) (begins_with (codes "done") (words_of bytes)) r
+      → ((r >>= after_group_line n (inside closed calls branch name opened true changes None) group_so_far) >>= λ p. read_from (n + 1) p lines) ≡ group_where (begins_edit (words_of bytes)) (begins_with (codes "done") (words_of bytes)) r
   group_meets (Err fault) h = refl
   group_meets (Ok said) h =
       group_says said ∙ ap (λ b. group_where b (is_end said) (Ok said)) (sym h.value.edits) ∙ ap (λ b. group_where (begins_edit (words_of bytes)) b (Ok said)) (sym h.value.ends)
@@ -201,7 +201,7 @@ module _ (n : ℕ) (bytes : List ℕ) (lines : List (List ℕ)) (next : Agrees (
   either_way true edits groups = refl
   either_way false edits groups = refl
 
-  script_asks : (asked : Command) → (obey n (outside closed calls) asked >>= λ p. read_from (n + 1) p lines) ≡ script_where (is_edit asked) (is_group asked) (is_section asked) (Ok asked)
+  script_asks : (asked : Command) → (after_command n (outside closed calls) asked >>= λ p. read_from (n + 1) p lines) ≡ script_where (is_edit asked) (is_group asked) (is_section asked) (Ok asked)
   script_asks Nothing = next.beyond closed calls
   script_asks (Ask new) =
       elim (is_writing new && is_full calls) as
@@ -243,7 +243,7 @@ module _ (n : ℕ) (bytes : List ℕ) (lines : List (List ℕ)) (next : Agrees (
       >>= λ sections. in_turn after_client sections (clients_of (items_of (behind_line false)))) (sym (as_many closed calls))
 
   script_meets : (r : Result Command LineFault) → Holds (Fits (words_of bytes)) r
-      → ((r >>= obey n (outside closed calls)) >>= λ p. read_from (n + 1) p lines) ≡ script_where (begins_edit (words_of bytes)) (begins_group (words_of bytes)) (begins_with (codes "client") (words_of bytes)) r
+      → ((r >>= after_command n (outside closed calls)) >>= λ p. read_from (n + 1) p lines) ≡ script_where (begins_edit (words_of bytes)) (begins_group (words_of bytes)) (begins_with (codes "client") (words_of bytes)) r
   script_meets (Err fault) h =
       elim (begins_with (codes "client") (words_of bytes)) as (λ b. Err fault ≡ script_where (begins_edit (words_of bytes)) (begins_group (words_of bytes)) b (Err fault)) [ true ↦ refl | false ↦ refl ]
   script_meets (Ok asked) h =

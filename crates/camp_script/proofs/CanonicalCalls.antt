@@ -1,5 +1,5 @@
 -- Reads the canonical text of sections back, call by call.
-use Rattle.camp_script.proofs.Common.{◌≡◌, ℕ, ◌+◌, ◌^◌, ◌<◌, ◌≤◌, Bool, true, false, not, ◌&&◌, ◌==◌, nat_lt, nat_le, cond, List, [], ◌∷◌, ◌++◌, length, codes, count_by, slice_index, sym, ap, subst, ◌∙◌, refl, append_assoc, append-nil, None, Some, Option, Result, Ok, arith, length-append, cond-true, cond-false, false≢true, and_parts, nat_tests, flat_map-cons, sum_by-append, sum_by-cons, list_all, flat_map, AllByRecursion, decimal, Primitive, Hunk, is_writing, Call, ◌>>=◌, name_at, names_at, path_at, number_at, is_line_number, call_words, GroupLine, WholeChange, EditChange, EndGroup, group_line_of, Command, Ask, BeginEdit, BeginGroup, BeginSection, command_of, lines_of, is_full, read_from, obey, heed, after_body, LineFault, line_text, signed_line, Progress, OpenRecord, after_change, record_at, with_open_edit, Lines, is_name, is_path, is_line, is_name_byte, is_graphic, listed_words, Edit, IsInRange}
+use Rattle.camp_script.proofs.Common.{◌≡◌, ℕ, ◌+◌, ◌^◌, ◌<◌, ◌≤◌, Bool, true, false, not, ◌&&◌, ◌==◌, nat_lt, nat_le, cond, List, [], ◌∷◌, ◌++◌, length, codes, count_by, slice_index, sym, ap, subst, ◌∙◌, refl, append_assoc, append-nil, None, Some, Option, Result, Ok, arith, length-append, cond-true, cond-false, false≢true, and_parts, nat_tests, flat_map-cons, sum_by-append, sum_by-cons, list_all, flat_map, AllByRecursion, decimal, Primitive, Hunk, is_writing, Call, ◌>>=◌, name_at, names_at, path_at, number_at, is_line_number, call_words, GroupLine, WholeChange, EditChange, EndGroup, group_line_of, Command, Ask, BeginEdit, BeginGroup, BeginSection, command_of, lines_of, is_full, read_from, after_command, after_group_line, after_body, LineFault, line_text, signed_line, Progress, OpenRecord, after_change, record_at, with_open_edit, Lines, is_name, is_path, is_line, is_name_byte, is_graphic, listed_words, Edit, IsInRange}
 use Rattle.camp_base.specs.declared.TheConstants.{MAX_NAME_LENGTH, MAX_PATH_LENGTH}
 use Rattle.camp_call.specs.declared.calls.Call.TheVariants as call
 use Rattle.camp_prim.specs.Commuting.{path_of}
@@ -65,11 +65,11 @@ two_named n first second next a b = passes (name_at n first) first _ (named n fi
 
 -- a line of words, outside groups and bodies, by its meaning
 words_read : (n : ℕ) (closed : List (List Call)) (done : List Call) (words : List (List ℕ)) (rest : List ℕ) (asked : Command) (next : Progress) → AreWords words
-    → command_of n words ≡ Ok asked → obey n (after closed done) asked ≡ Ok next → Reads n (after closed done) (line_text words ++ rest) next rest
+    → command_of n words ≡ Ok asked → after_command n (after closed done) asked ≡ Ok next → Reads n (after closed done) (line_text words ++ rest) next rest
 words_read n closed done words rest asked next are asks is = record {
   line = n + 1;
   is = ap (read_from n (after closed done)) (first_words words rest are)
-      ∙ ap (λ (r : Result Command LineFault). (r >>= obey n (after closed done)) >>= λ p. read_from (n + 1) p (lines_of rest)) (ap (command_of n) (words_joined words are) ∙ asks)
+      ∙ ap (λ (r : Result Command LineFault). (r >>= after_command n (after closed done)) >>= λ p. read_from (n + 1) p (lines_of rest)) (ap (command_of n) (words_joined words are) ∙ asks)
       ∙ ap (λ (r : Result Progress LineFault). r >>= λ p. read_from (n + 1) p (lines_of rest)) is;
 }
 
@@ -221,11 +221,11 @@ module _ (closed : List (List Call)) (done : List Call) (branch name : List ℕ)
 
   -- a line of words in a group, by its meaning
   group_words_read : (n : ℕ) (changes : List Primitive) (words : List (List ℕ)) (rest : List ℕ) (said : GroupLine) (next : Progress) → AreWords words
-      → group_line_of n (length changes) words ≡ Ok said → heed n (in_group changes) (group branch name opened changes) said ≡ Ok next → Reads n (in_group changes) (line_text words ++ rest) next rest
+      → group_line_of n (length changes) words ≡ Ok said → after_group_line n (in_group changes) (group branch name opened changes) said ≡ Ok next → Reads n (in_group changes) (line_text words ++ rest) next rest
   group_words_read n changes words rest said next are says is = record {
     line = n + 1;
     is = ap (read_from n (in_group changes)) (first_words words rest are)
-        ∙ ap (λ (r : Result GroupLine LineFault). (r >>= heed n (in_group changes) (group branch name opened changes)) >>= λ p. read_from (n + 1) p (lines_of rest))
+        ∙ ap (λ (r : Result GroupLine LineFault). (r >>= after_group_line n (in_group changes) (group branch name opened changes)) >>= λ p. read_from (n + 1) p (lines_of rest))
         (ap (group_line_of n (length changes)) (words_joined words are) ∙ says)
         ∙ ap (λ (r : Result Progress LineFault). r >>= λ p. read_from (n + 1) p (lines_of rest)) is;
   }

@@ -1,5 +1,5 @@
 -- The lines that belong to a first line, one by one.
-use Rattle.camp_script.proofs.Common.{◌≡◌, ℕ, ◌+◌, ◌≤◌, ◌&&◌, Bool, true, false, not, cond, List, [], ◌∷◌, ◌++◌, length, map, codes, refl, sym, ap, subst, ◌∙◌, append_assoc, append-nil, arith, ⊎_elim, cases_Bool, false≢true, Option, None, Some, Result, Ok, Err, bytes_eq, flat_map, is_writing, Call, Command, Nothing, Ask, BeginEdit, BeginGroup, command_of, words_of, NumberedLine, numbered, up_to, begins_with, begins_edit, begins_group, ends_body, ends_group, Progress, start, obey, after_line, read_from, LineFault, ScriptFault, Line, Memory, IsFaultFirst, IsFaultOf, finished, script_of_lines, ◌>>=◌}
+use Rattle.camp_script.proofs.Common.{◌≡◌, ℕ, ◌+◌, ◌≤◌, ◌&&◌, Bool, true, false, not, cond, List, [], ◌∷◌, ◌++◌, length, map, codes, refl, sym, ap, subst, ◌∙◌, append_assoc, append-nil, arith, ⊎_elim, cases_Bool, false≢true, Option, None, Some, Result, Ok, Err, bytes_eq, flat_map, is_writing, Call, Command, Nothing, Ask, BeginEdit, BeginGroup, command_of, words_of, NumberedLine, numbered, up_to, begins_with, begins_edit, begins_group, ends_body, ends_group, Progress, start, after_command, after_line, read_from, LineFault, ScriptFault, Line, Memory, IsFaultFirst, IsFaultOf, finished, script_of_lines, ◌>>=◌}
 use Rattle.std.specs.Option.{is_some}
 use Rattle.camp_script.specs.Gives.{Gives, GivesFaultFirst}
 use Rattle.std.proofs.lemmas.Slice.Eq.{bytes_eq-Decides}
@@ -9,7 +9,7 @@ use Rattle.camp_script.specs.declared.command_lines.CommandLines.{CommandLines}
 use Rattle.camp_script.specs.declared.cuts.Wanted.{Wanted}
 use Rattle.camp_script.specs.declared.cuts.Wanted.TheVariants as want
 use Rattle.camp_script.proofs.Agreement.{entries_from, reads_as_defined}
-use Rattle.camp_script.proofs.Asked.{Fits, fits, is_edit, is_group}
+use Rattle.camp_script.proofs.ParsedLine.{Fits, fits, is_edit, is_group}
 use Rattle.camp_script.proofs.Holding.{Holds}
 
 abbrev bytes_of : List NumberedLine → List (List ℕ)
@@ -111,7 +111,7 @@ by_asked Nothing = refl
 by_asked other = refl
 
 by_words : (words : List (List ℕ)) (rest : List (List ℕ)) (script : List (List Call)) (r : Result Command LineFault) → Holds (Fits words) r
-    → ((r >>= obey 1 start) >>= λ next. read_from 2 next rest) ≡ Ok script → wanted_by r ≡ wanted_words words
+    → ((r >>= after_command 1 start) >>= λ next. read_from 2 next rest) ≡ Ok script → wanted_by r ≡ wanted_words words
 by_words words rest script (Err fault) fit is = cc
 by_words words rest script (Ok asked) fit is =
     by_asked asked ∙ (λ i. cond (sym fit.value.edits i) want.Body (cond (sym fit.value.groups i) want.Group want.Nothing))
@@ -144,13 +144,13 @@ with_room true fault one other is = cc
 with_room false fault one other is = cc
 
 -- a first line without a fault opens what belongs to it
-opened_by : (r : Result Command LineFault) (next : Progress) → (r >>= obey 1 start) ≡ Ok next → wanted_in next.open_record ≡ wanted_by r
+opened_by : (r : Result Command LineFault) (next : Progress) → (r >>= after_command 1 start) ≡ Ok next → wanted_in next.open_record ≡ wanted_by r
 opened_by (Ok (Ask new)) next is = ap (λ p. wanted_in p.open_record) (sym (with_room (is_writing new && false) _ _ next is))
-opened_by (Ok asked) next is = ap (λ p. wanted_in p.open_record) (sym (same_next (obey 1 start asked) _ next refl is))
+opened_by (Ok asked) next is = ap (λ p. wanted_in p.open_record) (sym (same_next (after_command 1 start asked) _ next refl is))
 opened_by (Err fault) next is = cc
 
 -- a first line with a fault opens nothing
-alone_by : (r : Result Command LineFault) (fault : LineFault) → (r >>= obey 1 start) ≡ Err fault → want.Nothing ≡ wanted_by r
+alone_by : (r : Result Command LineFault) (fault : LineFault) → (r >>= after_command 1 start) ≡ Err fault → want.Nothing ≡ wanted_by r
 alone_by (Ok (BeginEdit branch name path place)) fault is = cc
 alone_by (Ok (BeginGroup branch name)) fault is = cc
 alone_by other fault is = refl

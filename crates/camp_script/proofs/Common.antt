@@ -26,7 +26,7 @@ pub use Rattle.camp_script.specs.Gives.{HasNoFault, IsFaultFirst, IsFaultOf}
 pub use Rattle.camp_script.specs.HistoryTexts.{call_words, entries_text, entry_text, listed_words}
 pub use Rattle.camp_script.specs.Inside.Progress.{OpenEdit, OpenRecord, Progress, after_call, after_change, after_head, after_record, finished, not_ended, record_at, start, with_call, with_edit, with_one_more, with_open_edit, with_record}
 pub use Rattle.camp_script.specs.Inside.Spaces.{spaced}
-pub use Rattle.camp_script.specs.Inside.Steps.{SaysSomething, after_body, after_line, after_record_line, heed, obey, obeyed, read_from}
+pub use Rattle.camp_script.specs.Inside.Steps.{HasMeaning, after_body, after_line, after_record_line, after_group_line, after_command, after_parsed_command, read_from}
 pub use Rattle.camp_script.specs.Keeping.{CanStand, calls_of, kept_text}
 pub use Rattle.camp_script.specs.Lines.{is_blank, is_skipped, lines_of, without_empty_last, without_end, words_of}
 pub use Rattle.camp_script.specs.Outputs.{HaveTexts, answers_text, client_answers, clients_answers}

@@ -1,6 +1,6 @@
 mod Common
 pub mod Agreement
-pub mod Asked
+pub mod ParsedLine
 pub mod CalledLines
 pub mod CanonicalCalls
 pub mod CanonicalLines

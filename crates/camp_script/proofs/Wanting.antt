@@ -1,5 +1,5 @@
 -- When reading a script may run out of memory.
-use Rattle.camp_script.proofs.Common.{Command, Nothing, command, command_of, IsFaultFirst, HasNoFault, numbered, Progress, start, LineFault, ScriptFault, Memory, ◌≡◌, ℕ, ◌+◌, ◌⊎◌, Bool, true, false, cond, List, [], ◌∷◌, refl, sym, ap, subst, ◌∙◌, Result, Ok, Err, inl, inr, lines_of, words_of, is_skipped, ScriptMayWant, first_command, after_line, obeyed, SaysSomething}
+use Rattle.camp_script.proofs.Common.{Command, Nothing, command, command_of, IsFaultFirst, HasNoFault, numbered, Progress, start, LineFault, ScriptFault, Memory, ◌≡◌, ℕ, ◌+◌, ◌⊎◌, Bool, true, false, cond, List, [], ◌∷◌, refl, sym, ap, subst, ◌∙◌, Result, Ok, Err, inl, inr, lines_of, words_of, is_skipped, ScriptMayWant, first_command, after_line, after_parsed_command, HasMeaning}
 
 -- the meaning of the first line that is not skipped, given the number of the first line
 abbrev first_from : ℕ → List (List ℕ) → Result Command LineFault
@@ -21,7 +21,7 @@ skipped_asks : (number : ℕ) (words : List (List ℕ)) → is_skipped words ≡
 skipped_asks number [] is = refl
 skipped_asks number (word ∷ words) is = ap (λ b. cond b (Ok Nothing) (command number word words)) is
 
-good_command : (number : ℕ) (reading : Progress) (r : Result Command LineFault) → HasNoFault (obeyed number reading r) → HasNoFault r
+good_command : (number : ℕ) (reading : Progress) (r : Result Command LineFault) → HasNoFault (after_parsed_command number reading r) → HasNoFault r
 good_command number reading (Ok command) h = tt
 good_command number reading (Err fault) h = h
 
@@ -30,13 +30,13 @@ same_reading reading next r e f = cc
 
 module _ (number : ℕ) (bytes : List ℕ) (rest : List (List ℕ)) where
   -- a first line that is not skipped has no fault if reading it gives none
-  good_first : is_skipped (words_of bytes) ≡ false → HasNoFault (obeyed number start (command_of number (words_of bytes))) → HasNoFault (first_from number (bytes ∷ rest))
+  good_first : is_skipped (words_of bytes) ≡ false → HasNoFault (after_parsed_command number start (command_of number (words_of bytes))) → HasNoFault (first_from number (bytes ∷ rest))
   good_first says h =
       subst HasNoFault (sym (ap (by_first number bytes rest) says)) (good_command number start (command_of number (words_of bytes)) h)
 
-  begun_by : (next : Progress) (b : Bool) → is_skipped (words_of bytes) ≡ b → obeyed number start (command_of number (words_of bytes)) ≡ Ok next → HasNoFault (first_from number (bytes ∷ rest)) ⊎ ((next ≡ start) × (first_from number (bytes ∷ rest) ≡ first_from (number + 1) rest))
+  begun_by : (next : Progress) (b : Bool) → is_skipped (words_of bytes) ≡ b → after_parsed_command number start (command_of number (words_of bytes)) ≡ Ok next → HasNoFault (first_from number (bytes ∷ rest)) ⊎ ((next ≡ start) × (first_from number (bytes ∷ rest) ≡ first_from (number + 1) rest))
   begun_by next true is read =
-      inr (same_reading start next _ (ap (obeyed number start) (skipped_asks number (words_of bytes) is)) read, ap (by_first number bytes rest) is)
+      inr (same_reading start next _ (ap (after_parsed_command number start) (skipped_asks number (words_of bytes) is)) read, ap (by_first number bytes rest) is)
   begun_by next false is read = inl (good_first is (subst HasNoFault (sym read) tt))
 
 -- one more line without a fault
@@ -52,11 +52,11 @@ one_read number reading next bytes rest lines begun read = elim begun [
 
 -- a line runs out of memory
 pub wants_now : (number : ℕ) (reading : Progress) (bytes : List ℕ) (rest : List (List ℕ)) (script : List ℕ) (fault : ScriptFault) → IsBegun number reading (bytes ∷ rest) (lines_of script)
-    → IsFaultFirst fault (after_line (number + 1) reading.open_record reading bytes) → (fault ≡ Memory → SaysSomething reading.open_record bytes)
+    → IsFaultFirst fault (after_line (number + 1) reading.open_record reading bytes) → (fault ≡ Memory → HasMeaning reading.open_record bytes)
     → fault ≡ Memory → ScriptMayWant script
 wants_now number reading bytes rest script fault begun given says is = elim begun [
   | inl h ↦ h
   | inr h ↦ subst HasNoFault (sym h.1) (good_first (number + 1) bytes rest
-      (subst (λ (p : Progress). SaysSomething p.open_record bytes) h.0 (says is))
+      (subst (λ (p : Progress). HasMeaning p.open_record bytes) h.0 (says is))
       (subst (λ (p : Progress). HasNoFault (after_line (number + 1) p.open_record p bytes)) h.0 (subst (λ f. IsFaultFirst f (after_line (number + 1) reading.open_record reading bytes)) is given)))
 ]

@@ -1,10 +1,10 @@
 -- The calls of whatever is read are calls that a script can contain, within its limits.
-use Rattle.camp_script.proofs.Common.{◌≡◌, ℕ, ◌+◌, ◌^◌, ◌<◌, ◌≤◌, Bool, true, false, ◌&&◌, ◌==◌, nat_lt, nat_le, cond, List, [], ◌∷◌, ◌++◌, length, count_by, ◌∙◌, subst, None, Some, Option, arith, length-append, nat_tests, sum_by-append, sum_by-cons, AllByRecursion, is_name, is_path, is_line, Primitive, Hunk, is_writing, Call, Edit, Command, Nothing, Ask, BeginEdit, BeginGroup, BeginSection, command_of, lines_of, words_of, is_full, obey, heed, after_body, after_record_line, after_line, read_from, IfOk, IsTrue, bytes_eq, codes, GroupLine, NoChange, WholeChange, EditChange, EndGroup, group_line_of, side_at, with_old, with_new, grown, ended_edit, OpenEdit, OpenRecord, Progress, start, with_call, with_record, after_head, after_record, after_change, with_one_more, finished, not_ended, record_at, with_edit, with_open_edit}
+use Rattle.camp_script.proofs.Common.{◌≡◌, ℕ, ◌+◌, ◌^◌, ◌<◌, ◌≤◌, Bool, true, false, ◌&&◌, ◌==◌, nat_lt, nat_le, cond, List, [], ◌∷◌, ◌++◌, length, count_by, ◌∙◌, subst, None, Some, Option, arith, length-append, nat_tests, sum_by-append, sum_by-cons, AllByRecursion, is_name, is_path, is_line, Primitive, Hunk, is_writing, Call, Edit, Command, Nothing, Ask, BeginEdit, BeginGroup, BeginSection, command_of, lines_of, words_of, is_full, after_command, after_group_line, after_body, after_record_line, after_line, read_from, IfOk, IsTrue, bytes_eq, codes, GroupLine, NoChange, WholeChange, EditChange, EndGroup, group_line_of, side_at, with_old, with_new, grown, ended_edit, OpenEdit, OpenRecord, Progress, start, with_call, with_record, after_head, after_record, after_change, with_one_more, finished, not_ended, record_at, with_edit, with_open_edit}
 use Rattle.camp_script.proofs.TextLemmas.{all_more}
 use Rattle.camp_call.specs.declared.calls.Call.TheVariants as call
 use Rattle.camp_script.specs.Canonical.{IsScriptCall, IsChange, AreLines, CanBeWritten, ReadIsWritable}
 use Rattle.camp_script.proofs.Agreement.{reads_as_defined}
-use Rattle.camp_script.proofs.Asked.{CanBeAsked, CanBeSaid, Fits, fits, FitsGroup, fits_group}
+use Rattle.camp_script.proofs.ParsedLine.{CanBeAsked, CanBeSaid, Fits, fits, FitsGroup, fits_group}
 use Rattle.camp_script.proofs.Holding.{Holds, fails, bind, either}
 
 -- the body of an edit that fits a patch with these changes
@@ -86,7 +86,7 @@ module _ (n : ℕ) (p : Progress) (g : GoodCalls p) where
     awaited = tt;
   }
 
-  obeyed_good : GoodAwaited p.calls p.open_record → (asked : Command) → CanBeAsked asked → Holds Good (obey n p asked)
+  obeyed_good : GoodAwaited p.calls p.open_record → (asked : Command) → CanBeAsked asked → Holds Good (after_command n p asked)
   obeyed_good o Nothing h = record { value = record { so_far = g; awaited = o } }
   obeyed_good o (Ask new) h = either Good (is_writing new && is_full p.calls) _ _ (λ _. fails) (λ room. record { value = asks new h room })
   obeyed_good o (BeginEdit branch name path place) h =
@@ -110,7 +110,7 @@ module _ (n : ℕ) (p : Progress) (g : GoodCalls p) where
   edited : (begun : OpenRecord) (edit : OpenEdit) → GoodRecord p.calls begun → GoodEdit begun.changes edit.edit → GoodRecord p.calls (with_open_edit begun edit)
   edited begun edit h k = record { branch = h.branch; name = h.name; changes = h.changes; few = h.few; open_edit = k; room_left = h.room_left }
 
-  heeded_good : (begun : OpenRecord) → GoodRecord p.calls begun → (said : GroupLine) → CanBeSaid (length begun.changes) said → Holds Good (heed n p begun said)
+  heeded_good : (begun : OpenRecord) → GoodRecord p.calls begun → (said : GroupLine) → CanBeSaid (length begun.changes) said → Holds Good (after_group_line n p begun said)
   heeded_good begun h NoChange k = record { value = opens begun h }
   heeded_good begun h (WholeChange change) k = record { value = opens (with_one_more begun change) (changed begun change h k.0 k.1) }
   heeded_good begun h (EditChange path place) k =

@@ -1,4 +1,4 @@
-pub mod Behind
+pub mod AfterWords
 pub mod Canonical
 pub mod Changes
 pub mod CommandLines

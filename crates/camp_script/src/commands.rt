@@ -5,8 +5,8 @@ ghost use Rattle.camp_script.specs.Inside.Files.{change_at};
 ghost use Rattle.camp_script.specs.Lines.{is_skipped, words_of};
 ghost use Rattle.camp_script.specs.Commands as command;
 ghost use Rattle.camp_script.specs.Commands.{branch_line, whole_record, edit_record, record_line, pull_line, obliterate_line, branch_at, question, short_command, command, command_of, names_or_all};
-ghost use Rattle.camp_script.specs.Inside.Asking.{ParsesLine, EditLineIsCounted, command_asked};
-ghost use Rattle.camp_script.specs.Inside.Steps.{obey, obeyed};
+ghost use Rattle.camp_script.specs.Inside.Asking.{ParsesLine, EditLineIsCounted, command_parsed};
+ghost use Rattle.camp_script.specs.Inside.Steps.{after_command, after_parsed_command};
 
 use crate::faults::{FaultKind, ScriptFault, at_line};
 use crate::lines::{Words, first_words, is_comment};
@@ -22,7 +22,7 @@ use std::alloc::{AllocError, Global};
 
 /// The meaning of a command: a call, the record of an edit or of a group, or the section of the next client.
 #[derive(Drop)]
-pub(crate) enum Asked {
+pub(crate) enum ParsedLine {
     Call(Call),
     Edit {
         branch: Name,
@@ -40,7 +40,7 @@ pub(crate) enum Asked {
 impl Reading {
     /// Reads a line outside groups and bodies.
     pub(crate) fn read_words(&mut self, number: u64, line: &[u8]) -> Result<(), ScriptFault>
-        ensures given { Advances result self.new (obeyed number self.old (command_of number (words_of line.now))) }
+        ensures given { Advances result self.new (after_parsed_command number self.old (command_of number (words_of line.now))) }
         ensures memory { IfErr result (λ fault. fault ≡ ScriptFault.Memory → is_skipped (words_of line.now) ≡ false) }
     {
         let mut words = Words::new(line);
@@ -61,22 +61,22 @@ impl Reading {
         word: &[u8],
         words: Words<'_>,
     ) -> Result<(), ScriptFault>
-        ensures { Advances result self.new (obeyed number self.old (command number word.now words.entry)) }
+        ensures { Advances result self.new (after_parsed_command number self.old (command number word.now words.entry)) }
     {
         let asked = self.asked_by(number, word, words)?;
-        self.obey(number, asked)
+        self.take_command(number, asked)
     }
 
     // Executes the meaning of a line.
-    fn obey(&mut self, number: u64, asked: Asked) -> Result<(), ScriptFault>
+    fn take_command(&mut self, number: u64, asked: ParsedLine) -> Result<(), ScriptFault>
         requires { EditLineIsCounted asked }
-        ensures { Advances result self.new (obey number self.old (command_asked asked)) }
+        ensures { Advances result self.new (after_command number self.old (command_parsed asked)) }
     {
         match asked {
-            Asked::Call(call) => self.follow(number, call),
-            Asked::Section => self.next_section(number),
-            Asked::Group { branch, name } => self.begin_group(number, branch, name),
-            Asked::Edit {
+            ParsedLine::Call(call) => self.follow(number, call),
+            ParsedLine::Section => self.next_section(number),
+            ParsedLine::Group { branch, name } => self.begin_group(number, branch, name),
+            ParsedLine::Edit {
                 branch,
                 name,
                 path,
@@ -86,7 +86,7 @@ impl Reading {
     }
 
     fn begin_group(&mut self, number: u64, branch: Name, name: Name) -> Result<(), ScriptFault>
-        ensures { Advances result self.new (obey number self.old (command.BeginGroup branch name)) }
+        ensures { Advances result self.new (after_command number self.old (command.BeginGroup branch name)) }
     {
         self.test_room(number)?;
         let changes = Vec::new(self.allocator());
@@ -110,7 +110,7 @@ impl Reading {
         line: u32,
     ) -> Result<(), ScriptFault>
         requires { 1 ≤ line }
-        ensures { Advances result self.new (obey number self.old (command.BeginEdit branch name path line)) }
+        ensures { Advances result self.new (after_command number self.old (command.BeginEdit branch name path line)) }
     {
         self.test_room(number)?;
         let alloc = self.allocator();
@@ -133,7 +133,12 @@ impl Reading {
     }
 
     // Parses a command from its first word and the others.
-    fn asked_by(&self, number: u64, word: &[u8], words: Words<'_>) -> Result<Asked, ScriptFault>
+    fn asked_by(
+        &self,
+        number: u64,
+        word: &[u8],
+        words: Words<'_>,
+    ) -> Result<ParsedLine, ScriptFault>
         ensures { ParsesLine number self.now result (command number word.now words.entry) }
     {
         if word == b"pull".as_slice() {
@@ -152,7 +157,7 @@ impl Reading {
         number: u64,
         word: &[u8],
         words: &[&[u8]],
-    ) -> Result<Asked, ScriptFault>
+    ) -> Result<ParsedLine, ScriptFault>
         ensures { ParsesLine number self.now result (short_command number word.now (map (λ word. word.now) words.now)) }
     {
         if word == b"branch".as_slice() {
@@ -163,21 +168,21 @@ impl Reading {
         }
         if word == b"client".as_slice() {
             no_words(number, words)?;
-            return Ok(Asked::Section);
+            return Ok(ParsedLine::Section);
         }
         self.read_question(number, word, words)
     }
 
-    fn read_branch(&self, number: u64, words: &[&[u8]]) -> Result<Asked, ScriptFault>
+    fn read_branch(&self, number: u64, words: &[&[u8]]) -> Result<ParsedLine, ScriptFault>
         ensures { ParsesLine number self.now result (branch_line number (map (λ word. word.now) words.now)) }
     {
         let (new, from) = two_words(number, words)?;
         let new = name_at(number, new)?;
         let from = name_at(number, from)?;
-        Ok(Asked::Call(Call::Branch { new, from }))
+        Ok(ParsedLine::Call(Call::Branch { new, from }))
     }
 
-    fn read_record(&self, number: u64, words: &[&[u8]]) -> Result<Asked, ScriptFault>
+    fn read_record(&self, number: u64, words: &[&[u8]]) -> Result<ParsedLine, ScriptFault>
         ensures { ParsesLine number self.now result (record_line number (map (λ word. word.now) words.now)) }
     {
         let (branch, name, change, rest) = three_words(number, words)?;
@@ -197,7 +202,7 @@ impl Reading {
             no_words(number, rest)?;
             let branch = name_at(number, branch)?;
             let name = name_at(number, name)?;
-            return Ok(Asked::Group { branch, name });
+            return Ok(ParsedLine::Group { branch, name });
         }
         Err(at_line(number, FaultKind::UnknownCommand))
     }
@@ -209,7 +214,7 @@ impl Reading {
         branch: &[u8],
         name: &[u8],
         path: &[u8],
-    ) -> Result<Asked, ScriptFault>
+    ) -> Result<ParsedLine, ScriptFault>
         ensures { ParsesLine number self.now result (whole_record (change_at file) number branch.now name.now path.now) }
     {
         let branch = name_at(number, branch)?;
@@ -217,7 +222,7 @@ impl Reading {
         let path = path_at(self.allocator(), number, path)?;
         self.test_room(number)?;
         let changes = one_change(self.allocator(), file.at(path?))?;
-        Ok(Asked::Call(Call::Record {
+        Ok(ParsedLine::Call(Call::Record {
             branch,
             name,
             changes,
@@ -231,7 +236,7 @@ impl Reading {
         name: &[u8],
         path: &[u8],
         line: &[u8],
-    ) -> Result<Asked, ScriptFault>
+    ) -> Result<ParsedLine, ScriptFault>
         ensures { ParsesLine number self.now result (edit_record number branch.now name.now path.now line.now) }
     {
         let branch = name_at(number, branch)?;
@@ -239,7 +244,7 @@ impl Reading {
         let path = self.path_again(number, path)?;
         let line = number_at(number, line)?;
         self.test_room(number)?;
-        Ok(Asked::Edit {
+        Ok(ParsedLine::Edit {
             branch,
             name,
             path: path?,
@@ -247,7 +252,7 @@ impl Reading {
         })
     }
 
-    fn read_pull(&self, number: u64, mut words: Words<'_>) -> Result<Asked, ScriptFault>
+    fn read_pull(&self, number: u64, mut words: Words<'_>) -> Result<ParsedLine, ScriptFault>
         ensures { ParsesLine number self.now result (pull_line number words.entry) }
     {
         let Some(from) = words.next() else {
@@ -262,10 +267,10 @@ impl Reading {
         self.test_room(number)?;
         let names = names_at(self.allocator(), number, words)?;
         let names = names_or_all(names);
-        Ok(Asked::Call(Call::Pull { from, to, names }))
+        Ok(ParsedLine::Call(Call::Pull { from, to, names }))
     }
 
-    fn read_obliterate(&self, number: u64, mut words: Words<'_>) -> Result<Asked, ScriptFault>
+    fn read_obliterate(&self, number: u64, mut words: Words<'_>) -> Result<ParsedLine, ScriptFault>
         ensures { ParsesLine number self.now result (obliterate_line number words.entry) }
     {
         let Some(branch) = words.next() else {
@@ -278,20 +283,25 @@ impl Reading {
         test_names(number, words.again())?;
         self.test_room(number)?;
         let names = names_at(self.allocator(), number, words)?;
-        Ok(Asked::Call(Call::Obliterate { branch, names }))
+        Ok(ParsedLine::Call(Call::Obliterate { branch, names }))
     }
 
-    fn read_question(&self, number: u64, word: &[u8], words: &[&[u8]]) -> Result<Asked, ScriptFault>
+    fn read_question(
+        &self,
+        number: u64,
+        word: &[u8],
+        words: &[&[u8]],
+    ) -> Result<ParsedLine, ScriptFault>
         ensures { ParsesLine number self.now result (question number word.now (map (λ word. word.now) words.now)) }
     {
         if word == b"tree".as_slice() {
-            return Ok(Asked::Call(Call::Tree(branch_at(number, words)?)));
+            return Ok(ParsedLine::Call(Call::Tree(branch_at(number, words)?)));
         }
         if word == b"conflicts".as_slice() {
-            return Ok(Asked::Call(Call::Conflicts(branch_at(number, words)?)));
+            return Ok(ParsedLine::Call(Call::Conflicts(branch_at(number, words)?)));
         }
         if word == b"names".as_slice() {
-            return Ok(Asked::Call(Call::Names(branch_at(number, words)?)));
+            return Ok(ParsedLine::Call(Call::Names(branch_at(number, words)?)));
         }
         Err(at_line(number, FaultKind::UnknownCommand))
     }

@@ -11,9 +11,9 @@ ghost use Rattle.camp_script.specs.Inside.Files.{change_at};
 ghost use Rattle.camp_script.specs.Inside.ReadingFields.{open_record_of, open_edit_of, edit_so_far, IsOpen, HasRoomFor};
 ghost use Rattle.camp_script.specs.Lines.{is_skipped, words_of};
 ghost use Rattle.camp_script.specs.Changes.{whole_change, edit_change, change_of, group_line_of, grown, ended_edit};
-ghost use Rattle.camp_script.specs.Inside.Asking.{HasRoomForChange, ParsesGroupLine, ended_change, line_told};
+ghost use Rattle.camp_script.specs.Inside.Asking.{HasRoomForChange, ParsesGroupLine, ended_change, group_line_parsed};
 ghost use Rattle.camp_script.specs.Inside.Progress.{after_change, with_edit, with_one_more, with_record};
-ghost use Rattle.camp_script.specs.Inside.Steps.{heed, heeded, after_end, after_body, after_record_line, SaysSomethingIn};
+ghost use Rattle.camp_script.specs.Inside.Steps.{after_group_line, after_parsed_group_line, after_end, after_body, after_record_line, HasMeaningIn};
 
 use crate::faults::{FaultKind, ScriptFault, at_line};
 use crate::lines::{Words, first_words, is_comment};
@@ -31,7 +31,7 @@ const MAX_REACH: usize = 1 << 30;
 /// The meaning of a line of a group: a change of a whole file, an edit whose body follows, or the end of the
 /// group.
 #[derive(Drop)]
-pub(crate) enum Told {
+pub(crate) enum ParsedGroupLine {
     Change(Primitive),
     Edit { path: Path, line: u32 },
     Done,
@@ -47,7 +47,7 @@ impl Reading {
     ) -> Result<(), ScriptFault>
         requires { IsOpen self.old.calls begun }
         ensures given { Advances result self.new (after_record_line number self.old (open_record_of begun) (option_map open_edit_of begun.open_edit) line.now) }
-        ensures memory { IfErr result (λ fault. fault ≡ ScriptFault.Memory → SaysSomethingIn (option_map open_edit_of begun.open_edit) line.now) }
+        ensures memory { IfErr result (λ fault. fault ≡ ScriptFault.Memory → HasMeaningIn (option_map open_edit_of begun.open_edit) line.now) }
     {
         match begun.open_edit.take() {
             None => self.read_group_words(number, line, begun),
@@ -63,7 +63,7 @@ impl Reading {
         begun: OpenRecord,
     ) -> Result<(), ScriptFault>
         requires { IsOpen self.old.calls begun }
-        ensures given { Advances result self.new (heeded number self.old (open_record_of begun) (group_line_of number (length begun.changes.items) (words_of line.now))) }
+        ensures given { Advances result self.new (after_parsed_group_line number self.old (open_record_of begun) (group_line_of number (length begun.changes.items) (words_of line.now))) }
         ensures memory { IfErr result (λ fault. fault ≡ ScriptFault.Memory → is_skipped (words_of line.now) ≡ false) }
     {
         let mut words = Words::new(line);
@@ -88,25 +88,30 @@ impl Reading {
         words: &[&[u8]],
     ) -> Result<(), ScriptFault>
         requires { IsOpen self.old.calls begun }
-        ensures { Advances result self.new (heeded number self.old (open_record_of begun) (change_of number (length begun.changes.items) word.now (map (λ word. word.now) words.now))) }
+        ensures { Advances result self.new (after_parsed_group_line number self.old (open_record_of begun) (change_of number (length begun.changes.items) word.now (map (λ word. word.now) words.now))) }
     {
-        let told = self.told_by(number, &begun, word, words)?;
-        self.heed(number, begun, told)
+        let told = self.parse_group_line(number, &begun, word, words)?;
+        self.take_group_line(number, begun, told)
     }
 
     // Executes the meaning of a line of a group.
-    fn heed(&mut self, number: u64, begun: OpenRecord, told: Told) -> Result<(), ScriptFault>
+    fn take_group_line(
+        &mut self,
+        number: u64,
+        begun: OpenRecord,
+        told: ParsedGroupLine,
+    ) -> Result<(), ScriptFault>
         requires open { IsOpen self.old.calls begun }
         requires room { HasRoomForChange (length begun.changes.items) told }
-        ensures { Advances result self.new (heed number self.old (open_record_of begun) (line_told told)) }
+        ensures { Advances result self.new (after_group_line number self.old (open_record_of begun) (group_line_parsed told)) }
     {
         match told {
-            Told::Change(change) => self.add_change(begun, change),
-            Told::Edit { path, line } => {
+            ParsedGroupLine::Change(change) => self.add_change(begun, change),
+            ParsedGroupLine::Edit { path, line } => {
                 self.open_edit(number, begun, path, line);
                 Ok(())
             }
-            Told::Done => self.end_record(number, begun),
+            ParsedGroupLine::Done => self.end_record(number, begun),
         }
     }
 
@@ -141,57 +146,57 @@ impl Reading {
     }
 
     // Parses a line of a group from its first word and the others.
-    fn told_by(
+    fn parse_group_line(
         &self,
         number: u64,
         begun: &OpenRecord,
         word: &[u8],
         words: &[&[u8]],
-    ) -> Result<Told, ScriptFault>
+    ) -> Result<ParsedGroupLine, ScriptFault>
         ensures { ParsesGroupLine number self.now (open_record_of begun.now) result (change_of number (length begun.now.changes.items) word.now (map (λ word. word.now) words.now)) }
     {
         if word == b"add".as_slice() {
             let path = one_word(number, words)?;
-            return self.tell_whole(number, begun, WholeFile::Add, path);
+            return self.parse_whole_change(number, begun, WholeFile::Add, path);
         }
         if word == b"remove".as_slice() {
             let path = one_word(number, words)?;
-            return self.tell_whole(number, begun, WholeFile::Remove, path);
+            return self.parse_whole_change(number, begun, WholeFile::Remove, path);
         }
         if word == b"edit".as_slice() {
             let (path, line) = two_words(number, words)?;
-            return self.tell_edit(number, begun, path, line);
+            return self.parse_edit_head(number, begun, path, line);
         }
         if word == b"done".as_slice() {
             no_words(number, words)?;
-            return Ok(Told::Done);
+            return Ok(ParsedGroupLine::Done);
         }
         Err(at_line(number, FaultKind::BadGroup))
     }
 
-    fn tell_whole(
+    fn parse_whole_change(
         &self,
         number: u64,
         begun: &OpenRecord,
         file: WholeFile,
         path: &[u8],
-    ) -> Result<Told, ScriptFault>
+    ) -> Result<ParsedGroupLine, ScriptFault>
         ensures { ParsesGroupLine number self.now (open_record_of begun.now) result (whole_change (change_at file) number (length begun.now.changes.items) path.now) }
     {
         if begun.changes.len() >= MAX_CHANGES {
             return Err(at_line(number, FaultKind::BadGroup));
         }
         let path = path_at(self.allocator(), number, path)??;
-        Ok(Told::Change(file.at(path)))
+        Ok(ParsedGroupLine::Change(file.at(path)))
     }
 
-    fn tell_edit(
+    fn parse_edit_head(
         &self,
         number: u64,
         begun: &OpenRecord,
         path: &[u8],
         line: &[u8],
-    ) -> Result<Told, ScriptFault>
+    ) -> Result<ParsedGroupLine, ScriptFault>
         ensures { ParsesGroupLine number self.now (open_record_of begun.now) result (edit_change number (length begun.now.changes.items) path.now line.now) }
     {
         if begun.changes.len() >= MAX_CHANGES {
@@ -199,7 +204,7 @@ impl Reading {
         }
         let path = path_at(self.allocator(), number, path)?;
         let line = number_at(number, line)?;
-        Ok(Told::Edit { path: path?, line })
+        Ok(ParsedGroupLine::Edit { path: path?, line })
     }
 
     // Reads a line of the body of an edit.

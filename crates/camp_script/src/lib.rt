@@ -24,7 +24,7 @@ pub use command_lines::CommandLines;
 pub use cuts::{begins_edit, begins_with};
 pub use faults::{CallFault, FaultKind, LineFault, ScriptFault, WriteFault, at_line};
 pub use histories::{history_text, write_history};
-pub use lines::{FirstWords, Words, behind_word, first_words, without_end};
+pub use lines::{FirstWords, Words, after_word, first_words, without_end};
 pub use outputs::output_text;
 pub use scripts::{Script, read_script};
 pub use single_calls::parse_call;

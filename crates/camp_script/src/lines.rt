@@ -1,7 +1,7 @@
 //! The words of a line.
 ghost use Rattle.std.specs.Prelude.{◌≡◌, ◌==◌, ◌≤◌, length, map, not, slice_index, take};
 ghost use Rattle.std.specs.List.{position_or_len};
-ghost use Rattle.camp_script.specs.Behind.{behind_blanks, behind_word};
+ghost use Rattle.camp_script.specs.AfterWords.{after_blanks, after_word};
 ghost use Rattle.camp_script.specs.Lines.{is_blank, without_end, words_of};
 
 use arrayvec::ArrayVec;
@@ -118,15 +118,15 @@ fn is_blank(byte: u8) -> bool
 }
 
 /// Returns a line without its first word and the blanks around that.
-pub fn behind_word(line: &[u8]) -> &[u8]
-    ensures exact { result.now ≡ behind_word line.now }
+pub fn after_word(line: &[u8]) -> &[u8]
+    ensures exact { result.now ≡ after_word line.now }
 {
-    let line = behind_blanks(line);
-    behind_blanks(&line[word_len(line)..])
+    let line = after_blanks(line);
+    after_blanks(&line[word_len(line)..])
 }
 
-fn behind_blanks(line: &[u8]) -> &[u8]
-    ensures { result.now ≡ behind_blanks line.now }
+fn after_blanks(line: &[u8]) -> &[u8]
+    ensures { result.now ≡ after_blanks line.now }
 {
     &line[blanks_len(line)..]
 }

@@ -5,7 +5,7 @@ ghost use Rattle.camp_script.specs.Gives.{Advances, GivesFaultFirst, GivesPath};
 ghost use Rattle.camp_script.specs.Reading.{is_full};
 ghost use Rattle.camp_script.specs.Inside.Progress.{start, with_call, with_record, after_call, after_client, after_record, finished};
 ghost use Rattle.camp_script.specs.declared.faults.FaultKind.TheVariants as kind;
-ghost use Rattle.camp_script.specs.Inside.Steps.{after_line, SaysSomething, wanted_in};
+ghost use Rattle.camp_script.specs.Inside.Steps.{after_line, HasMeaning, wanted_in};
 ghost use Rattle.camp_script.specs.Inside.ReadingFields.{open_record_of};
 
 use crate::cuts::Wanted;
@@ -87,7 +87,7 @@ impl Reading {
     /// Reads a numbered line, counted from 1.
     pub(crate) fn read_line(&mut self, number: u64, line: &[u8]) -> Result<(), ScriptFault>
         ensures given { Advances result self.new (after_line number self.old.open_record self.old line.now) }
-        ensures memory { IfErr result (λ fault. fault ≡ ScriptFault.Memory → SaysSomething self.old.open_record line.now) }
+        ensures memory { IfErr result (λ fault. fault ≡ ScriptFault.Memory → HasMeaning self.old.open_record line.now) }
     {
         match self.open_record.take() {
             None => self.read_words(number, line),

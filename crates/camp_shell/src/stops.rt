@@ -1,7 +1,7 @@
 //! Why the program ends before its input does, and what it says of that.
 use camp_git::Unexported;
 use camp_kept_talk::PersistenceFault;
-use camp_options::{WordsFault, tell_fault, tell_unwritten};
+use camp_options::{WordsFault, report_fault, report_unwritten};
 use camp_talk::{FrameFault, LoadFault, TalkFault};
 use std::alloc::AllocError;
 use std::io;
@@ -38,18 +38,18 @@ impl Stop<'_> {
     /// Reports why, and returns the exit status.
     pub(crate) fn report<R: Print + Eprint>(&self, rt: &R) -> u8 {
         match self {
-            Stop::Words(fault) => fault.tell(rt, PROGRAM),
+            Stop::Words(fault) => fault.report(rt, PROGRAM),
             Stop::Open(file, error) => {
-                tell_fault(rt, PROGRAM, &format_args!("{file}: {error}"), 3)
+                report_fault(rt, PROGRAM, &format_args!("{file}: {error}"), 3)
             }
-            Stop::Load(file, LoadFault::Talk(TalkFault::Read(error))) => tell_fault(
+            Stop::Load(file, LoadFault::Talk(TalkFault::Read(error))) => report_fault(
                 rt,
                 PROGRAM,
                 &format_args!("{file}: cannot read input: {error}"),
                 TalkFault::Read(*error).status(),
             ),
             Stop::Load(file, fault) => {
-                tell_fault(
+                report_fault(
                     rt,
                     PROGRAM,
                     &format_args!("{file}: {fault}"),
@@ -57,11 +57,11 @@ impl Stop<'_> {
                 )
             }
             Stop::Store(file, fault) => {
-                tell_fault(rt, PROGRAM, &format_args!("{file}: {fault}"), 3)
+                report_fault(rt, PROGRAM, &format_args!("{file}: {fault}"), 3)
             }
-            Stop::InUse(file) => tell_fault(rt, PROGRAM, &format_args!("{file}: in use"), 3),
+            Stop::InUse(file) => report_fault(rt, PROGRAM, &format_args!("{file}: in use"), 3),
             Stop::NotPlain(file) => {
-                tell_fault(
+                report_fault(
                     rt,
                     PROGRAM,
                     &format_args!("{file}: not a regular file, or a file with several hard links"),
@@ -71,12 +71,12 @@ impl Stop<'_> {
             Stop::Talk(fault) | Stop::Frame(FrameFault::Talk(fault)) => report_talk_fault(
                 rt, fault,
             ),
-            Stop::Frame(fault) => tell_fault(rt, PROGRAM, fault, fault.status()),
+            Stop::Frame(fault) => report_fault(rt, PROGRAM, fault, fault.status()),
             Stop::NoName(branch) => {
-                tell_fault(rt, PROGRAM, &format_args!("refused 4 {branch}"), 1)
+                report_fault(rt, PROGRAM, &format_args!("refused 4 {branch}"), 1)
             }
-            Stop::Export(Unexported::Write(error)) => tell_unwritten(rt, PROGRAM, error),
-            Stop::Export(fault) => tell_fault(rt, PROGRAM, fault, export_status(fault)),
+            Stop::Export(Unexported::Write(error)) => report_unwritten(rt, PROGRAM, error),
+            Stop::Export(fault) => report_fault(rt, PROGRAM, fault, export_status(fault)),
         }
     }
 }
@@ -84,15 +84,15 @@ impl Stop<'_> {
 // Returns why a conversation could not continue, and the error of its reader or its writer.
 fn report_talk_fault<R: Print + Eprint>(rt: &R, fault: &TalkFault) -> u8 {
     match fault {
-        TalkFault::Write(error) => tell_unwritten(rt, PROGRAM, error),
-        TalkFault::Read(error) => tell_fault(
+        TalkFault::Write(error) => report_unwritten(rt, PROGRAM, error),
+        TalkFault::Read(error) => report_fault(
             rt,
             PROGRAM,
             &format_args!("{fault}: {error}"),
             fault.status(),
         ),
         TalkFault::Memory | TalkFault::Internal => {
-            tell_fault(rt, PROGRAM, fault, fault.status())
+            report_fault(rt, PROGRAM, fault, fault.status())
         }
     }
 }

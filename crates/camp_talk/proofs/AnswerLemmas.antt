@@ -2,8 +2,8 @@
 use Rattle.camp_talk.proofs.Words.{◌≡◌, ◌∙◌, ℕ, List, Result, Ok, Err, Vec, IfOk, ap, refl, subst, RendersAnswer}
 use Rattle.std.specs.Prelude.{MatchResult}
 use Rattle.camp_call.specs.declared.replies.Refusal.{Refusal}
-use Rattle.camp_questions.specs.Along.{AreAlong, TellsAlong}
-use Rattle.camp_questions.specs.Answers.{AnswerOf, Tells, TellsOrWants}
+use Rattle.camp_questions.specs.Along.{AreAlong, ReportsAlong}
+use Rattle.camp_questions.specs.Answers.{AnswerOf, ReportsAnswer, ReportsAnswerOrMemory}
 use Rattle.camp_questions.specs.declared.faults.Unanswered.{Unanswered}
 use Rattle.camp_questions.specs.declared.faults.Unanswered.TheVariants as fault
 use Rattle.camp_repo.specs.States.{Contents}
@@ -24,21 +24,21 @@ module _ {A Z E : Type 0} (text_of : A → List ℕ) (IsAnswer : AnswerOf A → 
   found_rendered (Ok answer) (Err error) answers refuses is = tt
   found_rendered (Err why) (Err error) answers refuses is = tt
 
-  pub answer_rendered : (found : Result A Unanswered) (response : Result (Vec ℕ Z) E) → Tells IsAnswer found
+  pub answer_rendered : (found : Result A Unanswered) (response : Result (Vec ℕ Z) E) → ReportsAnswer IsAnswer found
       → IfOk response (λ text. RendersFound text_of found text.items) → IfOk response (λ text. RendersAnswer text_of IsAnswer text.items)
   answer_rendered found response reports =
-      found_rendered found response (λ answer is. subst (Tells IsAnswer) is reports) (λ refusal is. subst (Tells IsAnswer) is reports)
+      found_rendered found response (λ answer is. subst (ReportsAnswer IsAnswer) is reports) (λ refusal is. subst (ReportsAnswer IsAnswer) is reports)
 
-  pub answer_rendered_or_memory : (found : Result A Unanswered) (response : Result (Vec ℕ Z) E) → TellsOrWants IsAnswer found
+  pub answer_rendered_or_memory : (found : Result A Unanswered) (response : Result (Vec ℕ Z) E) → ReportsAnswerOrMemory IsAnswer found
       → IfOk response (λ text. RendersFound text_of found text.items) → IfOk response (λ text. RendersAnswer text_of IsAnswer text.items)
   answer_rendered_or_memory found response reports =
-      found_rendered found response (λ answer is. subst (TellsOrWants IsAnswer) is reports) (λ refusal is. subst (TellsOrWants IsAnswer) is reports)
+      found_rendered found response (λ answer is. subst (ReportsAnswerOrMemory IsAnswer) is reports) (λ refusal is. subst (ReportsAnswerOrMemory IsAnswer) is reports)
 
 pub along_rendered : {Z E : Type 0} (text_of : List (List ℕ) → List ℕ) (state : Contents) (from to : List ℕ) (names : List (List ℕ))
-    → (found : Result (List (List ℕ)) Unanswered) (response : Result (Vec ℕ Z) E) → TellsAlong state from to names found
+    → (found : Result (List (List ℕ)) Unanswered) (response : Result (Vec ℕ Z) E) → ReportsAlong state from to names found
     → IfOk response (λ text. RendersFound text_of found text.items) → IfOk response (λ text. RendersAnswer text_of (AreAlong state from to names) text.items)
 along_rendered text_of state from to names found response reports =
-    found_rendered text_of (AreAlong state from to names) found response (λ answer is. subst (TellsAlong state from to names) is reports) (λ refusal is. subst (TellsAlong state from to names) is reports)
+    found_rendered text_of (AreAlong state from to names) found response (λ answer is. subst (ReportsAlong state from to names) is reports) (λ refusal is. subst (ReportsAlong state from to names) is reports)
 
 abbrev kept_with : Recovery → List ℕ → Diagnostic
 kept_with recovery report = record { report = report; recovery = recovery }

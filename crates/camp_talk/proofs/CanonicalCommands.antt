@@ -5,7 +5,7 @@ use Rattle.std.proofs.lemmas.List.Concat.{flat_map-cons}
 use Rattle.camp_call.specs.declared.calls.Call.TheVariants as call
 use Rattle.camp_prim.specs.declared.primitives.Primitive.{Primitive}
 use Rattle.camp_prim.specs.declared.primitives.Primitive.TheVariants.{Add, Remove, Hunk}
-use Rattle.camp_script.specs.Behind.{behind_word}
+use Rattle.camp_script.specs.AfterWords.{after_word}
 use Rattle.camp_script.specs.Canonical.{IsChange, IsScriptCall, call_text, change_head}
 use Rattle.camp_script.specs.CommandLines as command
 use Rattle.camp_script.specs.CommandLines.{wanted_after, wanted_lines}
@@ -114,7 +114,7 @@ module _ (c : Call) (can : IsScriptCall c) (short : IsReadWhole c) where
 
   call_is : call_part first ≡ first
   call_is =
-      ap (λ b. cond b (behind_word first) first) (ap (begins_with (codes "whatif")) (words_called c can) ∙ foresees c)
+      ap (λ b. cond b (after_word first) first) (ap (begins_with (codes "whatif")) (words_called c can) ∙ foresees c)
 
   whole : script_of_lines (first ∷ lines_behind c) ≡ Ok ((c ∷ []) ∷ [])
   whole = ap script_of_lines (sym (lines_called c can)) ∙ text_reads c can

@@ -7,7 +7,7 @@ use Rattle.camp_call.specs.declared.replies.Reply.TheVariants as reply
 use Rattle.camp_object.specs.Books.{AsksBook}
 use Rattle.camp_object.proofs.SameBooks.{same_book}
 use Rattle.camp_object.specs.declared.faults.Fault.TheVariants as fault
-use Rattle.camp_repo.specs.Objects.{number_told, repository}
+use Rattle.camp_repo.specs.Objects.{reply_number, repository}
 use Rattle.camp_talk.specs.Answers.{Replies}
 use Rattle.camp_talk.specs.Reports.{is_failure}
 use Rattle.camp_talk.specs.declared.questions.ParsedCommand.TheVariants.{Nothing}
@@ -18,7 +18,7 @@ module _ (old now : Entries) (call : Call) where
   want_keeps asks = same_book now old asks.first (asks.asks.says.exact refl)
 
   -- an accepted call has the next number
-  pub next_number : (answer : Reply) (at : ℕ) → number_told answer ≡ Some at → AsksBook repository 0 old call (Ok answer) now → answer ≡ reply.Done (length old.calls + 1)
+  pub next_number : (answer : Reply) (at : ℕ) → reply_number answer ≡ Some at → AsksBook repository 0 old call (Ok answer) now → answer ≡ reply.Done (length old.calls + 1)
   next_number (reply.Done n) at is asks =
       let grown : length now.calls ≡ length old.calls + 1 = ap length (asks.asks.says.ends ∙ ap (λ (l : List (ℕ × Call)). l ++ (0, call) ∷ []) (asks.asks.says.exact refl)) ∙ length-append old.calls ((0, call) ∷ []) in
       ap reply.Done (asks.asks.says.position ∙ grown)

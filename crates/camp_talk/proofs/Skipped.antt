@@ -2,11 +2,11 @@
 use Rattle.camp_talk.proofs.Words.{◌≡◌, ℕ, ◌==◌, true, false, true≢false, cond, List, [], ◌∷◌, codes, Ok, refl, sym, ap, ◌∙◌, eqb-true, bytes_eq, begins_with, is_skipped, words_of, script_of_lines, parsed_lines, first_of, call_part, map, TakesAll, lines_taken}
 use Rattle.std.specs.Prelude.{slice_index}
 use Rattle.camp_script.proofs.Agreement.{reads_as_defined}
-use Rattle.camp_script.specs.Behind.{behind_word}
+use Rattle.camp_script.specs.AfterWords.{after_word}
 use Rattle.camp_script.specs.CommandLines as command
 use Rattle.camp_script.specs.Commands.{Nothing, command_of}
 use Rattle.camp_script.specs.Inside.Progress.{start}
-use Rattle.camp_script.specs.Inside.Steps.{obeyed, read_from}
+use Rattle.camp_script.specs.Inside.Steps.{after_parsed_command, read_from}
 use Rattle.camp_script.specs.Pieces.{NumberedLine, numbered}
 use Rattle.camp_base.specs.Results.{◌>>=◌}
 use Rattle.camp_talk.specs.Parsing.{parsed_words}
@@ -39,13 +39,13 @@ module _ (line : List ℕ) (skipped : is_skipped (words_of line) ≡ true) where
   -- as a script it has no call
   no_call : script_of_lines (call_part line ∷ []) ≡ Ok ([] ∷ [])
   no_call =
-      ap (λ b. script_of_lines (cond b (behind_word line) line ∷ [])) (no_foresight (words_of line) skipped)
+      ap (λ b. script_of_lines (cond b (after_word line) line ∷ [])) (no_foresight (words_of line) skipped)
       ∙ sym (reads_as_defined (line ∷ []))
-      ∙ ap (λ parsed. obeyed 1 start parsed >>= λ next. read_from 2 next []) (no_command (words_of line) skipped)
+      ∙ ap (λ parsed. after_parsed_command 1 start parsed >>= λ next. read_from 2 next []) (no_command (words_of line) skipped)
 
   alone : (rest : List (List ℕ)) → lines_taken line rest ≡ rest → rest ≡ []
   alone rest all =
-      sym all ∙ ap (λ b. command.taken (cond b (behind_word line) line) rest) (no_foresight (words_of line) skipped)
+      sym all ∙ ap (λ b. command.taken (cond b (after_word line) line) rest) (no_foresight (words_of line) skipped)
       ∙ ap (λ parsed. map (λ (l : NumberedLine). l.bytes) (command.taken_by parsed (numbered 2 rest))) (no_command (words_of line) skipped)
 
   asks_nothing : parsed_lines (line ∷ []) ≡ Ok parsed.Nothing

@@ -1,6 +1,6 @@
 -- The state that a conversation keeps for `why`.
 use Rattle.std.specs.Prelude.{ℕ, Bool, true, false, ◌||◌, ◌==◌, List, [], ◌∷◌, length, bytes_eq, codes, if◌then◌else◌}
-use Rattle.camp_script.specs.Behind.{behind_word}
+use Rattle.camp_script.specs.AfterWords.{after_word}
 use Rattle.camp_script.specs.Lines.{words_of}
 use Rattle.camp_script.specs.Pieces.{begins_edit, begins_with}
 use Rattle.camp_talk.specs.declared.recovery.Recovery.{Recovery}
@@ -81,11 +81,11 @@ recovery_in_words (word ∷ words) other =
 -- change is one of them; else by the word in the place of the name, which may have been left out; else a line with a
 -- sign, followed by a body
 abbrev pub recovery_after_branch : List ℕ → Recovery
-recovery_after_branch line = recovery_in_words (words_of (behind_word line)) (recovery_in_words (words_of line) Signed)
+recovery_after_branch line = recovery_in_words (words_of (after_word line)) (recovery_in_words (words_of line) Signed)
 
 -- the lines that follow a line that is cut off from them, if it is a record, or may be a misspelt one
 abbrev pub recovery_of_line : List ℕ → Recovery
-recovery_of_line line = recovery_after_branch (behind_word (behind_word (call_part line)))
+recovery_of_line line = recovery_after_branch (after_word (after_word (call_part line)))
 
 -- ---- the diagnostic and the recovery state
 

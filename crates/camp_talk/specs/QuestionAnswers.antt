@@ -21,13 +21,13 @@ use Rattle.camp_questions.specs.GraphTexts.{graph_text}
 use Rattle.camp_questions.specs.Marks.{AreMarked}
 use Rattle.camp_questions.specs.OpenConflicts.{AreOpen}
 use Rattle.camp_questions.specs.Pictures.{IsPictured, Picture}
-use Rattle.camp_questions.specs.Places.{File as MarkedFile, Place}
+use Rattle.camp_questions.specs.Places.{File as MarkedFile, MarkedHunk}
 use Rattle.camp_questions.specs.Showing.{IsShown, PatchContents}
 use Rattle.camp_questions.specs.Sides.{IsSide}
 use Rattle.camp_questions.specs.declared.annotations.Annotated.{Annotated}
 use Rattle.camp_questions.specs.declared.annotations.Annotated.TheVariants.{File, NoFile}
 use Rattle.camp_questions.specs.declared.foresight.Foreseen.{Foreseen}
-use Rattle.camp_questions.specs.declared.foresight.Standing.{Standing}
+use Rattle.camp_questions.specs.declared.foresight.BranchState.{BranchState}
 use Rattle.camp_questions.specs.declared.marking.Marked.{Marked}
 use Rattle.camp_questions.specs.declared.marking.Marked.TheVariants as marked
 use Rattle.camp_questions.specs.declared.marking.Version.{Version}
@@ -93,7 +93,7 @@ side_text side =
 
 -- the context lines of a hunk, each after `=`; `conflict`, the number of its sides and of its lines; these, each
 -- after `=`; and the sides
-abbrev pub conflict_hunk_text : Place → List ℕ
+abbrev pub conflict_hunk_text : MarkedHunk → List ℕ
 conflict_hunk_text place =
     flat_map (signed_line equals_sign) place.before
     ++ line_text (codes "conflict" ∷ decimal (length place.sides) ∷ decimal (length place.lines) ∷ [])
@@ -132,13 +132,13 @@ abbrev pub patch_answer : PatchContents → List ℕ
 patch_answer patch = counted (codes "show") (flat_map catch_line patch.catches ++ flat_map canonical_change patch.changes)
 
 -- the conflicts that would become unresolved, and those that would be resolved
-abbrev pub changes_answer : Standing → List ℕ
+abbrev pub changes_answer : BranchState → List ℕ
 changes_answer standing =
     pairs_answer (codes "opened") standing.opened ++ pairs_answer (codes "resolved") standing.resolved
 
 -- the state of a branch: its conflicts, as the question for them is answered; what is changed about unresolved ones;
 -- and its tree, as the question for it is answered
-abbrev pub standing_text : Option Standing → List ℕ
+abbrev pub standing_text : Option BranchState → List ℕ
 standing_text None = []
 standing_text (Some standing) = conflicts_text standing.conflicts ++ changes_answer standing ++ tree_text standing.tree
 

@@ -8,7 +8,7 @@ ghost use Rattle.camp_talk.specs.QuestionAnswers.{conflict_hunk_text, marked_lin
 use crate::answer_parts::{append_parts, counted_text, unanswered};
 use crate::file_answers::no_file;
 use camp_base::Name;
-use camp_questions::{Marked, MarkedFile, Place, Said, Unanswered, Version};
+use camp_questions::{Marked, MarkedFile, MarkedHunk, Said, Unanswered, Version};
 use camp_repo::Conflicts;
 use camp_script::{append_lines, append_pairs, changes_text};
 use itoa::Buffer;
@@ -84,7 +84,7 @@ fn marked_lines(alloc: Global, file: &MarkedFile) -> Result<Vec<u8>, AllocError>
     Ok(text)
 }
 
-fn append_conflict_hunk(text: &mut Vec<u8>, place: &Place) -> Result<(), AllocError>
+fn append_conflict_hunk(text: &mut Vec<u8>, place: &MarkedHunk) -> Result<(), AllocError>
     ensures { OnOk result (text.new.items ≡ text.old.items ++ conflict_hunk_text place.now) }
 {
     append_lines(text, b'=', place.before())?;

@@ -109,7 +109,10 @@ fn fault_lines(
     let hint = hint_text(find_hint(kind, line)).as_bytes();
     let recovery = recovery_text(recovery).as_bytes();
     let rules = joined(alloc, &[hint, rule(kind).as_bytes(), recovery]);
-    let front = both(with_line(alloc, answer, line), word_report(alloc, kind, line));
+    let front = both(
+        with_line(alloc, answer, line),
+        word_report(alloc, kind, line),
+    );
     both(front, rules)
 }
 

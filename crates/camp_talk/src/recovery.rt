@@ -4,7 +4,7 @@ ghost use Rattle.camp_script.specs.Lines.{words_of};
 ghost use Rattle.camp_talk.specs.Diagnostics.{begins_command, is_edit, is_form, is_group, is_record, is_short, may_be, recovery_after, recovery_after_branch, recovery_in_words, recovery_of_line};
 
 use crate::parsing::is_word;
-use camp_script::{Words, begins_edit, begins_with, behind_word};
+use camp_script::{Words, after_word, begins_edit, begins_with};
 use camp_why::{begins_signed, call_part};
 
 /// The lines that may still come of a command that was cut off from them.
@@ -54,7 +54,7 @@ impl Recovery {
 pub(crate) fn recovery_of_line(line: &[u8]) -> Recovery
     ensures { result ≡ recovery_of_line line.now }
 {
-    recovery_after_branch(behind_word(behind_word(call_part(line))))
+    recovery_after_branch(after_word(after_word(call_part(line))))
 }
 
 /// True if the first word of a line is `client`, or that of a command which may be unknown only because of
@@ -82,7 +82,7 @@ pub(crate) fn is_record(line: &[u8]) -> bool
 fn recovery_after_branch(line: &[u8]) -> Recovery
     ensures { result ≡ recovery_after_branch line.now }
 {
-    recovery_in_words(behind_word(line), recovery_in_words(line, Recovery::Signed))
+    recovery_in_words(after_word(line), recovery_in_words(line, Recovery::Signed))
 }
 
 // Returns the lines that follow, by the first word of a line that says it; else these.

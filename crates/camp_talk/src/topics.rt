@@ -63,9 +63,7 @@ pub(crate) fn reason_at(number: &[u8]) -> Option<Reason>
 fn first_numbered<'a>(number: &[u8], reasons: &'a [Reason]) -> Option<&'a Reason>
     ensures { option_copied result ≡ first_numbered number.now reasons.now }
 {
-    reasons
-        .iter()
-        .find(|reason| is_word(reason_number(**reason).as_bytes(), number))
+    reasons.iter().find(|reason| is_word(reason_number(**reason).as_bytes(), number))
 }
 
 // Returns the command that a word begins.

@@ -7,7 +7,7 @@ ghost use Rattle.camp_talk.specs.QuestionAnswers.{changes_answer, foreseen_answe
 
 use crate::answer_parts::{both, counted_text};
 use crate::conflict_answers::render_pairs;
-use camp_questions::{Foreseen, Standing, what_if};
+use camp_questions::{BranchState, Foreseen, what_if};
 use camp_repo::{Call, Reply, State};
 use camp_script::answer_text;
 use std::alloc::{AllocError, Global};
@@ -37,7 +37,7 @@ fn render_seen(alloc: Global, seen: Foreseen) -> Result<Vec<u8>, AllocError>
     counted_text(alloc, "whatif", text)
 }
 
-fn standing_text(alloc: Global, standing: Option<Standing>) -> Result<Vec<u8>, AllocError>
+fn standing_text(alloc: Global, standing: Option<BranchState>) -> Result<Vec<u8>, AllocError>
     ensures { IfOk result (λ text. text.items ≡ standing_text standing) }
 {
     let Some(standing) = standing else {
@@ -50,7 +50,7 @@ fn standing_text(alloc: Global, standing: Option<Standing>) -> Result<Vec<u8>, A
 }
 
 /// Renders the conflicts that would become unresolved, and those that would be resolved.
-fn changes_text(alloc: Global, standing: &Standing) -> Result<Vec<u8>, AllocError>
+fn changes_text(alloc: Global, standing: &BranchState) -> Result<Vec<u8>, AllocError>
     ensures { IfOk result (λ text. text.items ≡ changes_answer standing.now) }
 {
     let opened = render_pairs(alloc, "opened", &standing.opened);

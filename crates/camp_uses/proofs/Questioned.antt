@@ -13,8 +13,8 @@ use Rattle.camp_call.specs.declared.replies.Refusal.{Refusal}
 use Rattle.camp_call.specs.declared.replies.Refusal.TheVariants.{Depends, Diverged, NoBranch, NoPatch, NothingToDo, SameBranch, TooLarge}
 use Rattle.camp_repo.specs.Lawful.{IsLawfulState}
 use Rattle.camp_repo.specs.Outcomes.{pulled}
-use Rattle.camp_questions.specs.Along.{AlongOr, AreAlong, ComesAlong, OfTwo, TellsAlong}
-use Rattle.camp_questions.specs.Answers.{AnswerOf, OfBranch, OfPatches, Tells}
+use Rattle.camp_questions.specs.Along.{AlongOr, AreAlong, ComesAlong, OfTwo, ReportsAlong}
+use Rattle.camp_questions.specs.Answers.{AnswerOf, OfBranch, OfPatches, ReportsAnswer}
 use Rattle.camp_questions.specs.Dependencies.{AreHeldBy, HeldBy}
 use Rattle.camp_questions.specs.Laws.{AlongIsEnough, HeldCanGo}
 use Rattle.camp_questions.specs.declared.faults.Unanswered.{Unanswered}
@@ -66,9 +66,9 @@ module _ {A : Type 0} (state : Contents) (branch : List ℕ) (names : List (List
   ]
 
 -- a fact about an error is one about the result that has it
-pub told_as : {A : Type 0} (ComesTo : AnswerOf A → Type 0) (result : Result A Unanswered) (why : Unanswered) → IsErrAnd result (λ other. other ≡ why) → Tells ComesTo (Err why) → Tells ComesTo result
+pub told_as : {A : Type 0} (ComesTo : AnswerOf A → Type 0) (result : Result A Unanswered) (why : Unanswered) → IsErrAnd result (λ other. other ≡ why) → ReportsAnswer ComesTo (Err why) → ReportsAnswer ComesTo result
 told_as ComesTo (Ok answer) why is told = absurd is
-told_as ComesTo (Err other) why is told = subst (λ e. Tells ComesTo (Err e)) (sym is) told
+told_as ComesTo (Err other) why is told = subst (λ e. ReportsAnswer ComesTo (Err e)) (sym is) told
 
 -- names that are answered
 abbrev Related : (List Catch → List (List ℕ) → List (List ℕ) → Type 0) → List (List ℕ) → List Catch → AnswerOf (List (List ℕ)) → Type 0
@@ -113,7 +113,7 @@ module _ (state : Contents) (from to : List ℕ) (names : List (List ℕ)) where
       ]))
 
   -- the question is refused as the pull is
-  pub along_refused : (why : Unanswered) → TellsAlong state from to names (Err why) → MayRefuse state from to names why
+  pub along_refused : (why : Unanswered) → ReportsAlong state from to names (Err why) → MayRefuse state from to names why
   along_refused Memory told = tt
   along_refused (Refused refusal) told = told_along (Err refusal) told
 
@@ -263,7 +263,7 @@ module _ (state : Contents) (branch : List ℕ) (names : List (List ℕ)) (some 
     would_go = let w = goes in (w.0, goes_with_held w.0 (sym w.1))
 
   -- the question is refused, or memory ran out
-  pub held_refused : (why : Unanswered) → Tells (AreHeldBy state branch names) (Err why) → Tells (GoesWithHeld state branch names) (Err why)
+  pub held_refused : (why : Unanswered) → ReportsAnswer (AreHeldBy state branch names) (Err why) → ReportsAnswer (GoesWithHeld state branch names) (Err why)
   held_refused Memory told = would_go told.0 told.1
   held_refused (Refused refusal) told = elim (refused_by state branch names (Related HeldBy names) (Err refusal) refusal refl (never_related HeldBy names refusal) told) [
     | inl w ↦ rw w.0 (ap Err w.1)

@@ -1,5 +1,5 @@
 -- What the answers of a head mean for callers.
-use Rattle.camp_uses.proofs.Words.{◌≡◌, ℕ, false, true, List, Option, None, Some, MatchOption, Result, Ok, Err, refl, subst, sym, Files, LeadsTo, Catch, Call, Reply, Done, Tree, Caller, Says, IsAnswered, IsLegal, own, Fault, Memory, Busy, Full, Answer, Has, HistoriesTellTrees, repository, Contents, catches_of, Decision, step}
+use Rattle.camp_uses.proofs.Words.{◌≡◌, ℕ, false, true, List, Option, None, Some, MatchOption, Result, Ok, Err, refl, subst, sym, Files, LeadsTo, Catch, Call, Reply, Done, Tree, Caller, Says, IsAnswered, IsLegal, own, Fault, Memory, Busy, Full, Answer, Has, HistoriesGiveTrees, repository, Contents, catches_of, Decision, step}
 use Rattle.camp_call.specs.declared.calls.Call.TheVariants as call
 use Rattle.camp_object.specs.Asking.{Accepts}
 use Rattle.camp_object.proofs.Asks.{accepted_before, accepted_writes}
@@ -28,7 +28,7 @@ is_there state branch tree (Some catches) is decision = (catches, is)
 is_there state branch tree None is decision = let none = rw is at decision in cc
 
 -- a tree that is answered is that of the branch after the history
-pub holds : HistoriesTellTrees → (limits : Bounds) (history : List (ℕ × Call)) (branch : List ℕ) (tree : Files) → IsAnswered (repository_within limits) history (call.Tree branch) (Tree tree) → HistoryHasTree limits history branch tree
+pub holds : HistoriesGiveTrees → (limits : Bounds) (history : List (ℕ × Call)) (branch : List ℕ) (tree : Files) → IsAnswered (repository_within limits) history (call.Tree branch) (Tree tree) → HistoryHasTree limits history branch tree
 holds law limits history branch tree answered =
     let there = is_there answered.state branch tree (catches_of answered.state.branches branch) refl answered.gives in
     let effects = law limits history answered.state branch there.0 answered.replays there.1 in
@@ -60,7 +60,7 @@ same_answer : (one other : Reply) (decision : Decision) → decision ≡ Answer 
 same_answer one other decision first second = cc
 
 -- if the answer has no tree, there is no branch
-module _ (law : HistoriesTellTrees) (limits : Bounds) (history : List (ℕ × Call)) (branch : List ℕ) (answer : Reply) (none : tree_in answer ≡ None) (answered : IsAnswered (repository_within limits) history (call.Tree branch) answer) where
+module _ (law : HistoriesGiveTrees) (limits : Bounds) (history : List (ℕ × Call)) (branch : List ℕ) (answer : Reply) (none : tree_in answer ≡ None) (answered : IsAnswered (repository_within limits) history (call.Tree branch) answer) where
   lacks_by : (found : Option (List Catch)) → catches_of answered.state.branches branch ≡ found → HistoryLacksBranch limits history branch
   lacks_by None is = record { state = answered.state; replays = answered.replays; lacks = is }
   lacks_by (Some catches) is =
@@ -77,7 +77,7 @@ by_limits : (first : Contents) → IsFirst repository first → (history : List 
 by_limits first is history given answer answered = subst (λ (state : Contents). IsAnswered (begun repository state) history given answer) (sym is.itself) answered
 
 -- the tree in the answer is that of the branch, and if there is none in it there is no branch
-pub found : HistoriesTellTrees → (first : Contents) → IsFirst repository first → (caller : Caller) (seen now : List (ℕ × Call)) (branch : List ℕ) (answer : Reply) → IsLegal (begun repository first) now → Says (begun repository first) caller seen (call.Tree branch) (Ok answer) now → MatchOption (tree_in answer) (HistoryLacksBranch first.limits now branch) (HistoryHasTree first.limits now branch)
+pub found : HistoriesGiveTrees → (first : Contents) → IsFirst repository first → (caller : Caller) (seen now : List (ℕ × Call)) (branch : List ℕ) (answer : Reply) → IsLegal (begun repository first) now → Says (begun repository first) caller seen (call.Tree branch) (Ok answer) now → MatchOption (tree_in answer) (HistoryLacksBranch first.limits now branch) (HistoryHasTree first.limits now branch)
 found law first is caller seen now branch (Done at) legal says = absurd (never_done first is caller seen now branch at legal says)
 found law first is caller seen now branch (Tree tree) legal says = holds law first.limits now branch tree (by_limits first is now (call.Tree branch) (Tree tree) says.1)
 found law first is caller seen now branch other legal says = lacks_branch law first.limits now branch other refl (by_limits first is now (call.Tree branch) other says.1)

@@ -22,7 +22,7 @@ pub use Rattle.camp_object.specs.declared.objects.Decided.TheVariants.{Answer, N
 pub use Rattle.camp_prim.specs.Effect.{Applies, Leads}
 pub use Rattle.camp_prim.specs.declared.primitives.Primitive.{Primitive}
 pub use Rattle.camp_questions.specs.Showing.{IsShown, PatchContents, patch_in}
-pub use Rattle.camp_repo.specs.Laws.{AcceptedCallsHaveEffect, Has, HistoriesTellTrees}
+pub use Rattle.camp_repo.specs.Laws.{AcceptedCallsHaveEffect, Has, HistoriesGiveTrees}
 pub use Rattle.camp_repo.specs.Objects.{repository}
 pub use Rattle.camp_repo.specs.States.{Contents, catches_of, initial}
 pub use Rattle.camp_repo.specs.Steps.{Decision, becomes, is_empty, is_full_with, pull_wanted, refused, refused_if, step, wanted, with_patches}

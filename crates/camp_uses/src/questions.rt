@@ -1,6 +1,6 @@
 //! Callers of `camp_questions`.
 ghost use Rattle.std.specs.Prelude.{◌≡◌, ◌-◌, ◌^◌, ◌<◌, length, IfErr, IfOk};
-ghost use Rattle.camp_questions.specs.Answers.{Tells};
+ghost use Rattle.camp_questions.specs.Answers.{ReportsAnswer};
 ghost use Rattle.camp_uses.specs.Questioned.{GoesWithHeld, IsReadBack, IsRefusal, MayRefuse, PullsAlong};
 
 use crate::calls::record;
@@ -54,7 +54,7 @@ fn refusal_of(reply: &Reply) -> Refusal
 pub fn obliterate_held(state: &State, branch: &Name, names: &[Name]) -> Result<State, Unanswered>
     requires counts { state.now.count < 2 ^ 64 - 1 }
     requires some { 0 < length names.now }
-    ensures told { Tells (GoesWithHeld state.now branch.now names.now) result }
+    ensures told { ReportsAnswer (GoesWithHeld state.now branch.now names.now) result }
 {
     held_can_go();
     accepted_calls_have_effect();

@@ -3,7 +3,7 @@ use Rattle.std.specs.Prelude.{◌≡◌, ◌⊎◌, ℕ, Bool, true, false, not,
 use Rattle.std.specs.List.{ends_with, list_any, starts_with}
 use Rattle.camp_base.specs.Bytes.{is_name}
 use Rattle.camp_base.specs.Signs.{is_capital_letter, is_printing, quote, tab}
-use Rattle.camp_script.specs.Behind.{behind_word}
+use Rattle.camp_script.specs.AfterWords.{after_word}
 use Rattle.camp_script.specs.Lines.{words_of}
 use Rattle.camp_script.specs.Pieces.{begins_edit, begins_with}
 use Rattle.camp_script.specs.declared.faults.FaultKind.{FaultKind}
@@ -105,19 +105,19 @@ last_words before last (word ∷ words) = last_words last word words
 
 -- the line of a call: the rest after `whatif`, or else the whole line
 abbrev pub call_part : List ℕ → List ℕ
-call_part line = if begins_with (codes "whatif") (words_of line) then behind_word line else line
+call_part line = if begins_with (codes "whatif") (words_of line) then after_word line else line
 
 -- the word that says what a call does: the fourth of a record, and the first of any other
 abbrev pub call_word : List ℕ → List ℕ
 call_word line =
     if begins_with (codes "record") (words_of line)
-    then first_word (words_of (behind_word (behind_word (behind_word line))))
+    then first_word (words_of (after_word (after_word (after_word line))))
     else first_word (words_of line)
 
 -- the word that should be a command: the one after `help`, or that of the call
 abbrev pub command_word : List ℕ → List ℕ
 command_word line =
-    if begins_with (codes "help") (words_of line) then first_word (words_of (behind_word line)) else call_word (call_part line)
+    if begins_with (codes "help") (words_of line) then first_word (words_of (after_word line)) else call_word (call_part line)
 
 -- the word that should be a path: the last but one in the line of an edit, else the last
 abbrev pub path_word : List ℕ → List ℕ

@@ -6,7 +6,7 @@ ghost use Rattle.camp_script.specs.Lines.{words_of};
 ghost use Rattle.camp_why.specs.Hints.{begins_blank, begins_end, begins_inner, begins_quoted, begins_signed, begins_zero, call_part, call_word, command_word, count_hint, edit_hint, ends_in_return, first_word, form_hint, has_zero_in_front, hint, is_capital_end, is_overlong, is_end, is_other_than_zero, is_quote, is_return, is_returned_end, is_strange, is_zero, last_words, line_hint, misnamed, number_hint, number_word, path_hint, path_word, unsigned_hint, word_hint};
 
 use camp_base::Name;
-use camp_script::{FaultKind, Words, begins_edit, begins_with, behind_word};
+use camp_script::{FaultKind, Words, after_word, begins_edit, begins_with};
 
 /// Bytes of what is read for a line that is too long.
 const CUT_BYTES: usize = 4098;
@@ -225,7 +225,7 @@ fn command_word(line: &[u8]) -> &[u8]
     ensures { result.now ≡ command_word line.now }
 {
     if begins_with(line, b"help") {
-        return first_word(behind_word(line));
+        return first_word(after_word(line));
     }
     call_word(call_part(line))
 }
@@ -235,7 +235,7 @@ fn call_word(line: &[u8]) -> &[u8]
     ensures { result.now ≡ call_word line.now }
 {
     if begins_with(line, b"record") {
-        return first_word(behind_word(behind_word(behind_word(line))));
+        return first_word(after_word(after_word(after_word(line))));
     }
     first_word(line)
 }
@@ -245,7 +245,7 @@ pub fn call_part(line: &[u8]) -> &[u8]
     ensures exact { result.now ≡ call_part line.now }
 {
     if begins_with(line, b"whatif") {
-        return behind_word(line);
+        return after_word(line);
     }
     line
 }

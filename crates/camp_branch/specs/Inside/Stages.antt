@@ -1,9 +1,9 @@
 -- Why a step of a pull, or of an obliteration, is blocked.
 use Rattle.std.specs.Prelude.{◌≡◌, ◌⊎◌, ℕ, List}
 use Rattle.camp_prim.specs.declared.labels.Key.{Key}
-use Rattle.camp_catch.specs.Arranging.{ArrangeSticks, Align, AlignSticks}
+use Rattle.camp_catch.specs.Arranging.{ArrangeIsBlocked, Align, AlignIsBlocked}
 use Rattle.camp_catch.specs.Laws.{keys_of}
-use Rattle.camp_catch.specs.MergingLists.{MergeSticks}
+use Rattle.camp_catch.specs.MergingLists.{MergeIsBlocked}
 use Rattle.camp_catch.specs.declared.catches.Catch.{Catch}
 use Rattle.camp_branch.specs.Pulling.{DiffersAt}
 use Rattle.camp_branch.specs.declared.faults.Blocked.{Blocked}
@@ -12,21 +12,21 @@ use Rattle.camp_branch.specs.declared.faults.Blocked.TheVariants.{Depends, Diver
 -- a patch of these names depends on another
 abbrev pub DependsIn : List (List ℕ) → List Catch → Blocked → Type 0
 DependsIn names list blocked =
-    (stuck : Key) × (on : Key) × ArrangeSticks names list stuck on × (blocked ≡ Depends stuck.name on.name)
+    (stuck : Key) × (on : Key) × ArrangeIsBlocked names list stuck on × (blocked ≡ Depends stuck.name on.name)
 
 -- a common patch cannot be moved to the front
 abbrev pub DivergesIn : List (List ℕ) → List Catch → Blocked → Type 0
 DivergesIn names list blocked =
-    (stuck : Key) × (on : Key) × ArrangeSticks names list stuck on × (blocked ≡ Diverged stuck.name)
+    (stuck : Key) × (on : Key) × ArrangeIsBlocked names list stuck on × (blocked ≡ Diverged stuck.name)
 
 -- the common patches are not the same in the order of those of the other branch
 abbrev pub DivergesFrom : List Catch → List Catch → Blocked → Type 0
 DivergesFrom from_common to_common blocked =
-    ((stuck : Key) × AlignSticks (keys_of to_common) from_common stuck × (blocked ≡ Diverged stuck.name))
+    ((stuck : Key) × AlignIsBlocked (keys_of to_common) from_common stuck × (blocked ≡ Diverged stuck.name))
     ⊎ ((aligned : List Catch) × (name : List ℕ)
     × Align (keys_of to_common) from_common aligned × DiffersAt aligned to_common name × (blocked ≡ Diverged name))
 
 -- two patches do not merge
 abbrev pub DoesNotMerge : List Catch → List Catch → Blocked → Type 0
 DoesNotMerge wanted others blocked =
-    (left : Key) × (right : Key) × MergeSticks wanted others left right × (blocked ≡ NoMerge left.name right.name)
+    (left : Key) × (right : Key) × MergeIsBlocked wanted others left right × (blocked ≡ NoMerge left.name right.name)

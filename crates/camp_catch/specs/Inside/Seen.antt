@@ -12,13 +12,13 @@ use Rattle.camp_catch.specs.Conflictors.{Becomes, joined_by, with_effect, withou
 use Rattle.camp_catch.specs.declared.catches.Conflictor.{Conflictor}
 
 -- (s', X and l, i), where s' is a^ r in normal order
-pub record TakesBack (a : Named) (k : Conflictor) (l : ContextedPatch) (made : Conflictor) : Type 0 where
+pub record InvertsPatch (a : Named) (k : Conflictor) (l : ContextedPatch) (made : Conflictor) : Type 0 where
   pub s' : List Named
   pub effect : Norm (inverse_of a ∷ k.effect) s'
   pub is : made ≡ with_effect s' (joined_by l k)
 
 -- (s, X' and l, i'), where t added to X and i gives X' and i'
-pub record JoinedBehind (t s : List Named) (k : Conflictor) (l : ContextedPatch) (made : Conflictor) : Type 0 where
+pub record JoinedAfter (t s : List Named) (k : Conflictor) (l : ContextedPatch) (made : Conflictor) : Type 0 where
   pub moved : Conflictor
   pub becomes : Becomes (λ effect. effect ≡ s) (AddsAll t) (AddsAll t) k moved
   pub is : made ≡ joined_by l moved

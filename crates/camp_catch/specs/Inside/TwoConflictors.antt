@@ -18,13 +18,13 @@ pub record EffectsMerge (r s s2 r2 : List Named) : Type 0 where
   pub own_effect : Norm left r2
 
 -- `found` says whether a patch conflicts with the identity of a conflictor, as seen before its effect
-pub record TellsPlainConflict (a : Named) (k : Conflictor) (found : Bool) : Type 0 where
+pub record DecidesPlainConflict (a : Named) (k : Conflictor) (found : Bool) : Type 0 where
   pub seen : ContextedPatch
   pub sees : AddsAll k.effect k.identity seen
   pub tells : IsTrue found ↔ Conflict (bare a) seen
 
 -- `found` says whether two identities conflict, as seen before the effects
-pub record TellsConflict (j k : Conflictor) (found : Bool) : Type 0 where
+pub record DecidesConflict (j k : Conflictor) (found : Bool) : Type 0 where
   pub x : ContextedPatch
   pub y : ContextedPatch
   pub own_sees : AddsAll j.effect j.identity x

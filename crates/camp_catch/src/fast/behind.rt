@@ -6,7 +6,7 @@ ghost use Rattle.camp_seq.specs.Running.{inverse_all};
 ghost use Rattle.camp_catch.specs.Inside.InPlace.{MergesInto};
 ghost use Rattle.camp_catch.specs.Inside.Seen.{JoinedBySeen};
 ghost use Rattle.camp_catch.specs.Making.{GivesOrRunsOut};
-ghost use Rattle.camp_catch.specs.MergingLists.{MergesWithAll, SticksWithin};
+ghost use Rattle.camp_catch.specs.MergingLists.{MergesWithAll, IsBlockedWithin};
 ghost use Rattle.camp_catch.specs.declared.catches.Catch.{Catch as AnyCatch};
 
 use crate::fast::gaining::Gaining;
@@ -28,7 +28,7 @@ pub(crate) fn merge_behind_all(
 ) -> Result<Shared<Catch>, Unmade<NoMerge>>
     ensures exact { GivesOrRunsOut (λ answer. MatchResult answer
         (λ after. (q' : List AnyCatch) × MergesWithAll q.now k.now after q')
-        (λ stuck. SticksWithin q.now k.now stuck.left stuck.right)) result }
+        (λ stuck. IsBlockedWithin q.now k.now stuck.left stuck.right)) result }
 {
     let mut after = Gaining::new(alloc, k.share()?);
     for j in q {

@@ -9,10 +9,10 @@ use Rattle.camp_questions.specs.declared.faults.Unanswered.{Unanswered}
 use Rattle.camp_questions.specs.declared.faults.Unanswered.TheVariants.{Refused, Memory}
 
 -- these catches of a branch come after those of the common patches
-abbrev pub StandBehind : List Catch → List Catch → List Catch → Type 0
-StandBehind from to behind = (common : List Catch) × Arrange (common_names from to) from common behind
+abbrev pub AreAfterCommon : List Catch → List Catch → List Catch → Type 0
+AreAfterCommon from to behind = (common : List Catch) × Arrange (common_names from to) from common behind
 
 -- the catches after the common patches cannot be found: the branches have diverged, or memory ran out
-abbrev pub DoNotStand : List Catch → List Catch → Unanswered → Type 0
-DoNotStand from to why =
+abbrev pub AreNotFound : List Catch → List Catch → Unanswered → Type 0
+AreNotFound from to why =
     ((name : List ℕ) × HaveDiverged from to name × (why ≡ Refused (Diverged name))) ⊎ (why ≡ Memory)

@@ -14,13 +14,13 @@ abbrev pub how_many : ℕ
 how_many = 4_093
 
 -- the hash number of bytes, continued from that of the bytes before them
-abbrev pub number_behind : ℕ → List ℕ → ℕ
-number_behind number [] = number
-number_behind number (byte ∷ bytes) = number_behind ((number * 31 + byte) % how_many) bytes
+abbrev pub hash_after : ℕ → List ℕ → ℕ
+hash_after number [] = number
+hash_after number (byte ∷ bytes) = hash_after ((number * 31 + byte) % how_many) bytes
 
 -- the hash number of a path: several paths may have the same one
 abbrev pub file_number : List ℕ → ℕ
-file_number path = number_behind 0 path
+file_number path = hash_after 0 path
 
 -- the hash number of the file that a plain catch changes
 abbrev pub number_of : Catch → ℕ

@@ -22,8 +22,8 @@ abbrev pub known_in : Walk → Known
 known_in walk = record { names = walk.names; taken = kept_in walk.taken }
 
 -- the lines that a hunk removes are among those with names
-abbrev pub StandsWithin : Edit → Known → Type 0
-StandsWithin hunk known = hunk.line - 1 + length hunk.old ≤ length known.names
+abbrev pub LiesWithin : Edit → Known → Type 0
+LiesWithin hunk known = hunk.line - 1 + length hunk.old ≤ length known.names
 
 -- the lines of a path: none if it has no file
 abbrev pub lines_or_none : Option Lines → Lines

@@ -2,7 +2,7 @@
 ghost use Rattle.std.specs.Prelude.{◌≡◌, ◌++◌, IfOk, OnOk};
 ghost use Rattle.camp_questions.specs.Inside.ByPatch.{AreApart, AreOfPatch};
 ghost use Rattle.camp_questions.specs.Inside.ChangedFiles.{GoMarked, HasFiles};
-ghost use Rattle.camp_questions.specs.Inside.StandingAside.{StandsAside};
+ghost use Rattle.camp_questions.specs.Inside.Independence.{IsIndependent};
 
 use crate::fast::changed_files::{NUMBERS, PatchFiles, is_any_marked, mark_numbers};
 use crate::fast::patch_catches::{PatchCatches, append};
@@ -67,7 +67,7 @@ pub(crate) fn comes_before(
     requires apart { AreApart patch.now.name going.now.catches.items }
     requires files { HasFiles patch.now files.now }
     ensures marked { OnOk result (GoMarked going.new) }
-    ensures aside { IfOk result (λ yes. StandsAside patch.now.name going.old.catches.items patch.now.catches.items yes going.new.catches.items) }
+    ensures aside { IfOk result (λ yes. IsIndependent patch.now.name going.old.catches.items patch.now.catches.items yes going.new.catches.items) }
 {
     if !is_any_marked(&going.files, &files.numbers) {
         return Ok(true);

@@ -3,12 +3,12 @@
 ghost use Rattle.std.specs.Prelude.{◌≡◌, ℕ, List, [], ◌∷◌, IfOk, IsTrue};
 ghost use Rattle.std.specs.Result.{MatchResult};
 ghost use Rattle.camp_branch.specs.Fields.{names_in};
-ghost use Rattle.camp_catch.specs.Arranging.{ArrangesBehind, ComesBefore, DoNotCommute, SticksBehind};
+ghost use Rattle.camp_catch.specs.Arranging.{ArrangesAfter, ComesBefore, DoNotCommute, IsBlockedAfter};
 ghost use Rattle.camp_catch.specs.Commuting.{CommuteCatch};
 ghost use Rattle.camp_catch.specs.Making.{GivesOrRunsOut};
 ghost use Rattle.camp_questions.specs.Inside.ByPatch.{AreApart, AreOfPatch, ArePatches, catches_in_order};
 ghost use Rattle.camp_questions.specs.Inside.Growing.{GrowsToGo};
-ghost use Rattle.camp_questions.specs.Inside.StandingAside.{AllStay, StandsAside, StickBehind};
+ghost use Rattle.camp_questions.specs.Inside.Independence.{AllStay, IsIndependent, AreBlockedAfter};
 
 use crate::fast::patch_catches::{PatchCatches, append, shared};
 use camp_branch::{NameSet, set_of};
@@ -67,7 +67,7 @@ pub(crate) fn stand_aside(
 ) -> Result<bool, AllocError>
     requires own { AreOfPatch patch.now.name patch.now.catches.items }
     requires apart { AreApart patch.now.name going.now.items }
-    ensures { IfOk result (λ yes. StandsAside patch.now.name going.old.items patch.now.catches.items yes going.new.items) }
+    ensures { IfOk result (λ yes. IsIndependent patch.now.name going.old.items patch.now.catches.items yes going.new.items) }
 {
     if all_stay(going, &patch.catches) {
         return Ok(true);
@@ -94,8 +94,8 @@ fn arranged_behind(
 ) -> Result<Arranged, Unmade<Stuck>>
     requires { AreApart patch.now.name going.now }
     ensures { GivesOrRunsOut (λ answer. MatchResult answer
-        (λ arranged. ArrangesBehind (patch.now.name ∷ []) going.now patch.now.catches.items arranged.first.items arranged.rest.items)
-        (λ stuck. SticksBehind (patch.now.name ∷ []) going.now patch.now.catches.items stuck.patch stuck.on)) result }
+        (λ arranged. ArrangesAfter (patch.now.name ∷ []) going.now patch.now.catches.items arranged.first.items arranged.rest.items)
+        (λ stuck. IsBlockedAfter (patch.now.name ∷ []) going.now patch.now.catches.items stuck.patch stuck.on)) result }
 {
     let mut list = shared(alloc, going)?;
     append(&mut list, &patch.catches)?;
@@ -129,7 +129,7 @@ fn stays(going: &[Shared<Catch>], catch: &Catch) -> bool
 /// True only if the first catch of a patch is blocked by the last of those that are to be taken out. False
 /// decides nothing.
 fn is_stopped(going: &[Shared<Catch>], catches: &[Shared<Catch>]) -> bool
-    ensures { IsTrue result → (name : List ℕ) → AreOfPatch name catches.now → StickBehind name going.now catches.now }
+    ensures { IsTrue result → (name : List ℕ) → AreOfPatch name catches.now → AreBlockedAfter name going.now catches.now }
 {
     if going.is_empty() || catches.is_empty() {
         return false;

@@ -15,28 +15,28 @@ use Rattle.camp_script.specs.declared.cuts.Wanted.TheVariants as want
 use Rattle.camp_script.specs.declared.faults.LineFault.{LineFault}
 
 -- after a numbered line, outside groups and bodies, by its meaning
-abbrev pub obey : ℕ → Progress → Command → Result Progress LineFault
-obey line progress Nothing = Ok progress
-obey line progress (Ask new) = after_call line progress new
-obey line progress (BeginEdit branch name path place) =
+abbrev pub after_command : ℕ → Progress → Command → Result Progress LineFault
+after_command line progress Nothing = Ok progress
+after_command line progress (Ask new) = after_call line progress new
+after_command line progress (BeginEdit branch name path place) =
     after_head line progress (with_edit (record_at line branch name false) path place line)
-obey line progress (BeginGroup branch name) = after_head line progress (record_at line branch name true)
-obey line progress BeginSection = after_client line progress
+after_command line progress (BeginGroup branch name) = after_head line progress (record_at line branch name true)
+after_command line progress BeginSection = after_client line progress
 
 -- the same if the line may have a fault
-abbrev pub obeyed : ℕ → Progress → Result Command LineFault → Result Progress LineFault
-obeyed line progress asked = asked >>= obey line progress
+abbrev pub after_parsed_command : ℕ → Progress → Result Command LineFault → Result Progress LineFault
+after_parsed_command line progress asked = asked >>= after_command line progress
 
 -- after a numbered line in a group, outside bodies, by its meaning
-abbrev pub heed : ℕ → Progress → OpenRecord → GroupLine → Result Progress LineFault
-heed line progress begun NoChange = Ok (with_record progress begun)
-heed line progress begun (WholeChange change) = Ok (with_record progress (with_one_more begun change))
-heed line progress begun (EditChange path place) = Ok (with_record progress (with_edit begun path place line))
-heed line progress begun EndGroup = after_record line progress begun
+abbrev pub after_group_line : ℕ → Progress → OpenRecord → GroupLine → Result Progress LineFault
+after_group_line line progress begun NoChange = Ok (with_record progress begun)
+after_group_line line progress begun (WholeChange change) = Ok (with_record progress (with_one_more begun change))
+after_group_line line progress begun (EditChange path place) = Ok (with_record progress (with_edit begun path place line))
+after_group_line line progress begun EndGroup = after_record line progress begun
 
 -- the same if the line may have a fault
-abbrev pub heeded : ℕ → Progress → OpenRecord → Result GroupLine LineFault → Result Progress LineFault
-heeded line progress begun said = said >>= heed line progress begun
+abbrev pub after_parsed_group_line : ℕ → Progress → OpenRecord → Result GroupLine LineFault → Result Progress LineFault
+after_parsed_group_line line progress begun said = said >>= after_group_line line progress begun
 
 -- after the line `end`
 abbrev pub after_end : ℕ → Progress → OpenRecord → OpenEdit → Result Progress LineFault
@@ -53,12 +53,12 @@ after_body line progress begun body bytes =
 -- after a line of a record whose changes follow: a line of the body of an edit, or of the group
 abbrev pub after_record_line : ℕ → Progress → OpenRecord → Option OpenEdit → List ℕ → Result Progress LineFault
 after_record_line line progress begun None bytes =
-    heeded line progress begun (group_line_of line (length begun.changes) (words_of bytes))
+    after_parsed_group_line line progress begun (group_line_of line (length begun.changes) (words_of bytes))
 after_record_line line progress begun (Some body) bytes = after_body line progress begun body bytes
 
 -- after a numbered line
 abbrev pub after_line : ℕ → Option OpenRecord → Progress → List ℕ → Result Progress LineFault
-after_line line None progress bytes = obeyed line progress (command_of line (words_of bytes))
+after_line line None progress bytes = after_parsed_command line progress (command_of line (words_of bytes))
 after_line line (Some begun) progress bytes = after_record_line line progress begun begun.open_edit bytes
 
 -- the result of reading, from a numbered line on
@@ -68,14 +68,14 @@ read_from line progress (bytes ∷ lines) =
     after_line line progress.open_record progress bytes >>= λ next. read_from (line + 1) next lines
 
 -- a line is not skipped: it is a line of a body, or has a meaning
-abbrev pub SaysSomethingIn : Option OpenEdit → List ℕ → Type 0
-SaysSomethingIn None bytes = is_skipped (words_of bytes) ≡ false
-SaysSomethingIn (Some body) bytes = Unit {0}
+abbrev pub HasMeaningIn : Option OpenEdit → List ℕ → Type 0
+HasMeaningIn None bytes = is_skipped (words_of bytes) ≡ false
+HasMeaningIn (Some body) bytes = Unit {0}
 
 -- the same, whether a record is open or not
-abbrev pub SaysSomething : Option OpenRecord → List ℕ → Type 0
-SaysSomething None bytes = is_skipped (words_of bytes) ≡ false
-SaysSomething (Some begun) bytes = SaysSomethingIn begun.open_edit bytes
+abbrev pub HasMeaning : Option OpenRecord → List ℕ → Type 0
+HasMeaning None bytes = is_skipped (words_of bytes) ≡ false
+HasMeaning (Some begun) bytes = HasMeaningIn begun.open_edit bytes
 
 -- what belongs to a command after its first line, by the record that this has opened
 abbrev pub wanted_in : Option OpenRecord → Wanted

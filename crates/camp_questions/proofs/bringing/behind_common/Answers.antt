@@ -1,4 +1,4 @@
-use Rattle.camp_questions.proofs.Words.{◌≡◌, ◌∙◌, inl, refl, subst, Arrange, ArrangeSticks, names_in}
+use Rattle.camp_questions.proofs.Words.{◌≡◌, ◌∙◌, inl, refl, subst, Arrange, ArrangeIsBlocked, names_in}
 use Rattle.camp_questions.proofs.AlongEnough.{have_diverged, stands_behind}
 use Rattle.camp_questions.proofs.bringing.behind_common.Goals as goal
 
@@ -14,4 +14,4 @@ returns-in-Err-Blocked c =
     let is : c.deref.result.now ≡ c.args.from.now = c.deref.ensures.value ∙ c.in_ok-catches.ensures.exact ∙ c.catches.ensures.value in
     let sticks = rw c.in-Err-Blocked.field-0-is at c.in-Err-Blocked.ensures.exact in
     let patch = c.in-Err-Blocked.stuck.patch in
-    inl (patch.name, have_diverged c.args.from.now c.args.to.now names patch c.in-Err-Blocked.stuck.on c.in_ok-common.ensures (subst (λ l. ArrangeSticks names l patch c.in-Err-Blocked.stuck.on) is sticks), refl)
+    inl (patch.name, have_diverged c.args.from.now c.args.to.now names patch c.in-Err-Blocked.stuck.on c.in_ok-common.ensures (subst (λ l. ArrangeIsBlocked names l patch c.in-Err-Blocked.stuck.on) is sticks), refl)

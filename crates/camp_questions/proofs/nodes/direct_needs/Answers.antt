@@ -1,4 +1,4 @@
-use Rattle.camp_questions.proofs.Words.{List, ◌≡◌, ◌-◌, ◌<◌, ◌≤◌, ◌∙◌, AllByRecursion, ap, arith, drop, filter, get_or, inl, length, map, not, refl, subst, sym, true, false, ℕ, get_or_default, AreSettled, name_at_index, needs_place, indexes_below, Needed}
+use Rattle.camp_questions.proofs.Words.{List, ◌≡◌, ◌-◌, ◌<◌, ◌≤◌, ◌∙◌, AllByRecursion, ap, arith, drop, filter, get_or, inl, length, map, not, refl, subst, sym, true, false, ℕ, get_or_default, AreSettled, name_at_index, needs_index, indexes_below, Needed}
 use Rattle.camp_questions.proofs.PlacedNeeds.{all_past, ends_settled, first_is_least, goes_past, left_over, places_inside, starts_at, stays_past}
 use Rattle.camp_questions.proofs.nodes.direct_needs.Goals as goal
 
@@ -6,7 +6,7 @@ pub loop-settled-init : goal.loop-settled-init
 loop-settled-init c =
     record {
       within = c.end_of_needed-left.ensures.within;
-      places = starts_at c.args.names.now c.args.all.now c.requires.named c.requires.distinct c.args.at c.args.patch.now c.args.patch.now c.requires.within c.requires.is c.in_ok-places.places.items c.end_of_needed-left.result c.end_of_needed-left.ensures.within (λ k past less. ap (λ m. needs_place m c.args.at k) (sym c.deref.ensures.value) ∙ c.end_of_needed-left.ensures.none k past less) (c.in_ok-places.ensures ∙ ap (λ m. filter (needs_place m c.args.at) (indexes_below c.end_of_needed-left.result)) c.deref-2.ensures.value);
+      places = starts_at c.args.names.now c.args.all.now c.requires.named c.requires.distinct c.args.at c.args.patch.now c.args.patch.now c.requires.within c.requires.is c.in_ok-places.places.items c.end_of_needed-left.result c.end_of_needed-left.ensures.within (λ k past less. ap (λ m. needs_index m c.args.at k) (sym c.deref.ensures.value) ∙ c.end_of_needed-left.ensures.none k past less) (c.in_ok-places.ensures ∙ ap (λ m. filter (needs_index m c.args.at) (indexes_below c.end_of_needed-left.result)) c.deref-2.ensures.value);
       settled = inl refl;
     }
 
@@ -20,8 +20,8 @@ settled_before-settled-requires c =
     let p : Needed = c.args.patch.now in
     let i = c.loop-settled.left - 1 in
     let before = c.loop-settled.invariant.within in
-    let needed : needs_place p.needs.items c.args.at i ≡ true = ap (λ m. needs_place m c.args.at i) (sym c.deref-in-loop-settled.ensures.value) ∙ sym c.needs.ensures ∙ c.if-needs.true in
-    let are = c.leave_out.ensures ∙ ap (λ m. filter (λ k. not (needs_place m i k)) c.loop-settled.places.items) (c.deref-then-needs.ensures.value ∙ ap (λ (x : Needed). x.needs.items) (sym c.index-all-left.is)) in
+    let needed : needs_index p.needs.items c.args.at i ≡ true = ap (λ m. needs_index m c.args.at i) (sym c.deref-in-loop-settled.ensures.value) ∙ sym c.needs.ensures ∙ c.if-needs.true in
+    let are = c.leave_out.ensures ∙ ap (λ m. filter (λ k. not (needs_index m i k)) c.loop-settled.places.items) (c.deref-then-needs.ensures.value ∙ ap (λ (x : Needed). x.needs.items) (sym c.index-all-left.is)) in
     let gone = goes_past names c.args.all.now c.requires.named c.requires.distinct c.args.at p p c.requires.within c.requires.is c.loop-settled.places.items c.loop-settled.left i c.index-all-left.result c.index-all-left.result (omega arith) (omega (arith, before)) c.index-all-left.is c.loop-settled.invariant.places c.leave_out.new.places.items needed are in
     subst (λ l. AllByRecursion (λ k. get_or l 0 0 ≤ k) l) (sym (c.deref-then-needs-2.ensures.value ∙ gone)) (first_is_least (left_over names p (drop i c.args.all.now)) (length names))
 
@@ -30,8 +30,8 @@ loop-settled-preserved-then-needs c =
     let p : Needed = c.args.patch.now in
     let i = c.loop-settled.left - 1 in
     let before = c.loop-settled.invariant.within in
-    let needed : needs_place p.needs.items c.args.at i ≡ true = ap (λ m. needs_place m c.args.at i) (sym c.deref-in-loop-settled.ensures.value) ∙ sym c.needs.ensures ∙ c.if-needs.true in
-    let are = c.leave_out.ensures ∙ ap (λ m. filter (λ k. not (needs_place m i k)) c.loop-settled.places.items) (c.deref-then-needs.ensures.value ∙ ap (λ (x : Needed). x.needs.items) (sym c.index-all-left.is)) in
+    let needed : needs_index p.needs.items c.args.at i ≡ true = ap (λ m. needs_index m c.args.at i) (sym c.deref-in-loop-settled.ensures.value) ∙ sym c.needs.ensures ∙ c.if-needs.true in
+    let are = c.leave_out.ensures ∙ ap (λ m. filter (λ k. not (needs_index m i k)) c.loop-settled.places.items) (c.deref-then-needs.ensures.value ∙ ap (λ (x : Needed). x.needs.items) (sym c.index-all-left.is)) in
     record {
       within = omega (arith, before);
       places = goes_past c.args.names.now c.args.all.now c.requires.named c.requires.distinct c.args.at p p c.requires.within c.requires.is c.loop-settled.places.items c.loop-settled.left i c.index-all-left.result c.index-all-left.result (omega arith) (omega (arith, before)) c.index-all-left.is c.loop-settled.invariant.places c.leave_out.new.places.items needed are;
@@ -44,7 +44,7 @@ loop-settled-preserved c =
     let p : Needed = c.args.patch.now in
     let i = c.loop-settled.left - 1 in
     let before = c.loop-settled.invariant.within in
-    let needless : needs_place p.needs.items c.args.at i ≡ false = ap (λ m. needs_place m c.args.at i) (sym c.deref-in-loop-settled.ensures.value) ∙ sym c.needs.ensures ∙ c.if-needs.false in
+    let needless : needs_index p.needs.items c.args.at i ≡ false = ap (λ m. needs_index m c.args.at i) (sym c.deref-in-loop-settled.ensures.value) ∙ sym c.needs.ensures ∙ c.if-needs.false in
     let q : Needed = get_or all i p in
     let inside : i < length all = omega (arith, before) in
     let there : q ≡ get_or all i q = get_or_default all i p q inside in

@@ -1,4 +1,4 @@
-use Rattle.camp_questions.proofs.Words.{◌-◌, ◌∙◌, arith, sym, needs_place}
+use Rattle.camp_questions.proofs.Words.{◌-◌, ◌∙◌, arith, sym, needs_index}
 use Rattle.camp_questions.proofs.PlacedNeeds.{none_behind, none_from}
 use Rattle.camp_questions.proofs.nodes.end_of_needed.Goals as goal
 
@@ -14,5 +14,5 @@ loop-end-preserved c =
     let before = c.loop-end.invariant.within in
     record {
       within = omega (arith, before);
-      none = none_from (needs_place c.args.marks.now c.args.at) c.loop-end.end c.args.count (c.loop-end.end - 1) (omega arith) c.loop-end.invariant.none (sym c.needs.ensures ∙ c.if-needs.false);
+      none = none_from (needs_index c.args.marks.now c.args.at) c.loop-end.end c.args.count (c.loop-end.end - 1) (omega arith) c.loop-end.invariant.none (sym c.needs.ensures ∙ c.if-needs.false);
     }

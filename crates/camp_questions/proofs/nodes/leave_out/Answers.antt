@@ -1,4 +1,4 @@
-use Rattle.camp_questions.proofs.Words.{rules, Bool, ℕ, arith, not, sym, filter_same, needs_place}
+use Rattle.camp_questions.proofs.Words.{rules, Bool, ℕ, arith, not, sym, filter_same, needs_index}
 use Rattle.camp_questions.proofs.PlacedNeeds.{ends_before}
 use Rattle.camp_questions.proofs.nodes.leave_out.Goals as goal
 
@@ -8,5 +8,5 @@ returns-then-marks-index c =
 
 pub returns : goal.returns
 returns c =
-    let test : ℕ → Bool = λ place. not (needs_place c.args.marks.now c.args.at place) in
+    let test : ℕ → Bool = λ place. not (needs_index c.args.marks.now c.args.at place) in
     filter_same _ test _ (λ x b f' k. search rules) _ _ c.retain.ensures.filtered

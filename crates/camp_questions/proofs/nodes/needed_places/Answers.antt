@@ -1,4 +1,4 @@
-use Rattle.camp_questions.proofs.Words.{◌≡◌, ◌++◌, [], ◌∷◌, ◌∙◌, Bool, true, false, ap, append-nil, cond, filter, sym, ℕ, needs_place, indexes_below}
+use Rattle.camp_questions.proofs.Words.{◌≡◌, ◌++◌, [], ◌∷◌, ◌∙◌, Bool, true, false, ap, append-nil, cond, filter, sym, ℕ, needs_index, indexes_below}
 use Rattle.camp_questions.proofs.PlacedNeeds.{one_more_place}
 use Rattle.camp_questions.proofs.nodes.needed_places.Goals.{else-needs, then-needs+in_ok-push}
 use Rattle.camp_questions.proofs.nodes.needed_places.Goals as goal
@@ -6,7 +6,7 @@ use Rattle.camp_questions.proofs.nodes.needed_places.Goals as goal
 pub loop-place-preserved : goal.loop-place-preserved
 loop-place-preserved c =
     let place = c.loop-place.place in
-    let test : ℕ → Bool = needs_place c.args.marks.now c.args.at in
+    let test : ℕ → Bool = needs_index c.args.marks.now c.args.at in
     elim c.if-needs.branch [
       | then-needs+in_ok-push w ↦
           let yes : test place ≡ true = sym c.needs.ensures ∙ w.if-needs.true in

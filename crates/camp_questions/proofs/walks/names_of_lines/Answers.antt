@@ -2,15 +2,15 @@ use Rattle.camp_questions.proofs.Words.{◌∙◌, ap, subst, effect_of, name_of
 use Rattle.camp_questions.proofs.LineNames.{IsAlong, ends_along, follows_next, one_along, starts_along}
 use Rattle.camp_questions.proofs.walks.names_of_lines.Goals as goal
 
-pub behind_all-requires : goal.behind_all-requires
-behind_all-requires c =
+pub after_effect-requires : goal.after_effect-requires
+after_effect-requires c =
     let along = subst (λ rest. IsAlong c.args.path.now c.args.catches.now rest (known_in c.loop-catch.walk)) c.in-Some.ensures.steps c.loop-catch.invariant in
     follows_next c.args.path.now c.args.catches.now c.in-Some.catch.now c.next.new.self c.effect.result.now (known_in c.loop-catch.walk) (c.effect.ensures.exact ∙ ap effect_of c.deref-in-loop-catch.ensures) along
 
 pub loop-catch-preserved : goal.loop-catch-preserved
 loop-catch-preserved c =
     let along = subst (λ rest. IsAlong c.args.path.now c.args.catches.now rest (known_in c.loop-catch.walk)) c.in-Some.ensures.steps c.loop-catch.invariant in
-    one_along c.args.path.now c.name.result.now c.args.catches.now c.in-Some.catch.now c.next.new.self c.effect.result.now (known_in c.loop-catch.walk) (known_in c.behind_all.new.self) (c.name.ensures.exact ∙ ap name_of c.deref.ensures) (c.effect.ensures.exact ∙ ap effect_of c.deref-in-loop-catch.ensures) along c.in_ok-behind_all.ensures
+    one_along c.args.path.now c.name.result.now c.args.catches.now c.in-Some.catch.now c.next.new.self c.effect.result.now (known_in c.loop-catch.walk) (known_in c.after_effect.new.self) (c.name.ensures.exact ∙ ap name_of c.deref.ensures) (c.effect.ensures.exact ∙ ap effect_of c.deref-in-loop-catch.ensures) along c.in_ok-after_effect.ensures
 
 pub loop-catch-init : goal.loop-catch-init
 loop-catch-init c =

@@ -1,4 +1,4 @@
-use Rattle.camp_questions.proofs.Words.{List, Bool, ℕ, ◌≡◌, ◌<◌, ◌+◌, ◌-◌, ◌++◌, ◌∙◌, ap, arith, false, get_or, length, length-replicate, replicate, subst, sym, true, Catch, set, get_or_default, length-set, with_items_is, GoMarked, is_marked, marked_in_both, StickBehind, PatchCatches, Needed}
+use Rattle.camp_questions.proofs.Words.{List, Bool, ℕ, ◌≡◌, ◌<◌, ◌+◌, ◌-◌, ◌++◌, ◌∙◌, ap, arith, false, get_or, length, length-replicate, replicate, subst, sym, true, Catch, set, get_or_default, length-set, with_items_is, GoMarked, is_marked, marked_in_both, AreBlockedAfter, PatchCatches, Needed}
 use Rattle.camp_questions.proofs.FileMarks.{has_files}
 use Rattle.camp_questions.proofs.MarkedNames.{both_long, marked_still}
 use Rattle.camp_questions.proofs.ReachedPatches.{goes_apart_from, step_aside, step_first, step_last, step_on, step_stuck}
@@ -85,7 +85,7 @@ loop-all_below-preserved c =
     elim c.if-not-index.branch [
       | then-not-index+in_ok-comes_before+else-branch w ↦
           let q : Needed = w.index-known-place.result in
-          let aside : (w.comes_before.new.going.catches.items ≡ going) × StickBehind p.name going p.catches.items = rw w.if-branch.false at w.in_ok-comes_before.ensures.aside in
+          let aside : (w.comes_before.new.going.catches.items ≡ going) × AreBlockedAfter p.name going p.catches.items = rw w.if-branch.false at w.in_ok-comes_before.ensures.aside in
           let written = with_items_is c.loop-all_below.marks w.mark_all.new.marks (w.mark_all.auto.marks ∙ ap length w.deref_mut.ensures.value ∙ sym c.loop-all_below.marks.ok.0) in
           let becomes : w.mark_all.new.marks ≡ marked_in_both marks q.needs.items = w.mark_all.ensures ∙ (λ i. marked_in_both (w.deref_mut.ensures.value i) ((w.deref-then-not-index.ensures.value ∙ ap (λ (x : Needed). x.needs.items) (sym w.index-known-place.is)) i)) in
           let both_marked : c.if-not-index.marks.items ≡ marked_in_both marks q.needs.items = (λ i. (w.marks-is i).items) ∙ written ∙ becomes in

@@ -1,4 +1,4 @@
-use Rattle.camp_questions.proofs.Words.{[], ◌∷◌, refl, subst, sym, AllStay, AreApart, ArrangesBehind, SticksBehind}
+use Rattle.camp_questions.proofs.Words.{[], ◌∷◌, refl, subst, sym, AllStay, AreApart, ArrangesAfter, IsBlockedAfter}
 use Rattle.camp_questions.proofs.PartsArranged.{all_came}
 use Rattle.camp_questions.proofs.fast.standing_aside.stand_aside.Goals as goal
 
@@ -18,10 +18,10 @@ arranged_behind-requires c =
 pub returns-in-Ok : goal.returns-in-Ok
 returns-in-Ok c =
     let first = c.in-Ok.arranged.first.items in
-    (first, subst (λ l. ArrangesBehind (c.args.patch.now.name ∷ []) l c.args.patch.now.catches.items first c.in-Ok.arranged.rest.items) c.deref-5.ensures.value c.in-Ok.ensures)
+    (first, subst (λ l. ArrangesAfter (c.args.patch.now.name ∷ []) l c.args.patch.now.catches.items first c.in-Ok.arranged.rest.items) c.deref-5.ensures.value c.in-Ok.ensures)
 
 pub returns-in-Err-Blocked : goal.returns-in-Err-Blocked
 returns-in-Err-Blocked c =
     let stuck = c.in-Err-Blocked.field-0-0 in
     let sticks = rw c.in-Err-Blocked.field-0-is at c.in-Err-Blocked.ensures in
-    (refl, (stuck.patch, stuck.on, subst (λ l. SticksBehind (c.args.patch.now.name ∷ []) l c.args.patch.now.catches.items stuck.patch stuck.on) c.deref-5.ensures.value sticks))
+    (refl, (stuck.patch, stuck.on, subst (λ l. IsBlockedAfter (c.args.patch.now.name ∷ []) l c.args.patch.now.catches.items stuck.patch stuck.on) c.deref-5.ensures.value sticks))

@@ -1,4 +1,4 @@
-use Rattle.camp_questions.proofs.Words.{ap, arith, slice_cmp, nat_cmp, map_of, sym, ◌++◌, ◌≡◌, ◌∙◌, names_in, has_listed, catches_in_order, StickBehind}
+use Rattle.camp_questions.proofs.Words.{ap, arith, slice_cmp, nat_cmp, map_of, sym, ◌++◌, ◌≡◌, ◌∙◌, names_in, has_listed, catches_in_order, AreBlockedAfter}
 use Rattle.camp_questions.proofs.WalkedPatches.{goes_apart, none_held, own_of, past_all, past_aside, past_held, past_stuck}
 use Rattle.camp_questions.proofs.fast.standing_aside.walk_over.Goals.{else-not-contains_key, then-not-contains_key+in_ok-stand_aside+else-branch+in_ok-held}
 use Rattle.camp_questions.proofs.fast.standing_aside.walk_over.Goals as goal
@@ -28,7 +28,7 @@ loop-patch-preserved c =
     let listed = c.contains_key.ensures.exact ∙ has_listed set p.name in
     elim c.if-not-contains_key.branch [
       | then-not-contains_key+in_ok-stand_aside+else-branch+in_ok-held w ↦
-          let aside : (w.stand_aside.new.going.items ≡ c.loop-patch.going.items) × StickBehind p.name c.loop-patch.going.items p.catches.items = rw w.if-branch.false at w.in_ok-stand_aside.ensures in
+          let aside : (w.stand_aside.new.going.items ≡ c.loop-patch.going.items) × AreBlockedAfter p.name c.loop-patch.going.items p.catches.items = rw w.if-branch.false at w.in_ok-stand_aside.ensures in
           let grown = past_stuck c.args.patches.now c.requires.are c.loop-patch.patch-index p p (omega arith) c.patch-item.is (names_in c.args.names) set c.loop-patch.going.items c.loop-patch.invariant (map_of (slice_cmp nat_cmp) w.in_ok-held.held) (sym listed ∙ w.if-not-contains_key.true) aside.1 w.in_ok-held.ensures.exact in
           let goes = c.in_ok-append.ensures ∙ (λ i. (ap (λ (v : _). v.items) w.going-is ∙ aside.0) i ++ c.deref.ensures.value i) in
           rw (w.held-is, goes) grown

@@ -2,22 +2,22 @@
 use Rattle.std.specs.Prelude.{◌≡◌, ℕ, Bool, true, false, List, [], ◌∷◌}
 use Rattle.std.specs.List.{AllByRecursion}
 use Rattle.camp_prim.specs.declared.labels.Key.{Key}
-use Rattle.camp_catch.specs.Arranging.{ArrangesBehind, ComesBefore, SticksBehind}
+use Rattle.camp_catch.specs.Arranging.{ArrangesAfter, ComesBefore, IsBlockedAfter}
 use Rattle.camp_catch.specs.declared.catches.Catch.{Catch}
 
 -- the catches of a patch are moved in front of those that are to be taken out, which then become `left`
-abbrev pub ComeBeforeAll : List ℕ → List Catch → List Catch → List Catch → Type 0
-ComeBeforeAll name going catches left = (first : List Catch) × ArrangesBehind (name ∷ []) going catches first left
+abbrev pub MoveBeforeAll : List ℕ → List Catch → List Catch → List Catch → Type 0
+MoveBeforeAll name going catches left = (first : List Catch) × ArrangesAfter (name ∷ []) going catches first left
 
 -- one of the catches of a patch is blocked by those that are to be taken out
-abbrev pub StickBehind : List ℕ → List Catch → List Catch → Type 0
-StickBehind name going catches = (patch : Key) × (on : Key) × SticksBehind (name ∷ []) going catches patch on
+abbrev pub AreBlockedAfter : List ℕ → List Catch → List Catch → Type 0
+AreBlockedAfter name going catches = (patch : Key) × (on : Key) × IsBlockedAfter (name ∷ []) going catches patch on
 
 -- the result of moving a patch in front of those that are to be taken out: true with what these become, or false with
 -- these unchanged
-abbrev pub StandsAside : List ℕ → List Catch → List Catch → Bool → List Catch → Type 0
-StandsAside name going catches true left = ComeBeforeAll name going catches left
-StandsAside name going catches false left = (left ≡ going) × StickBehind name going catches
+abbrev pub IsIndependent : List ℕ → List Catch → List Catch → Bool → List Catch → Type 0
+IsIndependent name going catches true left = MoveBeforeAll name going catches left
+IsIndependent name going catches false left = (left ≡ going) × AreBlockedAfter name going catches
 
 -- each catch can be moved in front of a list, and all stay unchanged
 abbrev pub AllStay : List Catch → List Catch → Type 0

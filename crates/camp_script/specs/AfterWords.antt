@@ -4,9 +4,9 @@ use Rattle.std.specs.List.{position_or_len}
 use Rattle.camp_script.specs.Lines.{is_blank}
 
 -- a line without the blanks at its start
-abbrev pub behind_blanks : List ℕ → List ℕ
-behind_blanks line = drop (position_or_len (λ byte. not (is_blank byte)) line) line
+abbrev pub after_blanks : List ℕ → List ℕ
+after_blanks line = drop (position_or_len (λ byte. not (is_blank byte)) line) line
 
 -- a line without its first word and the blanks around that
-abbrev pub behind_word : List ℕ → List ℕ
-behind_word line = behind_blanks (drop (position_or_len is_blank (behind_blanks line)) (behind_blanks line))
+abbrev pub after_word : List ℕ → List ℕ
+after_word line = after_blanks (drop (position_or_len is_blank (after_blanks line)) (after_blanks line))

@@ -15,12 +15,12 @@ abbrev pub name_at_index : List (List ℕ) → ℕ → List ℕ
 name_at_index names place = get_or names place []
 
 -- the patch at the index `at`, whose dependencies have these marks, depends on the patch at the index `place`
-abbrev pub needs_place : List Bool → ℕ → ℕ → Bool
-needs_place marks at place = not (place == at) && get_or marks place false
+abbrev pub needs_index : List Bool → ℕ → ℕ → Bool
+needs_index marks at place = not (place == at) && get_or marks place false
 
 -- no patch has a mark beyond its own index
-abbrev pub EndInPlace : List Needed → Type 0
-EndInPlace all = (k : ℕ) (d : Needed) → k < length all → length (get_or all k d).needs.items ≤ k + 1
+abbrev pub EndAtOwnIndex : List Needed → Type 0
+EndAtOwnIndex all = (k : ℕ) (d : Needed) → k < length all → length (get_or all k d).needs.items ≤ k + 1
 
 -- no patch before the index `settled` depends on one at these indexes: `settled` is 0, or no patch has a mark beyond
 -- its own index and `settled` is at most the least of these

@@ -4,6 +4,6 @@ use Rattle.camp_questions.specs.declared.faults.Unanswered.{Unanswered}
 use Rattle.camp_questions.specs.declared.faults.Unanswered.TheVariants.{Memory}
 
 -- the answer, or out of memory
-abbrev pub IsTold : {A E : Type 0} → Result A E → Result A Unanswered → Type 0
-IsTold (Ok answer) result = result ≡ Ok answer
-IsTold (Err error) result = result ≡ Err Memory
+abbrev pub IsReported : {A E : Type 0} → Result A E → Result A Unanswered → Type 0
+IsReported (Ok answer) result = result ≡ Ok answer
+IsReported (Err error) result = result ≡ Err Memory
