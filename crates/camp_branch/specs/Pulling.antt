@@ -51,8 +51,8 @@ abbrev pub CommonFirst :
 CommonFirst names branch =
     StepThen (Arrange names branch) (ArrangeIsBlocked names branch) (λ stuck on. Diverged stuck.name)
 
--- the wanted patches are moved in front of the others, or one depends on another that is not wanted list <-> wanted
--- others
+-- the wanted patches are moved in front of the others, or one depends on another that is not wanted
+-- list <-> wanted others
 abbrev pub WantedNext :
     List (List ℕ) → List Catch → (List Catch → List Catch → Outcome → Type 0) → Outcome → Type 0
 WantedNext names list =

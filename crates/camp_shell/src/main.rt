@@ -1,10 +1,11 @@
 //! `camp_shell`: loads the files that `--load` names, then reads commands from standard input, and answers each on
 //! standard output as soon as its last line is read. With `--frames` it reads and answers request by request; with
 //! `--export` it writes a branch for git instead. With `--store` the repository is persisted in a file, and answers to
-//! lines may wait while further commands are ready. With `--check-store` it reports what a file contains. The exit
-//! status is 0 at the end of the input. It is 1 if a command of a file has a fault or is refused, if the input is not
-//! requests in frames, or if the branch can't be written for git; 2 if the command line is rejected; 3 if memory ran
-//! out (except for a command that is answered `memory`), or if input, output or a store failed; 4 if a line number
+//! lines may wait while further commands are ready. With `--check-store` it reports what a file contains.
+//!
+//! The exit status is 0 at the end of the input. It is 1 if a command of a file has a fault or is refused, if the input
+//! is not requests in frames, or if the branch can't be written for git; 2 if the command line is rejected; 3 if memory
+//! ran out (except for a command that is answered `memory`), or if input, output or a store failed; 4 if a line number
 //! exceeds 64 bits, which no conversation reaches; standard error says why. It is 141, without a report, if nobody
 //! reads the output any more.
 #![tactic(auto)]
