@@ -36,8 +36,8 @@ ArrangesAfter names rest (k ∷ list) first others =
     × ComesBefore rest k k' rest' × ArrangesAfter names rest' list t others × (first ≡ k' ∷ t)))
     ⊎ ((¬ (IsOf names k)) × ArrangesAfter names (rest ++ k ∷ []) list first others)
 
--- as `rest` and then a list, which has no catch of the names in `rest`, are arranged, one is blocked: `patch` is the
--- absolute label of the first catch of the names that is blocked, and `on` that of the catch that blocks it
+-- a list that comes after `rest`, which has no catch of the names, cannot be arranged: `patch` is the absolute label of
+-- the first catch of the names that is blocked, and `on` that of the catch that blocks it
 abbrev pub IsBlockedAfter : List (List ℕ) → List Catch → List Catch → Key → Key → Type 0
 IsBlockedAfter names rest [] patch on = ⊥
 IsBlockedAfter names rest (k ∷ list) patch on =
