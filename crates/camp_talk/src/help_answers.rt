@@ -47,7 +47,7 @@ fn all_summaries(alloc: Global) -> Result<Vec<u8>, AllocError>
     Ok(text)
 }
 
-/// The commands, in the order of the help text.
+/// Returns the commands, in the order of the help text.
 pub(crate) fn commands() -> [Topic; 24]
     ensures { result ≡ commands }
 {

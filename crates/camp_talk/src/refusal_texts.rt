@@ -26,7 +26,7 @@ pub(crate) fn refusal_text(alloc: Global, reason: Reason) -> Result<Vec<u8>, All
     joined(alloc, &[saying(reason).as_bytes(), cure(reason).as_bytes()])
 }
 
-/// The reasons of refusals, in the order of their numbers.
+/// Returns the reasons of refusals, in the order of their numbers.
 pub(crate) fn reasons() -> [Reason; 14]
     ensures { result ≡ reasons }
 {

@@ -29,7 +29,7 @@ pub fn put_and_remove(
     one.without(path)
 }
 
-/// A tree with one file of one line; `camp_base`.
+/// Makes a tree with one file of one line; `camp_base`.
 pub fn one_line(alloc: Global, path: &Path, line: &Line) -> Result<Tree, Apply> {
     let mut tree = Tree::empty(alloc);
     tree.add_file(path)?;

@@ -94,14 +94,14 @@ impl Table {
         self.is_quiet = false;
     }
 
-    // A later definition of a name replaces an earlier one.
+    // Stores the definition of a name, instead of an earlier one.
     fn bind(&mut self, name: &[u8], text: &[u8]) -> Result<(), NotationError> {
         self.expect_value(text)?;
         let binding = binding_of(self.alloc, name, text)?;
         Ok(self.bound.insert(0, binding)?)
     }
 
-    /// A definition is stored only if its text can be parsed.
+    /// Returns a fault unless a text can be parsed as a tree or a list.
     fn expect_value(&self, text: &[u8]) -> Result<(), NotationError> {
         if text.starts_with(b"{") {
             let _tree = read_tree(self.alloc, text)?;
@@ -118,7 +118,7 @@ impl Table {
         Ok(self.put(inverse)?)
     }
 
-    // A later primitive replaces an earlier one with the same label.
+    // Stores a primitive, instead of an earlier one with the same label.
     fn put(&mut self, p: Named) -> Result<(), AllocFailed<Named>> {
         for known in self.known.iter_mut() {
             if known.label() == p.label() {

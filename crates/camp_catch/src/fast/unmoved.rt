@@ -16,7 +16,7 @@ use camp_prim::{Named, stay};
 use camp_seq::{is_own_order, stays_past};
 use std::alloc::{AllocError, Global};
 
-/// A quick check: true only if two catches, one after the other, commute unchanged. False decides nothing.
+/// True only if two catches, one after the other, commute unchanged, by a quick check. False decides nothing.
 pub(crate) fn commute_as_they_are(j: &Catch, k: &Catch) -> Result<bool, AllocError>
     ensures { IfOk result (λ yes. IsTrue yes → CommuteCatch j.now k.now k.now j.now) }
 {

@@ -17,7 +17,7 @@ use camp_seq::{Seq, are_own_orders_of_chain, stays_past};
 use std::alloc::AllocError;
 use std::slice;
 
-/// A quick check of whether the patch `a`, without a context, conflicts with the result of adding the list `r` to `x`.
+/// Checks quickly whether the patch `a`, without a context, conflicts with the result of adding the list `r` to `x`.
 /// `None` if only adding can decide that.
 pub fn conflict_behind(a: &Named, r: &Seq, x: &Contexted) -> Result<Option<bool>, AllocError>
     ensures sound { IfOk result (λ told. IfSome told (λ found.

@@ -16,8 +16,8 @@ use camp_seq::{Seq, can_commute, clean_merge, has_room_to_merge, is_own_order, s
 use std::alloc::AllocError;
 use std::slice;
 
-/// A quick check: true only if two contexted patches conflict, since they can be merged as they are and their first
-/// primitives do not merge. False decides nothing.
+/// True only if two contexted patches conflict, since they can be merged as they are and their first primitives do not
+/// merge. False decides nothing.
 pub(crate) fn clash(x: &Contexted, y: &Contexted) -> Result<bool, AllocError>
     ensures { IfOk result (λ yes. IsTrue yes → Conflict x.now y.now) }
 {
@@ -50,8 +50,8 @@ pub(crate) fn conflict_in_any_order(
     }
 }
 
-/// A quick check: true only if two contexted patches can be merged as they are, without ordering, to decide whether
-/// they conflict: they have no common label, and each is its own normal order or both have headroom.
+/// True only if two contexted patches can be merged as they are, without ordering, to decide whether they conflict:
+/// they have no common label, and each is its own normal order or both have headroom. False decides nothing.
 fn merge_as_they_stand(x: &Contexted, y: &Contexted) -> bool
     ensures labels { IsTrue result → LacksLabels (whole x.now) (whole y.now) }
     ensures orders { IsTrue result → MergesAsOrdered (whole x.now) (whole y.now) }

@@ -11,8 +11,8 @@ use camp_prim::{Named, stay};
 use camp_seq::{Seq, stays_past};
 
 impl Contexted {
-    /// A quick check: true only if `a` passes the contexted patch, and adding `a` leaves it unchanged. False decides
-    /// nothing. Does not allocate.
+    /// True only if `a` passes the contexted patch, and adding `a` leaves it unchanged. False decides nothing. Does not
+    /// allocate.
     pub fn stays_behind(&self, a: &Named) -> bool
         ensures sound { IsTrue result → AddsToContext a.now self.now self.now }
         ensures passes { IsTrue result → PassesBy a.now self.now self.now }
@@ -21,7 +21,8 @@ impl Contexted {
     }
 }
 
-/// The same check for a context and the patch after it; `told` is true only if the context is its own normal order.
+/// Makes the same check for a context and the patch after it; `told` is true only if the context is its own normal
+/// order.
 pub(crate) fn stays(a: &Named, context: &Seq, patch: &Named, told: bool) -> bool
     requires { IsTrue told → Norm context.now context.now }
     ensures sound { IsTrue result → AddsToContext a.now (behind context.now patch.now) (behind context.now patch.now) }

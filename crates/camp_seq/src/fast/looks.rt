@@ -11,8 +11,9 @@ ghost use Rattle.camp_seq.specs.Passing.{Passes};
 use crate::chains::can_commute;
 use camp_prim::{Named, has_less_label, stay};
 
-/// A quick check of normal order: true only if the label of each element is not less than any label before it, or the
-/// element does not commute with the one before it. False decides nothing. Visits each element once; does not allocate.
+/// True only if the label of each element is not less than any label before it, or the element does not commute with
+/// the one before it; the list is then its own normal order. False decides nothing. Visits each element once; does not
+/// allocate.
 pub fn is_own_order(items: &[Named]) -> bool
     ensures sound { IsTrue result → Norm items.now items.now }
 {
